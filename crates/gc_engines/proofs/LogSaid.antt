@@ -11,7 +11,7 @@ use Rattle.gc_lines.proofs.Cutting.{pieces-append, rest-append}
 use Rattle.gc_lines.proofs.InOrder.{all_of-append}
 use Rattle.gc_lines.proofs.Known.{Appends-append, Appends-is, Consumes-append}
 use Rattle.gc_engines.specs.LogChecking.{IsLogVerdict, AreSaid, KeepsLine, SaysAll, SaysPart}
-use Rattle.gc_engines.specs.declared.check_log.Underway.{Underway}
+use Rattle.gc_engines.specs.declared.check_log.PartialLine.{PartialLine}
 
 -- where the texts `ts` are said of the lines `ls`, and `us` of `ms`, the texts `ts ++ us` are said of the lines `ls ++ ms`
 said_both : (ls ms ts us : List (List ℕ)) → AreSaid ls ts → AreSaid ms us → AreSaid (ls ++ ms) (ts ++ us)
@@ -66,7 +66,7 @@ pieces_one rest b false feeds = let bad : false ≡ true = feeds in cc
 
 -- where a line feed came, and what is said of the line that it ends went out, `SaysAll` is true of this one byte, and nothing is
 -- kept of the next line
-pub byte_said : (rest : List ℕ) (b : ℕ) (a c : Option (List ℕ)) (n m : ℕ) (kept : Underway) (text : List ℕ) → is_line_feed b ≡ true → KeepsLine kept []
+pub byte_said : (rest : List ℕ) (b : ℕ) (a c : Option (List ℕ)) (n m : ℕ) (kept : PartialLine) (text : List ℕ) → is_line_feed b ≡ true → KeepsLine kept []
     → IsLogVerdict rest text → Appends a c text → m ≡ n + 1
     → KeepsLine kept (rest_behind rest (b ∷ [])) × SaysAll rest (b ∷ []) a c n m
 byte_said rest b a c n m kept text feeds keeps said took more =
@@ -103,7 +103,7 @@ piece_more bs i within =
 
 -- one turn of the loop over the bytes `bs` of a piece, at byte i: `kept` is what is kept of the line under way before it, and
 -- `next` after it
-module _ (kept next : Underway) (rest bs : List ℕ) (i : ℕ) (within : i < length bs) (a b c : Option (List ℕ)) (n m k : ℕ) where
+module _ (kept next : PartialLine) (rest bs : List ℕ) (i : ℕ) (within : i < length bs) (a b c : Option (List ℕ)) (n m k : ℕ) where
   -- where `SaysAll` is true of the first i bytes of a piece, and of the next byte, it is true of the first i + 1
   pub loop_on : KeepsLine kept (rest_behind rest (take i bs)) × SaysAll rest (take i bs) a b n m
       → ((r : List ℕ) → KeepsLine kept r → KeepsLine next (rest_behind r (get_or bs i 0 ∷ [])) × SaysAll r (get_or bs i 0 ∷ []) b c m k)
@@ -126,7 +126,7 @@ module _ (kept next : Underway) (rest bs : List ℕ) (i : ℕ) (within : i < len
 
 -- how far a check has come, by the bytes that were given so far: `kept` is what is kept of the line under way, and what is said
 -- of the `count` whole lines went out
-pub record SaidSoFar (source_old source_new sink_old sink_new : Option (List ℕ)) (kept : Underway) (reads count : ℕ) : Type 0 where
+pub record SaidSoFar (source_old source_new sink_old sink_new : Option (List ℕ)) (kept : PartialLine) (reads count : ℕ) : Type 0 where
   pub given : List ℕ
   pub gave : Consumes source_old source_new given
   pub few : length given ≤ 256 * reads
@@ -135,7 +135,7 @@ pub record SaidSoFar (source_old source_new sink_old sink_new : Option (List ℕ
 
 -- one more read of a check: the source gave `piece` (`a'` and `a''` are what it had before and then), and the sink had taken
 -- `b'`
-module _ (a a' a'' b b' b'' : Option (List ℕ)) (kept next : Underway) (reads n m : ℕ) (piece : List ℕ) (so : SaidSoFar a a' b b' kept reads n) (gave : Consumes a' a'' piece) where
+module _ (a a' a'' b b' b'' : Option (List ℕ)) (kept next : PartialLine) (reads n m : ℕ) (piece : List ℕ) (so : SaidSoFar a a' b b' kept reads n) (gave : Consumes a' a'' piece) where
   -- `SaidSoFar` stays true when one more piece was read and what is said of its lines went out
   pub so_far_more : length piece ≤ 256 → ((r : List ℕ) → KeepsLine kept r → KeepsLine next (rest_behind r piece) × SaysAll r piece b' b'' n m) → SaidSoFar a a'' b b'' next (reads + 1) m
   so_far_more short piece_said =

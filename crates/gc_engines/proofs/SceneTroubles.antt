@@ -3,7 +3,7 @@ use Rattle.std.proofs.Common.{◌≡◌, ℕ, List, sym, subst, codes}
 use Rattle.gc_texts.specs.Cuts.{behind}
 use Rattle.gc_texts.specs.Procedures.{IsNumber}
 use Rattle.gc_texts.specs.Words.{second_word, after_two_words}
-use Rattle.gc_engines.specs.SceneTroubles.{Has, IsReplyTrouble, IsSceneTrouble, word_text}
+use Rattle.gc_engines.specs.SceneTroubles.{BeginsWith, IsReplyTrouble, IsSceneTrouble, word_text}
 use Rattle.gc_engines.specs.declared.scene_trouble.SceneTrouble.{SceneTrouble}
 use Rattle.gc_engines.specs.declared.scene_trouble.SceneTrouble.TheVariants as trouble
 use Rattle.gc_engines.specs.declared.scene_trouble.SceneWord.{SceneWord}
@@ -27,13 +27,13 @@ no_word first s n t f a b d x r h l u word.Delay e = l e
 no_word first s n t f a b d x r h l u word.Busy e = u e
 
 -- what is at fault in the parameters of a reply is at fault in its line
-pub reply_fault : (line number params : List ℕ) (rpc : ℕ) (t : SceneTrouble) → Has word.Answer line → number ≡ second_word line → params ≡ behind 44 (after_two_words line)
+pub reply_fault : (line number params : List ℕ) (rpc : ℕ) (t : SceneTrouble) → BeginsWith word.Answer line → number ≡ second_word line → params ≡ behind 44 (after_two_words line)
     → IsNumber number rpc 65535 → IsReplyTrouble rpc params t → IsSceneTrouble line t
 reply_fault line number params rpc (trouble.InTable n) has at behind_is is h =
     (has, (rpc, subst (λ (x : List ℕ). IsNumber x rpc 65535) at is, subst (λ (x : List ℕ). IsReplyTrouble rpc x (trouble.InTable n)) behind_is h))
 reply_fault line number params rpc trouble.Params has at behind_is is h =
     (has, (rpc, subst (λ (x : List ℕ). IsNumber x rpc 65535) at is, subst (λ (x : List ℕ). IsReplyTrouble rpc x trouble.Params) behind_is h))
-reply_fault line number params rpc (trouble.Form w) has at behind_is is h = subst (λ (v : SceneWord). Has v line) (sym h) has
+reply_fault line number params rpc (trouble.Form w) has at behind_is is h = subst (λ (v : SceneWord). BeginsWith v line) (sym h) has
 reply_fault line number params rpc trouble.NoWord has at behind_is is h = absurd h
 reply_fault line number params rpc trouble.Clock has at behind_is is h = absurd h
 reply_fault line number params rpc trouble.Serial has at behind_is is h = absurd h

@@ -16,7 +16,7 @@ use Rattle.gc_scene_world.specs.SceneReports.{IsSceneReport}
 use Rattle.gc_scene_world.specs.SceneRuns.{scene_played}
 use Rattle.gc_texts.specs.Settlements.{settlement_lines}
 use Rattle.gc_engines.specs.Reports.{totals_text, report_text, scene_report_text}
-use Rattle.gc_engines.specs.SceneDrill.{scene_wire_text, scene_drill_text}
+use Rattle.gc_engines.specs.SceneDrill.{scene_drill_text}
 use Rattle.gc_engines.specs.Drill.{wire_text, drill_text_on}
 
 -- a text made of six counts is the same where the counts are
@@ -52,7 +52,7 @@ drill_shown opening width events totals r is = text_shown r (played width openin
 -- The same of a run on the instrument of a scene.
 
 -- the text of a report is that of the run that it shows
-scene_text_shown : (r : SceneReport) (w : Wire SceneState) (totals : Bool) → IsSceneReport r w → scene_report_text r totals ≡ scene_wire_text w totals
+scene_text_shown : (r : SceneReport) (w : Wire SceneState) (totals : Bool) → IsSceneReport r w → scene_report_text r totals ≡ wire_text w totals
 scene_text_shown r w totals is =
     let settled : length r.settled.items ≡ length w.settled = sym (length-map r.settled.items settlement_seen) ∙ ap length is.settled.seen in
     totals_where totals _ _ _ _
@@ -62,7 +62,7 @@ scene_text_shown r w totals is =
     is.counts.sent is.counts.executed is.counts.made settled is.counts.refused is.counts.idle)
 
 -- what a drill writes of events is the text of the wire with which their run ends
-scene_text_of_run : (opening : SceneState) (width : ℕ) (events : List Event) (totals : Bool) → scene_drill_text opening width events totals ≡ scene_wire_text (scene_played width opening events).wire totals
+scene_text_of_run : (opening : SceneState) (width : ℕ) (events : List Event) (totals : Bool) → scene_drill_text opening width events totals ≡ wire_text (scene_played width opening events).wire totals
 scene_text_of_run opening width events totals = unfold scene_drill_text in refl
 
 -- the text of a report of a run is what a drill writes

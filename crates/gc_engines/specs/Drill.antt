@@ -14,11 +14,11 @@ use Rattle.gc_texts.specs.declared.fault.RunFault.{RunFault}
 use Rattle.gc_texts.specs.declared.fault.RunFault.TheVariants.{Read, Schedule, Memory, InputTooLong, Output}
 
 -- the line of totals of a run, by the wire with which it ends
-abbrev pub totals_line : Wire State → List ℕ
+abbrev pub totals_line : {S : Type 0} → Wire S → List ℕ
 totals_line w = totals_text (length w.sent) (length w.executed) (length w.made) (length w.settled) w.refused w.idle
 
 -- what is written of a run: its settlements, and behind them the totals where they are asked for
-abbrev pub wire_text : Wire State → Bool → List ℕ
+abbrev pub wire_text : {S : Type 0} → Wire S → Bool → List ℕ
 wire_text w totals = settlement_lines w.settled ++ (if totals then totals_line w else [])
 
 -- what is written of events that are played on an instrument with this opening state, with a window of this width
@@ -33,20 +33,24 @@ drill_text width events totals = drill_text_on simulator_opening width events to
 abbrev pub TookPart : Option (List ℕ) → Option (List ℕ) → List ℕ → Type 0
 TookPart old new text = (n : ℕ) × (n < length text) × Appends old new (take n text)
 
--- these bytes were given as a schedule, to be played on an instrument with this opening state and a window of this width: why
--- that ended, and what a sink took, by the result. `totals` says whether the line of totals is asked for; `old` and `new` are
--- what the sink had taken before and has taken after
-abbrev pub DrillsOn : State → ℕ → List ℕ → Bool → Option (List ℕ) → Option (List ℕ) → Result (Unit {0}) RunFault → Type 0
-DrillsOn opening width given totals old new (Ok _) = (length given ≤ TEXT_LIMIT) × ((events : List Event) × IsSchedule given events × Appends old new (drill_text_on opening width events totals))
-DrillsOn opening width given totals old new (Err Read) = (length given ≤ TEXT_LIMIT) × (new ≡ old)
-DrillsOn opening width given totals old new (Err InputTooLong) = (length given ≡ TEXT_LIMIT + 1) × (new ≡ old)
-DrillsOn opening width given totals old new (Err (Schedule n)) = (length given ≤ TEXT_LIMIT) × IsFirstFaulty given n × (new ≡ old)
-DrillsOn opening width given totals old new (Err Memory) = (length given ≤ TEXT_LIMIT) × (new ≡ old)
-DrillsOn opening width given totals old new (Err Output) = (length given ≤ TEXT_LIMIT)
-    × ((events : List Event) × IsSchedule given events × TookPart old new (drill_text_on opening width events totals))
-DrillsOn opening width given totals old new (Err _) = ⊥
+-- these bytes were given as a schedule, to be played: why that ended, and what a sink took, by the result. `text_of` gives what
+-- is written of events that are played; `totals` says whether the line of totals is asked for; `old` and `new` are what the sink
+-- had taken before and has taken after
+abbrev pub DrillsAs : (List Event → Bool → List ℕ) → List ℕ → Bool → Option (List ℕ) → Option (List ℕ) → Result (Unit {0}) RunFault → Type 0
+DrillsAs text_of given totals old new (Ok _) = (length given ≤ TEXT_LIMIT) × ((events : List Event) × IsSchedule given events × Appends old new (text_of events totals))
+DrillsAs text_of given totals old new (Err Read) = (length given ≤ TEXT_LIMIT) × (new ≡ old)
+DrillsAs text_of given totals old new (Err InputTooLong) = (length given ≡ TEXT_LIMIT + 1) × (new ≡ old)
+DrillsAs text_of given totals old new (Err (Schedule n)) = (length given ≤ TEXT_LIMIT) × IsFirstFaulty given n × (new ≡ old)
+DrillsAs text_of given totals old new (Err Memory) = (length given ≤ TEXT_LIMIT) × (new ≡ old)
+DrillsAs text_of given totals old new (Err Output) = (length given ≤ TEXT_LIMIT)
+    × ((events : List Event) × IsSchedule given events × TookPart old new (text_of events totals))
+DrillsAs text_of given totals old new (Err _) = ⊥
 
--- what a drill on the simulator did with the bytes given as a schedule, as `DrillsOn` has it
+-- what a drill on an instrument with this opening state, with a window of this width, did with the bytes given as a schedule
+abbrev pub DrillsOn : State → ℕ → List ℕ → Bool → Option (List ℕ) → Option (List ℕ) → Result (Unit {0}) RunFault → Type 0
+DrillsOn opening width given totals old new result = DrillsAs (drill_text_on opening width) given totals old new result
+
+-- what a drill on the simulator did with the bytes given as a schedule
 abbrev pub Drills : ℕ → List ℕ → Bool → Option (List ℕ) → Option (List ℕ) → Result (Unit {0}) RunFault → Type 0
 Drills width given totals old new result = DrillsOn simulator_opening width given totals old new result
 

@@ -12,7 +12,7 @@ use Rattle.gc_texts.specs.Logs.{mark_text, escaped, IsLogLine}
 use Rattle.gc_texts.specs.declared.log_line.LogMark.{LogMark}
 use Rattle.gc_texts.specs.declared.log_line.LogMark.TheVariants as mark
 use Rattle.gc_engines.specs.Verdicts.{IsLineVerdict, verdict_text}
-use Rattle.gc_engines.specs.declared.check_log.Underway.{Underway}
+use Rattle.gc_engines.specs.declared.check_log.PartialLine.{PartialLine}
 use Rattle.gc_engines.specs.declared.verdict.Verdict.{Verdict}
 use Rattle.gc_engines.specs.declared.verdict.Verdict.TheVariants as verdict
 
@@ -53,7 +53,7 @@ AreSaid (l ∷ ls) [] = ⊥
 AreSaid (l ∷ ls) (t ∷ ts) = IsLogVerdict l t × AreSaid ls ts
 
 -- what is kept of the bytes since the last line feed: all of them, or only that they are more than 2100
-pub record KeepsLine (kept : Underway) (rest : List ℕ) : Type 0 where
+pub record KeepsLine (kept : PartialLine) (rest : List ℕ) : Type 0 where
   pub whole : kept.is_long ≡ false → rest ≡ kept.bytes.items
   pub long : kept.is_long ≡ true → 2100 < length rest
 

@@ -18,7 +18,7 @@ report_text r totals =
     settlement_lines (map settlement_seen r.settled)
     ++ (if totals then totals_text (length r.sent) (length r.executed) (length r.made) (length r.settled) r.refused_sends r.idle_events else [])
 
--- the same of a run on the instrument of a scene
+-- what is written of the report of a run on the instrument of a scene with rules, as `report_text`
 abbrev pub scene_report_text : SceneReport → Bool → List ℕ
 scene_report_text r totals =
     settlement_lines (map settlement_seen r.settled.items)

@@ -47,7 +47,7 @@ IsSpan words span =
     (Begins (codes "after") words × IsNumber (before 32 (behind 32 words)) span.after 4294967295 × IsTimes (behind 32 (behind 32 words)) span.times)
     ⊎ ((Begins (codes "after") words → ⊥) × (span.after ≡ 0) × IsTimes words span.times)
 
--- `fault RPC RC [after COUNT] [for COUNT]`, of which no request was made yet
+-- `fault RPC RC [after COUNT] [for COUNT]`: a fault that no request has met yet
 pub record IsFault (line : List ℕ) (f : Fault) : Type 0 where
   pub word : Begins (codes "fault") line
   pub rpc : IsNumber (before 32 (behind 32 line)) f.rpc 65535
@@ -160,7 +160,7 @@ rules_noise n [] = n
 rules_noise n (says.Noise m ∷ rest) = rules_noise (Some m) rest
 rules_noise n (other ∷ rest) = rules_noise n rest
 
--- whether the instrument repeats: unless a line says that it doesn't
+-- whether the instrument answers a repeated request with the reply that it keeps: unless a line says that it doesn't
 abbrev pub rules_repeat : Bool → List RuleLine → Bool
 rules_repeat b [] = b
 rules_repeat b (says.NoRepeats ∷ rest) = rules_repeat false rest
@@ -172,18 +172,18 @@ rules_ways w [] = w
 rules_ways w (says.Behave one ∷ rest) = rules_ways (with_way one w) rest
 rules_ways w (other ∷ rest) = rules_ways w rest
 
--- the target with the looks in which it is blocked, if the line is of the target with this number
+-- the target as this line changes it: its looks or its drift, if the line is of the target with this number
 abbrev pub ruled : ℕ → RuleLine → Prism → Prism
 ruled number (says.Blocked b) p = if b.target == number then record p { from = b.from; to = b.to } else p
 ruled number (says.Drift d) p = if d.target == number then record p { drift = Some d.by } else p
 ruled number other p = p
 
--- the target with what all lines say of the target with this number; of several of a kind the last counts
+-- the target as all lines of the target with this number change it; of several of a kind the last counts
 abbrev pub rules_prism : ℕ → List RuleLine → Prism → Prism
 rules_prism number [] p = p
 rules_prism number (line ∷ rest) p = rules_prism number rest (ruled number line p)
 
--- the targets, of which the first has this number, with what the lines say of them
+-- the targets, of which the first has this number, as the lines change them
 abbrev pub rules_prisms : List RuleLine → ℕ → List Target → List Prism
 rules_prisms lines number [] = []
 rules_prisms lines number (t ∷ ts) = rules_prism number lines (record { at = t; drift = None; from = 1; to = 0 }) ∷ rules_prisms lines (suc number) ts

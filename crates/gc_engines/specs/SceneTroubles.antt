@@ -48,12 +48,12 @@ form_text word.Delay = codes "delay RPC MS"
 form_text word.Busy = codes "busy queue or busy drop"
 
 -- the line begins with this word
-abbrev pub Has : SceneWord → List ℕ → Type 0
-Has w line = first_word line ≡ word_text w
+abbrev pub BeginsWith : SceneWord → List ℕ → Type 0
+BeginsWith w line = first_word line ≡ word_text w
 
 -- the line asks for a clock, or begins with a word that does
 abbrev pub NeedsClock : List ℕ → Type 0
-NeedsClock line = WantsClock line ⊎ (Has word.Delay line ⊎ Has word.Busy line)
+NeedsClock line = WantsClock line ⊎ (BeginsWith word.Delay line ⊎ BeginsWith word.Busy line)
 
 -- the text is no number up to this one
 unfoldable pub NotNumber : List ℕ → ℕ → Type 0
@@ -72,27 +72,28 @@ IsReplyTrouble rpc params _ = ⊥
 
 -- the line is `answer` and a procedure's number, and this is at fault in the parameters of the reply
 abbrev pub IsAnswerTrouble : List ℕ → SceneTrouble → Type 0
-IsAnswerTrouble line t = Has word.Answer line × ((rpc : ℕ) × IsNumber (second_word line) rpc 65535 × IsReplyTrouble rpc (behind 44 (after_two_words line)) t)
+IsAnswerTrouble line t = BeginsWith word.Answer line × ((rpc : ℕ) × IsNumber (second_word line) rpc 65535 × IsReplyTrouble rpc (behind 44 (after_two_words line)) t)
 
 -- in a line that is known to be faulty, this may be at fault; more than one trouble may fit a line. `Form`: the line begins with that word, and
 -- none of its fields is named
 abbrev pub IsSceneTrouble : List ℕ → SceneTrouble → Type 0
-IsSceneTrouble line trouble.NoWord = (w : SceneWord) → Has w line → ⊥
+IsSceneTrouble line trouble.NoWord = (w : SceneWord) → BeginsWith w line → ⊥
 IsSceneTrouble line trouble.Clock = NeedsClock line
-IsSceneTrouble line (trouble.Form w) = Has w line
-IsSceneTrouble line trouble.Serial = Has word.Serial line × ((n : ℤ) → NamesWhole (behind 32 line) n → FitsLong n → ⊥)
-IsSceneTrouble line trouble.Name = Has word.Name line × (text.IsText (behind 32 line) → ⊥)
-IsSceneTrouble line trouble.Rpc = (Has word.Fault line ⊎ (Has word.Answer line ⊎ Has word.Delay line)) × NotNumber (second_word line) 65535
-IsSceneTrouble line trouble.Rc = (Has word.Fault line × NotNumber (third_word line) 65535) ⊎ (Has word.Answer line × NotNumber (before 44 (after_two_words line)) 65535)
-IsSceneTrouble line trouble.Target = (Has word.Blocked line ⊎ Has word.Drift line) × NotNumber (second_word line) 32
-IsSceneTrouble line trouble.From = Has word.Blocked line × NotNumber (third_word line) 4294967295
-IsSceneTrouble line trouble.To = Has word.Blocked line × NotNumber (after_three_words line) 4294967295
-IsSceneTrouble line trouble.Hz = ((Has word.Target line ⊎ Has word.Noise line) × NoDecimal (second_word line)) ⊎ (Has word.Drift line × NoDecimal (third_word line))
-IsSceneTrouble line trouble.V = ((Has word.Target line ⊎ Has word.Noise line) × NoDecimal (third_word line)) ⊎ (Has word.Drift line × NoDecimal (before 32 (after_three_words line)))
-IsSceneTrouble line trouble.Distance = (Has word.Target line × NoDecimal (after_three_words line))
-    ⊎ ((Has word.Noise line × NoDecimal (before 32 (after_three_words line))) ⊎ (Has word.Drift line × NoDecimal (behind 32 (after_three_words line))))
-IsSceneTrouble line trouble.Seed = Has word.Noise line × NotNumber (behind 32 (after_three_words line)) 4294967295
-IsSceneTrouble line trouble.Ms = Has word.Delay line × NotNumber (after_two_words line) 3600000
+IsSceneTrouble line (trouble.Form w) = BeginsWith w line
+IsSceneTrouble line trouble.Serial = BeginsWith word.Serial line × ((n : ℤ) → NamesWhole (behind 32 line) n → FitsLong n → ⊥)
+IsSceneTrouble line trouble.Name = BeginsWith word.Name line × (text.IsText (behind 32 line) → ⊥)
+IsSceneTrouble line trouble.Rpc = (BeginsWith word.Fault line ⊎ (BeginsWith word.Answer line ⊎ BeginsWith word.Delay line)) × NotNumber (second_word line) 65535
+IsSceneTrouble line trouble.Rc = (BeginsWith word.Fault line × NotNumber (third_word line) 65535) ⊎ (BeginsWith word.Answer line × NotNumber (before 44 (after_two_words line)) 65535)
+IsSceneTrouble line trouble.Target = (BeginsWith word.Blocked line ⊎ BeginsWith word.Drift line) × NotNumber (second_word line) 32
+IsSceneTrouble line trouble.From = BeginsWith word.Blocked line × NotNumber (third_word line) 4294967295
+IsSceneTrouble line trouble.To = BeginsWith word.Blocked line × NotNumber (after_three_words line) 4294967295
+IsSceneTrouble line trouble.Hz = ((BeginsWith word.Target line ⊎ BeginsWith word.Noise line) × NoDecimal (second_word line)) ⊎ (BeginsWith word.Drift line × NoDecimal (third_word line))
+IsSceneTrouble line trouble.V = ((BeginsWith word.Target line ⊎ BeginsWith word.Noise line) × NoDecimal (third_word line))
+    ⊎ (BeginsWith word.Drift line × NoDecimal (before 32 (after_three_words line)))
+IsSceneTrouble line trouble.Distance = (BeginsWith word.Target line × NoDecimal (after_three_words line))
+    ⊎ ((BeginsWith word.Noise line × NoDecimal (before 32 (after_three_words line))) ⊎ (BeginsWith word.Drift line × NoDecimal (behind 32 (after_three_words line))))
+IsSceneTrouble line trouble.Seed = BeginsWith word.Noise line × NotNumber (behind 32 (after_three_words line)) 4294967295
+IsSceneTrouble line trouble.Ms = BeginsWith word.Delay line × NotNumber (after_two_words line) 3600000
 IsSceneTrouble line (trouble.InTable n) = IsAnswerTrouble line (trouble.InTable n)
 IsSceneTrouble line trouble.Params = IsAnswerTrouble line trouble.Params
 

@@ -21,23 +21,23 @@ const LOG_LINE_MOST: usize = 2100;
 
 // What came since the last line feed: the first bytes, and whether more came than a log line has.
 #[derive(Drop)]
-struct Underway {
+struct PartialLine {
     bytes: ArrayVec<u8, LOG_LINE_MOST>,
     is_long: bool,
 }
 
-impl Underway {
+impl PartialLine {
     // A line of which no byte came yet.
-    fn new() -> Underway
+    fn new() -> PartialLine
         ensures { KeepsLine result [] }
     {
-        Underway {
+        PartialLine {
             bytes: ArrayVec::new(),
             is_long: false,
         }
     }
 
-    // Keeps one more byte. Where there is no room for it, the byte is dropped, and the line is noted as too long.
+    // Keeps one more byte. If there is no room for it the byte is discarded, and the line is noted as too long.
     fn keep(&mut self, b: u8)
         ensures { (rest : List ℕ) → KeepsLine self.old rest → KeepsLine self.new (rest ++ b ∷ []) }
     {
@@ -75,7 +75,7 @@ pub fn run_check_log<S: Source, K: Sink>(
         (ports_of S.Source source.new K.Sink sink.new)
         max_reads result }
 {
-    let mut kept = Underway::new();
+    let mut kept = PartialLine::new();
     let mut replies = 0u64;
     let mut buf = [0u8; PIECE];
     for _ in 0..max_reads {
@@ -95,7 +95,7 @@ pub fn run_check_log<S: Source, K: Sink>(
 // Checks the lines that end in a piece, and adds to `replies` how many verdicts went out whole. `Err(n)`: the sink took the
 // first n bytes of one more verdict's line, which aren't all, and failed.
 fn check_piece<K: Sink>(
-    kept: &mut Underway,
+    kept: &mut PartialLine,
     replies: &mut u64,
     sink: &mut K,
     piece: &[u8],
@@ -118,7 +118,7 @@ fn check_piece<K: Sink>(
 // Takes one more byte of a log. A line feed ends a line of the log, and one line is written that says what that line is.
 // `Err(n)`: the sink took the first n bytes of the line to be written, which aren't all, and failed.
 fn check_byte<K: Sink>(
-    kept: &mut Underway,
+    kept: &mut PartialLine,
     replies: &mut u64,
     sink: &mut K,
     b: u8,
@@ -135,7 +135,7 @@ fn check_byte<K: Sink>(
         return Ok(());
     }
     let text = said_of(kept);
-    *kept = Underway::new();
+    *kept = PartialLine::new();
     if let Err(n) = write_whole(sink, &text) {
         return Err(n);
     }
@@ -144,20 +144,20 @@ fn check_byte<K: Sink>(
 }
 
 // What is written of a line of the log, whose bytes are kept, once its line feed has come. It ends in a line feed, too.
-fn said_of(kept: &Underway) -> Outgoing
+fn said_of(kept: &PartialLine) -> Outgoing
     ensures { (rest : List ℕ) → KeepsLine kept.now rest → IsLogVerdict rest result.items }
 {
     if kept.is_long {
-        return unread();
+        return no_log_line();
     }
     match read_log_line(&kept.bytes) {
-        Some(line) => told(&line),
-        None => unread(),
+        Some(line) => log_line_verdict(&line),
+        None => no_log_line(),
     }
 }
 
 // What is written of a line that is no line of a log.
-fn unread() -> Outgoing
+fn no_log_line() -> Outgoing
     ensures { result.items ≡ codes "no log line\n" }
 {
     let mut text = Outgoing::new();
@@ -166,7 +166,7 @@ fn unread() -> Outgoing
 }
 
 // What is written of a line of a log, with a line feed: its moment and mark, and what is said of its bytes.
-fn told(line: &LogLine<'_>) -> Outgoing
+fn log_line_verdict(line: &LogLine<'_>) -> Outgoing
     requires { length line.now.moment.now ≤ 2100 }
     ensures room { length line.now.bytes.items ≤ 514 }
     ensures said { (said : List ℕ) × IsSaid line.now.mark line.now.bytes.items said

@@ -10,12 +10,12 @@ use gc_catalogue::Call;
 use gc_texts::{LineForm, TARGET_MAX, cut_at, number_of, read_procedure_into};
 use gc_world::Event;
 
-// The greatest place of a line under way, and the greatest count of bytes.
-const COUNT_MAX: u64 = 4294967295;
+// The greatest count that a schedule or a scene may name.
+pub(crate) const COUNT_MAX: u64 = 4294967295;
 
-// What stands behind a word at the front of a line, as in gc_texts, where it is private. `None`: the line doesn't begin with
-// the word.
-pub(crate) fn behind<'a>(word: &[u8], line: &'a [u8]) -> Option<&'a [u8]>
+// What is after a word at the front of a line, as in gc_texts, where it is private. `None`: the line doesn't begin with the
+// word.
+pub(crate) fn after_word<'a>(word: &[u8], line: &'a [u8]) -> Option<&'a [u8]>
     ensures { MatchOption result ((rest : List ℕ) → line.now ≡ word.now ++ rest → ⊥) (λ rest. line.now ≡ word.now ++ rest.now) }
 {
     line.strip_prefix(word)
@@ -25,7 +25,7 @@ pub(crate) fn behind<'a>(word: &[u8], line: &'a [u8]) -> Option<&'a [u8]>
 fn numbered(word: &[u8], line: &[u8], max: u64) -> Option<u64>
     ensures { MatchOption result ((n : ℕ) → IsNumbered word.now line.now n max → ⊥) (λ n. IsNumbered word.now line.now n max) }
 {
-    match behind(word, line) {
+    match after_word(word, line) {
         Some(digits) => number_of(digits, max),
         None => None,
     }
@@ -62,7 +62,7 @@ fn read_send(line: &[u8], event: &mut Event) -> bool
     ensures found { IsTrue result → IsEvent line.now event.new }
     ensures none { IsFalse result → (t : ℕ) (call : Call) (d : ℕ) → IsSend line.now t call d → ⊥ }
 {
-    match behind(b"send ", line) {
+    match after_word(b"send ", line) {
         Some(rest) => read_requested(rest, event),
         None => false,
     }

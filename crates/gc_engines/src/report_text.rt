@@ -41,7 +41,7 @@ pub(crate) fn text_of(alloc: Global, report: &Report, totals: bool) -> Result<Ve
     Ok(text)
 }
 
-/// The same of a run on the instrument of a scene.
+/// As `text_of`, of a run on the instrument of a scene with rules.
 pub(crate) fn scene_text_of(
     alloc: Global,
     report: &SceneReport,

@@ -12,7 +12,7 @@ ghost use Rattle.gc_scenes.specs.declared.rules.Noise.{Noise};
 ghost use Rattle.gc_scenes.specs.declared.ways.Way.{Way};
 ghost use Rattle.gc_engines.specs.RuleScenes.{IsRuleLine, IsFault, IsAnswer, IsBlocked, IsOffset, IsDrift, IsNoise, IsSpan, IsTimes, IsStillLine, WantsClock, way_line};
 
-use crate::event::is_plain;
+use crate::event::{COUNT_MAX, is_plain};
 use crate::scene_line::{read_name, read_serial, read_target};
 use gc_catalogue::{RawCall, raw_call};
 use gc_instrument::Target;
@@ -20,16 +20,16 @@ use gc_scenes::{Fault, Noise, Offset, Scripted, Way};
 use gc_texts::{LineForm, before, behind, number_of, read_double};
 use gc_values::Text;
 
-// The greatest number of 32 bits, which stands for "without end".
-const NO_END: u64 = 4294967295;
+// The count that stands for "without end".
+const NO_END: u32 = 4294967295;
 
 // The greatest number of a procedure, and the greatest return code.
-const CODE_MAX: u64 = 65535;
+pub(crate) const CODE_MAX: u64 = 65535;
 
-// The greatest number of a target.
-const TARGETS: u64 = 32;
+// The greatest number of a target: an instrument has at most as many.
+pub(crate) const SCENE_TARGET_MAX: u64 = 32;
 
-/// A target that can't be seen from the one look to the other.
+/// A target that is hidden in the looks `from` to `to`, counted from 1.
 #[derive(Clone, Copy, Debug, PartialEq, Eq)]
 pub struct Blocked {
     pub target: u32,
@@ -37,7 +37,7 @@ pub struct Blocked {
     pub to: u32,
 }
 
-/// A target that moves with each measurement of it.
+/// A target that moves by an offset with each measurement of it.
 #[derive(Clone, Copy, Debug, PartialEq, Eq)]
 pub struct Drift {
     pub target: u32,
@@ -126,7 +126,7 @@ impl LineForm for StillForm {
 }
 
 // Whether the line asks for a clock that runs.
-fn wants_clock(line: &[u8]) -> bool
+pub(crate) fn wants_clock(line: &[u8]) -> bool
     ensures { IsTrue result ↔ WantsClock line.now }
 {
     is_plain(b"behave clock", line) || is_plain(b"behave real", line)
@@ -174,12 +174,12 @@ fn read_times(words: &[u8]) -> Option<u32>
     ensures { MatchOption result ((n : ℕ) → IsTimes words.now n → ⊥) (λ n. IsTimes words.now n) }
 {
     if words.is_empty() {
-        return Some(NO_END as u32);
+        return Some(NO_END);
     }
     if !is_plain(b"for", before(b' ', words)) {
         return None;
     }
-    match number_of(behind(b' ', words), NO_END) {
+    match number_of(behind(b' ', words), COUNT_MAX) {
         Some(n) => Some(n as u32),
         None => None,
     }
@@ -190,7 +190,7 @@ fn read_after(words: &[u8]) -> Option<Span>
     ensures { MatchOption result ((span : Span) → IsNumber (before 32 words.now) span.after 4294967295 → IsTimes (behind 32 words.now) span.times → ⊥)
         (λ span. IsNumber (before 32 words.now) span.after 4294967295 × IsTimes (behind 32 words.now) span.times) }
 {
-    let Some(after) = number_of(before(b' ', words), NO_END) else {
+    let Some(after) = number_of(before(b' ', words), COUNT_MAX) else {
         return None
     };
     match read_times(behind(b' ', words)) {
@@ -284,14 +284,14 @@ fn read_blocked(line: &[u8]) -> Option<Blocked>
         return None;
     }
     let rest = behind(b' ', line);
-    let Some(target) = number_of(before(b' ', rest), TARGETS) else {
+    let Some(target) = number_of(before(b' ', rest), SCENE_TARGET_MAX) else {
         return None
     };
     let rest = behind(b' ', rest);
-    let Some(from) = number_of(before(b' ', rest), NO_END) else {
+    let Some(from) = number_of(before(b' ', rest), COUNT_MAX) else {
         return None
     };
-    match number_of(behind(b' ', rest), NO_END) {
+    match number_of(behind(b' ', rest), COUNT_MAX) {
         Some(to) => Some(Blocked {
             target: target as u32,
             from: from as u32,
@@ -326,7 +326,7 @@ fn read_drift(line: &[u8]) -> Option<Drift>
         return None;
     }
     let rest = behind(b' ', line);
-    let Some(target) = number_of(before(b' ', rest), TARGETS) else {
+    let Some(target) = number_of(before(b' ', rest), SCENE_TARGET_MAX) else {
         return None
     };
     match read_offset(behind(b' ', rest)) {
@@ -357,7 +357,7 @@ fn read_noise(line: &[u8]) -> Option<Noise>
     let Some(distance) = read_double(before(b' ', rest)) else {
         return None
     };
-    match number_of(behind(b' ', rest), NO_END) {
+    match number_of(behind(b' ', rest), COUNT_MAX) {
         Some(seed) => Some(Noise {
             hz,
             v,

@@ -10,6 +10,7 @@ ghost use Rattle.gc_scenes.specs.Ways.{no_ways};
 ghost use Rattle.gc_engines.specs.RuleScenes.{AreFew, AreMany, IsFullOf, IsRuleLine, IsRuleScene, IsStillLine, IsStillScene, SceneFaultOf, ruled, rules_answers, rules_faults, rules_name, rules_noise, rules_opening, rules_prism, rules_prisms, rules_repeat, rules_serial, rules_targets, rules_ways};
 
 use crate::rule_line::{RuleForm, RuleLine, StillForm};
+use crate::scene::simulator_name;
 use arrayvec::ArrayVec;
 use gc_instrument::Target;
 use gc_scenes::{Fault, Noise, Prism, SceneInstrument, Scripted, Ways};
@@ -177,7 +178,7 @@ fn noise_of(lines: &[RuleLine]) -> Option<Noise>
     noise
 }
 
-// Whether the instrument repeats: unless a line says that it doesn't.
+// Whether the instrument answers a repeated request with the reply that it keeps: unless a line says that it doesn't.
 fn repeats(lines: &[RuleLine]) -> bool
     ensures { result ≡ rules_repeat true lines.now }
 {
@@ -205,7 +206,7 @@ fn ways_of(lines: &[RuleLine]) -> Ways
     ways
 }
 
-// The target with the number, with what the line says of it, if it does.
+// The target as this line changes it: its looks or its drift, if the line is of the target with this number.
 fn ruled(number: u32, line: &RuleLine, prism: &Prism) -> Prism
     ensures { result ≡ ruled number line.now prism.now }
 {
@@ -226,7 +227,7 @@ fn ruled(number: u32, line: &RuleLine, prism: &Prism) -> Prism
     }
 }
 
-// The target with this number, with what all lines say of it.
+// The target with this number, as all lines change it.
 fn prism_of(number: u32, lines: &[RuleLine], target: Target) -> Prism
     ensures { result ≡ rules_prism number lines.now (still target) }
 {
@@ -237,7 +238,7 @@ fn prism_of(number: u32, lines: &[RuleLine], target: Target) -> Prism
     prism
 }
 
-// The targets, with what the lines say of them.
+// The targets, as the lines change them.
 fn prisms_of(lines: &[RuleLine], targets: &[Target]) -> ArrayVec<Prism, 32>
     requires { length targets.now ≤ 32 }
     ensures { result.items ≡ rules_prisms lines.now 1 targets.now }
@@ -250,14 +251,4 @@ fn prisms_of(lines: &[RuleLine], targets: &[Target]) -> ArrayVec<Prism, 32>
         number = number.saturating_add(1);
     }
     prisms
-}
-
-// The simulator's name. These ten plain bytes always make a text.
-fn simulator_name() -> Text
-    ensures { result ≡ simulator_opening.name }
-{
-    match Text::new(b"GEOCOM SIM") {
-        Ok(name) => name,
-        Err(_) => unreachable!(),
-    }
 }

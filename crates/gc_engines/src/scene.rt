@@ -84,7 +84,7 @@ fn name_of(lines: &[SceneLine]) -> Text
 }
 
 // The simulator's name, which gc_instrument has in private, too. These ten plain bytes always make a text.
-fn simulator_name() -> Text
+pub(crate) fn simulator_name() -> Text
     ensures { result ≡ simulator_opening.name }
 {
     match Text::new(b"GEOCOM SIM") {

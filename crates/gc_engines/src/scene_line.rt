@@ -6,7 +6,7 @@ ghost use Rattle.gc_values.specs.Whole.{NamesWhole, FitsLong};
 ghost use Rattle.gc_instrument.specs.declared.target.Target.{Target};
 ghost use Rattle.gc_engines.specs.Scenes.{IsSerial, IsName, IsPrism, IsTarget, IsSceneLine};
 
-use crate::event::behind;
+use crate::event::after_word;
 use gc_instrument::Target;
 use gc_texts::{LineForm, cut_at, read_double};
 use gc_values::{Text, read_long};
@@ -65,7 +65,7 @@ fn read_scene_line(line: &[u8]) -> Option<SceneLine>
 pub(crate) fn read_serial(line: &[u8]) -> Option<i32>
     ensures { MatchOption result ((n : ℤ) → IsSerial line.now n → ⊥) (λ n. IsSerial line.now n) }
 {
-    match behind(b"serial ", line) {
+    match after_word(b"serial ", line) {
         Some(digits) => long_of(digits),
         None => None,
     }
@@ -85,7 +85,7 @@ fn long_of(digits: &[u8]) -> Option<i32>
 pub(crate) fn read_name(line: &[u8]) -> Option<Text>
     ensures { MatchOption result ((bytes : List ℕ) → IsName line.now bytes → ⊥) (λ bytes. IsName line.now bytes) }
 {
-    match behind(b"name ", line) {
+    match after_word(b"name ", line) {
         Some(bytes) => text_of(bytes),
         None => None,
     }
@@ -105,7 +105,7 @@ fn text_of(bytes: &[u8]) -> Option<Text>
 pub(crate) fn read_target(line: &[u8]) -> Option<Target>
     ensures { MatchOption result ((target : Target) → IsTarget line.now target → ⊥) (λ target. IsTarget line.now target) }
 {
-    match behind(b"target ", line) {
+    match after_word(b"target ", line) {
         Some(words) => read_prism(words),
         None => None,
     }

@@ -5,23 +5,13 @@ ghost use Rattle.std.specs.Io.KnownBytes.{Appends};
 ghost use Rattle.gc_texts.specs.Words.{first_word};
 ghost use Rattle.gc_engines.specs.SceneTroubles.{IsReplyTrouble, IsSceneTrouble, NeedsClock, NoDecimal, NotNumber, form_text, scene_trouble_text, scene_trouble_line, word_text};
 
-use crate::event::is_plain;
+use crate::event::{COUNT_MAX, is_plain};
+use crate::rule_line::{CODE_MAX, SCENE_TARGET_MAX, wants_clock};
+use crate::timed_line::DELAY_MAX;
 use gc_catalogue::{RawFault, raw_call};
 use gc_texts::{before, behind, number_of, read_double};
 use gc_values::{Text, read_long};
 use std::io::{self, Write};
-
-// The greatest number of a procedure, and the greatest return code.
-const CODE_MAX: u64 = 65535;
-
-// The greatest number of a target.
-const TARGETS: u64 = 32;
-
-// The greatest number of 32 bits.
-const COUNT_MAX: u64 = 4294967295;
-
-// The longest delay in milliseconds: an hour.
-const LONGEST: u64 = 3_600_000;
 
 /// A word that a line of a scene begins with.
 #[derive(Clone, Copy, Debug, PartialEq, Eq)]
@@ -180,10 +170,7 @@ fn needs_clock(line: &[u8]) -> bool
     ensures { IsTrue result → NeedsClock line.now }
 {
     let first = before(b' ', line);
-    is_plain(b"behave clock", line)
-        || is_plain(b"behave real", line)
-        || is_plain(b"delay", first)
-        || is_plain(b"busy", first)
+    wants_clock(line) || is_plain(b"delay", first) || is_plain(b"busy", first)
 }
 
 // The word of a scene that these bytes are. `None`: they are none.
@@ -373,7 +360,7 @@ fn blocked_trouble(line: &[u8]) -> SceneTrouble
 {
     let rest = behind(b' ', line);
     if fields_in(line) == 3 {
-        if is_no_number(before(b' ', rest), TARGETS) {
+        if is_no_number(before(b' ', rest), SCENE_TARGET_MAX) {
             return SceneTrouble::Target;
         }
         if is_no_number(before(b' ', behind(b' ', rest)), COUNT_MAX) {
@@ -393,7 +380,7 @@ fn drift_trouble(line: &[u8]) -> SceneTrouble
 {
     let rest = behind(b' ', line);
     if fields_in(line) == 4 {
-        if is_no_number(before(b' ', rest), TARGETS) {
+        if is_no_number(before(b' ', rest), SCENE_TARGET_MAX) {
             return SceneTrouble::Target;
         }
         if is_no_double(before(b' ', behind(b' ', rest))) {
@@ -442,7 +429,7 @@ fn delay_trouble(line: &[u8]) -> SceneTrouble
         if is_no_number(before(b' ', rest), CODE_MAX) {
             return SceneTrouble::Rpc;
         }
-        if is_no_number(behind(b' ', rest), LONGEST) {
+        if is_no_number(behind(b' ', rest), DELAY_MAX) {
             return SceneTrouble::Ms;
         }
     }

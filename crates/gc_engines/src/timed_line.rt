@@ -6,15 +6,12 @@ ghost use Rattle.gc_scenes.specs.declared.delay.Delay.{Delay};
 ghost use Rattle.gc_engines.specs.TimedScenes.{IsTimedLine, IsDelayLine};
 
 use crate::event::is_plain;
-use crate::rule_line::{RuleLine, read_rule_line};
+use crate::rule_line::{CODE_MAX, RuleLine, read_rule_line};
 use gc_scenes::Delay;
 use gc_texts::{LineForm, before, behind, number_of};
 
-// The greatest number of a procedure.
-const CODE_MAX: u64 = 65535;
-
 // The longest delay in milliseconds: an hour.
-const LONGEST: u64 = 3_600_000;
+pub(crate) const DELAY_MAX: u64 = 3_600_000;
 
 /// What a line of a scene says that `serve` takes.
 #[derive(Clone, Copy, Debug, PartialEq, Eq)]
@@ -82,7 +79,7 @@ fn read_delay(line: &[u8]) -> Option<Delay>
     let Some(rpc) = number_of(before(b' ', rest), CODE_MAX) else {
         return None
     };
-    match number_of(behind(b' ', rest), LONGEST) {
+    match number_of(behind(b' ', rest), DELAY_MAX) {
         Some(ms) => Some(Delay {
             rpc: rpc as u16,
             ms: ms as u32,

@@ -13,7 +13,7 @@ use Rattle.gc_field.specs.Simulator.{ends}
 use Rattle.gc_field.specs.World.{Numbered, Request, World, Up_deliver, Up_lose, on_wire, replied, with_settled, down_delivered}
 use Rattle.gc_world.proofs.Handing.{exchange, kept_of, keeper}
 use Rattle.gc_field.specs.Field.{Move, Sends, OnLine, moved}
-use Rattle.gc_field.specs.Alone.{IsBookedUnexecuted, two_at_once}
+use Rattle.gc_field.specs.Alone.{SecondIsBookedUnexecuted, two_at_once}
 use Rattle.gc_field.specs.Made.{WasMadeOn, wire_behind}
 
 module _ (s : State) (line : List ℕ) where
@@ -74,7 +74,7 @@ module _ (s : State) (line : List ℕ) where
       cc
 
   -- the reply that is retained is booked for the second request
-  pub booked : IsFittingState s → kept_line (kept_of s) (Some 1) ≡ Some line → IsBookedUnexecuted s line
+  pub booked : IsFittingState s → kept_line (kept_of s) (Some 1) ≡ Some line → SecondIsBookedUnexecuted s line
   booked fits k =
       record {
         possible = (tt, (tt, (tt, (tt, ((1, [], ap (λ (h : Handed State). (reached h).wire.down) (handed_is k)), tt)))));

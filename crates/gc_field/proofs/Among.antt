@@ -1,49 +1,33 @@
 -- Settlements, requests and records at a place of a list that was appended or cut.
-use Rattle.std.proofs.Common.{◌≡◌, ℕ, zero, suc, ◌+◌, true, false, List, [], ◌∷◌, ◌++◌, map, Some, refl, ◌∙◌, ap, subst, arith, drop}
+use Rattle.std.proofs.Common.{◌≡◌, ℕ, zero, suc, ◌+◌, true, false, List, [], ◌∷◌, ◌++◌, map, Some, refl, sym, ◌∙◌, ap, subst, arith, drop}
 use Rattle.std.specs.Prelude.{slice_get}
-use Rattle.std.specs.List.{AllByRecursion}
 use Rattle.gc_catalogue.specs.declared.asked.Asked.{Asked}
 use Rattle.gc_client.specs.OneForOne.{Wanted}
 use Rattle.gc_client.specs.declared.pending.Pending.{Pending}
 use Rattle.gc_client.specs.Rule.{Answered, Late, Lost, Settlement, lost}
-use Rattle.gc_station.specs.Records.{Record}
 use Rattle.gc_field.specs.World.{Sent}
-use Rattle.gc_world.proofs.Options.{none_is_not}
+use Rattle.gc_world.proofs.Options.{none_is_not, some_is}
 use Rattle.gc_field.specs.Laws.{asked}
 use Rattle.gc_field.proofs.Once.{true_is_not}
+
+-- a settlement with another outcome than `Lost` isn't that of a lost request
+none_lost : (x : Settlement Asked) → (x.outcome ≡ Lost → ⊥) → (ps : List (Pending Asked)) (n : ℕ) → slice_get (map lost ps) n ≡ Some x → ⊥
+none_lost x other [] n e = none_is_not x e
+none_lost x other (p ∷ ps) zero e = other (ap (λ (s : Settlement Asked). s.outcome) (sym (some_is (lost p) x e)))
+none_lost x other (p ∷ ps) (suc n) e = none_lost x other ps n e
 
 -- an answer among settlements and lost requests is among the settlements
 pub among_settled : (xs : List (Settlement Asked)) (ps : List (Pending Asked)) (n : ℕ) (x : Settlement Asked) (line : List ℕ) → slice_get (xs ++ map lost ps) n ≡ Some x
     → x.outcome ≡ Answered line → slice_get xs n ≡ Some x
 among_settled (y ∷ xs) ps zero x line got answered = got
 among_settled (y ∷ xs) ps (suc n) x line got answered = among_settled xs ps n x line got answered
-among_settled [] ps n x line got answered = absurd (never ps n got) where
-  some_same : (a b : Settlement Asked) → Some a ≡ Some b → a ≡ b
-  some_same a b e = cc
-
-  lost_not : (p : Pending Asked) → lost p ≡ x → ⊥
-  lost_not p e = let other : Lost ≡ Answered line = ap (λ (s : Settlement Asked). s.outcome) e ∙ answered in cc
-
-  never : (ps : List (Pending Asked)) (n : ℕ) → slice_get (map lost ps) n ≡ Some x → ⊥
-  never [] n e = cc
-  never (p ∷ ps) zero e = lost_not p (some_same (lost p) x e)
-  never (p ∷ ps) (suc n) e = never ps n e
+among_settled [] ps n x line got answered = absurd (none_lost x (λ e. let other : Lost ≡ Answered line = sym e ∙ answered in cc) ps n got)
 
 -- a late settlement among settlements and lost requests is among the settlements
 pub among_late : (xs : List (Settlement Asked)) (ps : List (Pending Asked)) (n : ℕ) (x : Settlement Asked) → slice_get (xs ++ map lost ps) n ≡ Some x → x.outcome ≡ Late → slice_get xs n ≡ Some x
 among_late (y ∷ xs) ps zero x got late = got
 among_late (y ∷ xs) ps (suc n) x got late = among_late xs ps n x got late
-among_late [] ps n x got late = absurd (never ps n got) where
-  some_same : (a b : Settlement Asked) → Some a ≡ Some b → a ≡ b
-  some_same a b e = cc
-
-  lost_not : (p : Pending Asked) → lost p ≡ x → ⊥
-  lost_not p e = let other : Lost ≡ Late = ap (λ (s : Settlement Asked). s.outcome) e ∙ late in cc
-
-  never : (ps : List (Pending Asked)) (n : ℕ) → slice_get (map lost ps) n ≡ Some x → ⊥
-  never [] n e = cc
-  never (p ∷ ps) zero e = lost_not p (some_same (lost p) x e)
-  never (p ∷ ps) (suc n) e = never ps n e
+among_late [] ps n x got late = absurd (none_lost x (λ e. let other : Lost ≡ Late = sym e ∙ late in cc) ps n got)
 
 -- where `a` is what request n asks for, there is a request n that asks for it
 pub asked_at : (rs : List Sent) (n : ℕ) (a : Wanted Asked) → slice_get (map asked rs) n ≡ Some a → (r : Sent) × (slice_get rs n ≡ Some r) × (asked r ≡ a)
@@ -52,11 +36,6 @@ asked_at (r ∷ rs) zero a e = (r, refl, same (asked r) a e) where
   same : (x y : Wanted Asked) → Some x ≡ Some y → x ≡ y
   same x y e = cc
 asked_at (r ∷ rs) (suc n) a e = asked_at rs n a e
-
--- what holds of each record of two lists holds of each of the joined list
-pub all_append : (P : Record → Type 0) (xs ys : List Record) → AllByRecursion P xs → AllByRecursion P ys → AllByRecursion P (xs ++ ys)
-all_append P [] ys h g = g
-all_append P (x ∷ xs) ys h g = (h.0, all_append P xs ys h.1 g)
 
 -- an element that is at place n after the first k is at place k + n of the whole list
 pub get_behind : {A : Type 0} (k n j : ℕ) (xs : List A) (x : A) → j ≡ k + n → slice_get (drop k xs) n ≡ Some x → slice_get xs j ≡ Some x

@@ -1,5 +1,5 @@
 -- A synchronization over a line of ids alone: the line, its two ends, what may happen, and a run. The *word* of a
--- synchronization is the list of the ids of its null procedures. The *beginner* asks them one after the other, each until it is
+-- synchronization is the list of the ids of its null procedures. The client asks them one after the other, each until it is
 -- answered.
 use Rattle.std.specs.Prelude.{◌≡◌, ℕ, zero, suc, ◌+◌, ◌%◌, nat_eq, Bool, true, false, List, [], ◌∷◌, ◌++◌, map, Option, Some, None}
 use Rattle.gc_client.specs.Beginning.{IsSubsequence, left_by_one}
@@ -49,7 +49,7 @@ abbrev pub heard : List ℕ → ℕ → List ℕ
 heard [] id = []
 heard (asked ∷ rest) id = left_by_one (nat_eq id asked) asked rest
 
--- the state once the beginner sent the null procedure of the first id that is left, if any is (the list has those that are left)
+-- the state once the client sent the null procedure of the first id that is left, if any is (the list has those that are left)
 abbrev pub asks : Model → List ℕ → Model
 asks s [] = s
 asks s (asked ∷ rest) = record s { up = s.up ++ record { id = asked; old = false } ∷ [] }
@@ -62,12 +62,13 @@ reaches s replies [] = s
 reaches s true (x ∷ rest) = record s { up = rest; down = s.down ++ x ∷ []; kept = Some x.id }
 reaches s false (x ∷ rest) = record s { up = rest; kept = Some x.id }
 
--- the id of what is retained once a request with this id was left out (`k` before): an old one leaves it
+-- the id of what is retained after `Pass` of a request with this id: if the request is old (true), as before (`k`); else the
+-- request's id
 abbrev pub kept_past : Bool → ℕ → Option ℕ → Option ℕ
 kept_past true id k = k
 kept_past false id k = Some id
 
--- the state once the front request of this queue was left out: its reply is sent, and if it is old, what is retained stays
+-- the state after `Pass` of the front request of this queue
 abbrev pub passes : Model → List Sent → Model
 passes s [] = s
 passes s (x ∷ rest) = record s { up = rest; down = s.down ++ x ∷ []; kept = kept_past x.old x.id s.kept }

@@ -16,13 +16,14 @@ use Rattle.gc_instrument.specs.State.{KeptReply}
 use Rattle.gc_world.specs.Order.{Each}
 use Rattle.gc_field.specs.World.{Ends, Request, without, doubled}
 use Rattle.gc_world.proofs.Options.{some_is, none_is_not}
+use Rattle.gc_world.proofs.Rows.{each_append, each_without, each_doubled}
 use Rattle.gc_field.specs.Begin.{Aged, AreLines, AreTurns, Model, Turn, Asks, Comes, Foreign, Reaches, Up_lose, Up_repeat, Down_lose, Down_repeat, Anew, Changes, UnderWay, begins, leaves, ids_under_way, asks, comes, reaches, turns, turned}
 use Rattle.gc_field.specs.Begun.{HasBegunCleanly, eighth}
 use Rattle.gc_field.specs.Instrument.{IsAnInstrument}
 use Rattle.gc_field.proofs.BeginIds as ids
 use Rattle.gc_field.proofs.BeginIds.{Sent, Begins, IsClean, aged, begun_anew, ids_of, moved}
 use Rattle.gc_field.proofs.BeginKilled.{begins_anew, behind_one, under_way}
-use Rattle.gc_field.proofs.BeginLists.{each_append, each_front, each_without, each_doubled}
+use Rattle.gc_field.proofs.BeginLists.{each_front}
 use Rattle.gc_field.proofs.BeginSound.{the_word_begins_cleanly}
 use Rattle.gc_field.proofs.Once.{true_is_not}
 
@@ -53,7 +54,7 @@ id_or None = 8
 id_or (Some id) = id
 
 -- all these ids are below 8
-abbrev IsSmall : List ℕ → Type 0
+abbrev pub IsSmall : List ℕ → Type 0
 IsSmall word = Each (λ i. i < 8) word
 
 -- the id of a request in flight, and whether it is old
@@ -65,7 +66,7 @@ abbrev mark_down : Aged (List ℕ) → Sent
 mark_down x = record { id = id_or (rule.heard x.line); old = x.old }
 
 -- the ids of the word are below 8
-word_small : IsSmall the_word
+pub word_small : IsSmall the_word
 word_small = (omega arith, (omega arith, (omega arith, (omega arith, (omega arith, (omega arith, (omega arith, (omega arith, tt))))))))
 
 -- what is left of small ids is small, whether the first was answered (b true) or not
@@ -74,7 +75,7 @@ small_if true asked rest h = h.1
 small_if false asked rest h = h
 
 -- what a line leaves of small ids is small
-small_left : (left : List ℕ) (o : Option ℕ) → IsSmall left → IsSmall (left_by left o)
+pub small_left : (left : List ℕ) (o : Option ℕ) → IsSmall left → IsSmall (left_by left o)
 small_left [] o h = tt
 small_left (asked ∷ rest) o h = small_if (is_answered (asked ∷ rest) o) asked rest h
 
@@ -106,7 +107,7 @@ module _ {State : Type 0} (ends : Ends State) (Good : State → Type 0) (kept : 
     pub known : Each IsKnown s.up
     pub small : IsSmall s.left
 
-  -- `Shows` is preserved if the beginner asks
+  -- `Shows` is preserved if the client asks
   shows_asks : (s : Model State) (p : ids.Model) (left : List ℕ) → s.left ≡ left → Shows s p → Shows (asks s left) (ids.asks p left)
   shows_asks s p [] e g = g
   shows_asks s p (asked ∷ rest) e g =

@@ -8,11 +8,12 @@ use Rattle.gc_client.specs.Beginning.{left_by_one, IsSubsequence, the_word}
 use Rattle.gc_field.proofs.BeginIds.{Sent, Model, Move, heard, moved, aged, begun_anew, Pairs, AllDiffer, Begins, ids_of}
 use Rattle.gc_world.specs.Order.{Each}
 use Rattle.gc_field.specs.World.{without, doubled}
-use Rattle.gc_field.proofs.BeginLists.{each_more, each_both, each_append, each_back, each_without, each_doubled, pairs_front, pairs_back, goes_over}
+use Rattle.gc_field.proofs.BeginLists.{each_both, each_back, pairs_front, pairs_back, goes_over}
 use Rattle.gc_field.proofs.BeginWords.{Has, stands_front, stands_each, never, word_differs}
 use Rattle.gc_field.proofs.BeginMoves.{Lasts, holds_moved}
 use Rattle.gc_field.proofs.BeginLines.{IsLine, IsOld, IsOwn, IsBefore, HasNone, KeepsTheId, AreOwn, old_if, olds, olds_all, olds_push, has_without, has_doubled, line_without, line_doubled, line_asked, line_came}
 use Rattle.gc_field.proofs.BeginSound.{sound_at_start}
+use Rattle.gc_world.proofs.Rows.{each_more, each_append, each_without, each_doubled}
 
 -- The invariant of one synchronization.
 
@@ -82,7 +83,7 @@ module _ (z : ℕ) (word first : List ℕ) where
             ];
       }
 
-  -- `IsTrying` is preserved if the beginner asks
+  -- `IsTrying` is preserved if the client asks
   trying_asked : (id : ℕ) (later : List ℕ) (line : List Sent) → IsTrying z word first (id ∷ later) line → IsTrying z word first (id ∷ later) (line ++ record { id = id; old = false } ∷ [])
   trying_asked id later line h =
       let new : Sent = record { id = id; old = false } in

@@ -7,9 +7,10 @@ use Rattle.gc_client.specs.Beginning.{left_by_one, IsSubsequence}
 use Rattle.gc_field.proofs.BeginIds.{Sent, heard, Pairs, AllDiffer, ids_of, last}
 use Rattle.gc_world.specs.Order.{Each}
 use Rattle.gc_field.specs.World.{without, doubled}
-use Rattle.gc_field.proofs.BeginLists.{each_more, each_append, each_without, each_doubled, pairs_without, pairs_doubled, pairs_push, pairs_of_each}
+use Rattle.gc_field.proofs.BeginLists.{pairs_without, pairs_doubled, pairs_push, pairs_of_each}
 use Rattle.gc_field.proofs.BeginWords.{Has, has_behind, has_twice, stands_more, never, not_over}
 use Rattle.gc_field.proofs.Once.{true_is_not}
+use Rattle.gc_world.proofs.Rows.{each_more, each_append, each_without, each_doubled}
 
 -- The invariant.
 
@@ -159,7 +160,7 @@ line_doubled z left k line h =
 
 -- A null procedure is sent.
 
--- `IsLine` is preserved if the beginner asks
+-- `IsLine` is preserved if the client asks
 pub line_asked : (z asked : ℕ) (later : List ℕ) (line : List Sent) → IsLine z (asked ∷ later) line → IsLine z (asked ∷ later) (line ++ record { id = asked; old = false } ∷ [])
 line_asked z asked later line h =
     let new : Sent = record { id = asked; old = false } in

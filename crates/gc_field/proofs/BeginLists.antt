@@ -5,18 +5,9 @@ use Rattle.std.proofs.Common.{◌≡◌, ℕ, zero, suc, ◌⊎◌, inl, inr, Li
 use Rattle.gc_field.proofs.BeginIds.{Pairs}
 use Rattle.gc_world.specs.Order.{Each}
 use Rattle.gc_field.specs.World.{without, doubled}
+use Rattle.gc_world.proofs.Rows.{each_append, each_without, each_doubled}
 
 module _ {A : Type 0} where
-  -- where P implies Q, and each element has P, each has Q
-  pub each_more : (P Q : A → Type 0) → ((x : A) → P x → Q x) → (xs : List A) → Each P xs → Each Q xs
-  each_more P Q f [] h = tt
-  each_more P Q f (x ∷ xs) h = (f x h.0, each_more P Q f xs h.1)
-
-  -- what each element of two lists has, each of the joined list has
-  pub each_append : (P : A → Type 0) (xs ys : List A) → Each P xs → Each P ys → Each P (xs ++ ys)
-  each_append P [] ys h g = g
-  each_append P (x ∷ xs) ys h g = (h.0, each_append P xs ys h.1 g)
-
   -- what each element of a joined list has, each of its front has
   pub each_front : (P : A → Type 0) (xs ys : List A) → Each P (xs ++ ys) → Each P xs
   each_front P [] ys h = tt
@@ -26,18 +17,6 @@ module _ {A : Type 0} where
   pub each_back : (P : A → Type 0) (xs ys : List A) → Each P (xs ++ ys) → Each P ys
   each_back P [] ys h = h
   each_back P (x ∷ xs) ys h = each_back P xs ys h.1
-
-  -- what each element has, each has once one is lost
-  pub each_without : (P : A → Type 0) (k : ℕ) (xs : List A) → Each P xs → Each P (without k xs)
-  each_without P k [] h = tt
-  each_without P zero (x ∷ xs) h = h.1
-  each_without P (suc k) (x ∷ xs) h = (h.0, each_without P k xs h.1)
-
-  -- what each element has, each has once one is repeated
-  pub each_doubled : (P : A → Type 0) (k : ℕ) (xs : List A) → Each P xs → Each P (doubled k xs)
-  each_doubled P k [] h = tt
-  each_doubled P zero (x ∷ xs) h = (h.0, (h.0, h.1))
-  each_doubled P (suc k) (x ∷ xs) h = (h.0, each_doubled P k xs h.1)
 
   -- where P and Q imply R, and each element has both, each has R
   pub each_both : (P Q R : A → Type 0) → ((x : A) → P x → Q x → R x) → (xs : List A) → Each P xs → Each Q xs → Each R xs
@@ -119,8 +98,3 @@ module _ {A : Type 0} where
   pub goes_over : (xs : List A) (y : A) (ys : List A) → (xs ++ y ∷ []) ++ ys ≡ xs ++ y ∷ ys
   goes_over [] y ys = refl
   goes_over (x ∷ xs) y ys = ap (λ l. x ∷ l) (goes_over xs y ys)
-
-  -- joining lists is associative
-  pub behind_both : (xs ys zs : List A) → xs ++ (ys ++ zs) ≡ (xs ++ ys) ++ zs
-  behind_both [] ys zs = refl
-  behind_both (x ∷ xs) ys zs = ap (λ l. x ∷ l) (behind_both xs ys zs)

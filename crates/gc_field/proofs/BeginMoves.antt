@@ -1,9 +1,9 @@
 -- A fact of the whole line, replies first, that is preserved by the four things that can happen to the line is preserved by each move of
 -- a synchronization.
-use Rattle.std.proofs.Common.{◌≡◌, ℕ, zero, inl, inr, Bool, true, false, List, [], ◌∷◌, ◌++◌, refl, sym, subst}
+use Rattle.std.proofs.Common.{◌≡◌, ℕ, zero, inl, inr, Bool, true, false, List, [], ◌∷◌, ◌++◌, refl, sym, subst, append_assoc}
 use Rattle.gc_field.proofs.BeginIds.{Sent, Model, Move, Ask, Reach, Pass, Come, Up_lose, Up_repeat, Down_lose, Down_repeat, Anew, heard, asks, reaches, passes, comes, moves, moved}
 use Rattle.gc_field.specs.World.{without, doubled}
-use Rattle.gc_field.proofs.BeginLists.{lost_back, lost_front, twice_back, twice_front, goes_over, behind_both}
+use Rattle.gc_field.proofs.BeginLists.{lost_back, lost_front, twice_back, twice_front, goes_over}
 
 -- a fact of the ids that are left, and of the line, is preserved by a loss, a repeat, a request that is sent and a reply that comes
 pub record Lasts (I : List ℕ → List Sent → Type 0) : Type 0 where
@@ -13,20 +13,20 @@ pub record Lasts (I : List ℕ → List Sent → Type 0) : Type 0 where
   pub came : (left : List ℕ) (x : Sent) (rest : List Sent) → I left (x ∷ rest) → I (heard left x.id) rest
 
 module _ (I : List ℕ → List Sent → Type 0) (lasts : Lasts I) where
-  -- the fact holds of a state
+  -- the fact `I` holds of a state
   abbrev pub Holds : Model → Type 0
   Holds s = I s.left (s.down ++ s.up)
 
-  -- the fact lasts if the beginner asks
+  -- `Holds` is preserved if the client asks
   holds_asks : (s : Model) (left : List ℕ) → s.left ≡ left → Holds s → Holds (asks s left)
   holds_asks s [] e h = h
   holds_asks s (id ∷ later) e h =
       let new : Sent = record { id = id; old = false } in
       subst (λ l. I l (s.down ++ (s.up ++ new ∷ []))) (sym e)
-      (subst (λ q. I (id ∷ later) q) (sym (behind_both s.down s.up (new ∷ [])))
+      (subst (λ q. I (id ∷ later) q) (append_assoc s.down s.up (new ∷ []))
       (lasts.asked id later (s.down ++ s.up) (subst (λ l. I l (s.down ++ s.up)) e h)))
 
-  -- the fact lasts if a request reaches the instrument
+  -- `Holds` is preserved if a request reaches the instrument
   holds_reaches : (s : Model) (replies : Bool) (up : List Sent) → s.up ≡ up → Holds s → Holds (reaches s replies up)
   holds_reaches s replies [] e h = h
   holds_reaches s true (x ∷ rest) e h =
@@ -35,17 +35,17 @@ module _ (I : List ℕ → List Sent → Type 0) (lasts : Lasts I) where
       let lost = lost_back zero s.down (x ∷ rest) in
       subst (λ q. I s.left q) (sym lost.1) (lasts.lost s.left lost.0 (s.down ++ x ∷ rest) (subst (λ q. I s.left (s.down ++ q)) e h))
 
-  -- the fact lasts if a request is left out
+  -- `Holds` is preserved by `Pass`
   holds_passes : (s : Model) (up : List Sent) → s.up ≡ up → Holds s → Holds (passes s up)
   holds_passes s [] e h = h
   holds_passes s (x ∷ rest) e h = subst (λ q. I s.left q) (sym (goes_over s.down x rest)) (subst (λ q. I s.left (s.down ++ q)) e h)
 
-  -- the fact lasts if a reply comes
+  -- `Holds` is preserved if a reply comes
   holds_comes : (s : Model) (down : List Sent) → s.down ≡ down → Holds s → Holds (comes s down)
   holds_comes s [] e h = h
   holds_comes s (x ∷ rest) e h = lasts.came s.left x (rest ++ s.up) (subst (λ q. I s.left (q ++ s.up)) e h)
 
-  -- the fact is preserved by each move
+  -- `Holds` is preserved by each move
   pub holds_moves : (s : Model) (m : Move) → Holds s → Holds (moves s m)
   holds_moves s Ask h = holds_asks s s.left refl h
   holds_moves s (Reach replies) h = holds_reaches s replies s.up refl h
@@ -69,7 +69,7 @@ module _ (I : List ℕ → List Sent → Type 0) (lasts : Lasts I) where
       ]
   holds_moves s Anew h = h
 
-  -- the fact is preserved by moves
+  -- `Holds` is preserved by moves
   pub holds_moved : (ms : List Move) (s : Model) → Holds s → Holds (moved ms s)
   holds_moved [] s h = h
   holds_moved (m ∷ ms) s h = holds_moved ms (moves s m) (holds_moves s m h)

@@ -6,10 +6,11 @@ use Rattle.gc_client.specs.Beginning.{left_by_one, IsSubsequence, the_word}
 use Rattle.gc_field.proofs.BeginIds.{Sent, Model, Move, Ask, Reach, Pass, Come, Up_lose, Up_repeat, Down_lose, Down_repeat, Anew, heard, asks, reaches, kept_past, passes, comes, moves, moved, AllDiffer, ids_of, last, Begins, IsClean}
 use Rattle.gc_world.specs.Order.{Each}
 use Rattle.gc_field.specs.World.{without, doubled}
-use Rattle.gc_field.proofs.BeginLists.{each_more, each_both, each_append, each_front, each_back, each_without, each_doubled, pairs_before, pairs_of_each}
+use Rattle.gc_field.proofs.BeginLists.{each_both, each_front, each_back, pairs_before, pairs_of_each}
 use Rattle.gc_field.proofs.BeginMoves.{Lasts, holds_moves}
 use Rattle.gc_field.proofs.BeginWords.{never, word_differs}
 use Rattle.gc_field.proofs.BeginLines.{IsLine, IsOld, IsOwn, IsBefore, HasNone, KeepsTheId, AreOwn, olds_all, each_own, line_without, line_doubled, line_asked, line_came, is_own}
+use Rattle.gc_world.proofs.Rows.{each_more, each_append, each_without, each_doubled}
 
 -- The invariant.
 
@@ -89,7 +90,7 @@ keeps_heard z (asked ∷ later) x rest up kept h k = chosen (nat_eq x.id asked) 
 line_lasts : (z : ℕ) → Lasts (IsLine z)
 line_lasts z = record { lost = line_without z; twice = line_doubled z; asked = line_asked z; came = line_came z }
 
--- `KeptIdFits` is preserved if the beginner asks
+-- `KeptIdFits` is preserved if the client asks
 keeps_asks : (z : ℕ) (s : Model) (left : List ℕ) → IsSound z s → KeptIdFits z (asks s left).left (asks s left).down (asks s left).kept
 keeps_asks z s [] h = h.keeps
 keeps_asks z s (asked ∷ later) h = h.keeps
@@ -109,7 +110,7 @@ keeps_old : (z : ℕ) (left : List ℕ) (down : List Sent) (x : Sent) (kept : Op
 keeps_old z [] down x kept old h = h
 keeps_old z (asked ∷ later) down x kept old h = each_append (KeepsIf asked kept) down (x ∷ []) h ((λ own e. absurd (both x old own)), tt)
 
--- `KeptIdFits` is preserved if a request is left out
+-- `KeptIdFits` is preserved by `Pass`
 keeps_passes : (z : ℕ) (s : Model) (up : List Sent) → s.up ≡ up → IsSound z s → KeptIdFits z (passes s up).left (passes s up).down (passes s up).kept
 keeps_passes z s [] e h = h.keeps
 keeps_passes z s (x ∷ rest) e h = by_case x.old refl where

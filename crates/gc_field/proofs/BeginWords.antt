@@ -6,6 +6,7 @@ use Rattle.std.proofs.lemmas.Bool.{eq-eqb, eqb-true, eqb-false}
 use Rattle.gc_client.specs.Beginning.{left_by_one, IsSubsequence, the_word}
 use Rattle.gc_field.proofs.BeginIds.{heard, AllDiffer, upward}
 use Rattle.gc_world.specs.Order.{Each, Rising}
+use Rattle.gc_world.proofs.Rows.{rising_lower}
 
 -- false isn't true
 pub never : false ≡ true → ⊥
@@ -140,18 +141,13 @@ three_upward (suc (suc (suc (suc (suc (suc (suc (suc i)))))))) low h = absurd (o
 -- that the eight ids from the least one up contain.
 
 -- the ids of requests with these numbers
-abbrev ids_at : List ℕ → List ℕ
+abbrev pub ids_at : List ℕ → List ℕ
 ids_at ns = map (λ n. n % 8) ns
 
 -- the empty word is in all ids
 has_nothing : (others : List ℕ) → Has [] others
 has_nothing others [] d h = tt
 has_nothing others (w ∷ word) d h = absurd h
-
--- numbers that rise from a high one on rise from a lower one on
-rising_lower : (low high : ℕ) (ns : List ℕ) → low ≤ high → Rising high ns → Rising low ns
-rising_lower low high [] le h = tt
-rising_lower low high (n ∷ ns) le h = (omega (arith, le, h.0), h.1)
 
 -- if a equals b, numbers below a are below b
 each_below : (a b : ℕ) (ns : List ℕ) → a ≡ b → Each (λ m. m < a) ns → Each (λ m. m < b) ns

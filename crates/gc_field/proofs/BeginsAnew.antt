@@ -15,7 +15,7 @@ use Rattle.gc_links.specs.Acts.{Told}
 use Rattle.gc_field.specs.Begin.{begins}
 use Rattle.gc_field.specs.BeginsAnew.{IsAnsweredAnew, acts, anew, answer, commands, first, from, given_up, left, moves, moves_anew, plan, replies, runs, scope, seventh, turns}
 use Rattle.gc_field.specs.Begun.{WasMadeOn}
-use Rattle.gc_field.specs.CountingChain.{before, begun, counting}
+use Rattle.gc_field.specs.CountingChain.{before, null_replies, counting}
 use Rattle.gc_field.specs.Field.{seen}
 use Rattle.gc_field.specs.Shown.{AreShownAs, shown}
 use Rattle.gc_field.specs.Witness.{at, begun_with, eight}
@@ -30,7 +30,7 @@ all_turns =
 -- the parts of the run: until the station resynchronizes, from there on, and the empty one after the end
 abbrev parts : List Part
 parts =
-    part_of (asked_each begun) (seen moves) (map (λ place. (place, 15)) (0 ∷ 1 ∷ 2 ∷ 3 ∷ 4 ∷ 5 ∷ 6 ∷ []))
+    part_of (asked_each null_replies) (seen moves) (map (λ place. (place, 15)) (0 ∷ 1 ∷ 2 ∷ 3 ∷ 4 ∷ 5 ∷ 6 ∷ []))
     ∷ one_part all_turns (seen moves_anew) ((7, 120) ∷ [])
 
 -- the parts of the run are these
@@ -39,7 +39,7 @@ unfolding is_elsewhere header_at reply_at digits
 parts_are = refl
 
 -- what the line does while the station begins at first shows these turns
-shown_are : shown counting eight (begins before) ≡ asked_each begun
+shown_are : shown counting eight (begins before) ≡ asked_each null_replies
 unfolding is_elsewhere header_at reply_at digits
 shown_are = refl
 
@@ -52,7 +52,7 @@ shown_anew = refl
 given_up_runs : Runs plan commands (opening plan scope) given_up
 unfolding is_elsewhere header_at reply_at digits
 given_up_runs =
-    run_on plan commands (opening plan scope) (begun_with begun []) (drop 27 given_up) (opens_counting 7 commands scope.reads)
+    run_on plan commands (opening plan scope) (begun_with null_replies []) (drop 27 given_up) (opens_counting 7 commands scope.reads)
     (tt, (refl, (tt, (refl, (tt, (refl, (tt, (refl, (tt, (refl, (tt, (refl, (tt, (refl, (tt, (tt, tt))))))))))))))))
 
 -- the acts from there on, if the station resynchronizes, are a run
@@ -66,7 +66,7 @@ anew_runs =
 -- after the acts until seven requests have timed out, the next act is one at which the station resynchronizes
 begins_anew : IsResynchronizing plan commands scope given_up (Told (at 115))
 unfolding is_elsewhere header_at reply_at digits
-begins_anew = record { renews = refl; moment = at 115; told = refl; seven = refl; given_up = refl; word = refl; client = refl }
+begins_anew = record { resynchronizes = record { renews = refl; moment = at 115; told = refl; seven = refl; given_up = refl }; word = refl; client = refl }
 
 -- the answer was made on executing the last command's request, the client's first one after the new synchronization
 was_made : WasMadeOn WINDOW counting from moves_anew 8 (Table InstrumentNo) answer

@@ -31,7 +31,8 @@ use Rattle.gc_field.proofs.Moving.{Both, both_all, first_reply, IsOwn, IsVouched
 use Rattle.gc_field.proofs.Possible.{possible_behind, possible_front}
 use Rattle.gc_field.proofs.Seen.{same_all}
 use Rattle.gc_field.proofs.KeptReplies.{KeptIs}
-use Rattle.gc_field.proofs.Vouched.{IsNear, AllVouched, Vouched}
+use Rattle.gc_field.proofs.NearTable.{IsNear}
+use Rattle.gc_field.proofs.Vouched.{AllVouched, Vouched}
 
 -- The course of a client, after what was sent and settled before.
 
@@ -167,7 +168,7 @@ module _ {State : Type 0} (ends : Ends State) (Good : State → Type 0) (kept : 
 
       -- after a clean synchronization the invariant `AllVouched` of `Vouched` holds of the world of the client that is given numbers:
       -- each reply in flight was made for its request
-      true_begun : IsNear width narrow knows ends Good kept is 8 E Plain M nulls 8 7 → AllVouched width narrow knows ends Good kept is 8 E Plain M (numbers_begun u)
+      true_begun : IsNear knows E Plain nulls 8 7 → AllVouched width narrow knows ends Good kept is 8 E Plain M (numbers_begun u)
       true_begun near =
           let within : 8 ≤ 8 = omega arith in
           record {

@@ -21,7 +21,7 @@ use Rattle.gc_field.specs.Beginnings.{IsRow, on_line}
 use Rattle.gc_field.specs.Begun.{IsClean, behind, ids_begun, numbers_begun}
 use Rattle.gc_field.specs.Field.{Move, Sends, Tells, Comes, Foreign, OnLine, Anew, Changes, Joins, IsOfLine, ArePossible, moved}
 use Rattle.gc_field.specs.Instrument.{IsAnInstrument}
-use Rattle.gc_field.proofs.BeginWords.{none_within, three_within}
+use Rattle.gc_field.proofs.BeginWords.{none_within, three_within, ids_at}
 use Rattle.gc_field.proofs.BegunFaithful.{both_begun, ex}
 use Rattle.gc_field.proofs.Moving.{both_all}
 
@@ -91,10 +91,6 @@ module _ {State : Type 0} (width : ℕ) (ends : Ends State) where
     based_all (Joins line ∷ ms) a w p h = absurd p.0
 
 -- Its ids.
-
--- the ids of requests with these numbers
-abbrev ids_at : List ℕ → List ℕ
-ids_at ns = map (λ n. n % 8) ns
 
 -- the ids of the requests in flight are their numbers modulo 8
 ids_up : (since total : ℕ) (xs : List (Numbered Request)) → since ≡ 0 → Each (IsGoing since total) xs → map (λ x. x.id) (map (λ x. x.line) xs) ≡ ids_at (numbers xs)

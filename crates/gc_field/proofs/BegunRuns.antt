@@ -7,7 +7,7 @@ use Rattle.gc_instrument.specs.State.{KeptReply}
 use Rattle.gc_world.specs.Order.{Each}
 use Rattle.gc_field.specs.World.{Ends, Request}
 use Rattle.gc_field.specs.Begin.{Aged, AreLines, AreTurns, Model, UnderWay, begins, ids_under_way, leaves}
-use Rattle.gc_field.specs.Beginnings.{AreFewKilled, AreOwn, AreRuns, ArePossibleIf, IsOwnIf, IsRow, Run, killed_if, left_by_run, left_if, on_line, stood}
+use Rattle.gc_field.specs.Beginnings.{AreFewKilled, AreOwn, AreRuns, ArePossibleIf, IsOwnIf, IsRow, Run, killed_if, left_by_run, left_if, on_line, after_turns}
 use Rattle.gc_field.specs.Begun.{HasBegunCleanly, IsClean, behind, eighth}
 use Rattle.gc_field.specs.Instrument.{IsAnInstrument}
 use Rattle.gc_field.proofs.BeginJoin.{begins_cleanly, left_absent, left_lines}
@@ -51,7 +51,7 @@ module _ {State : Type 0} (ends : Ends State) (Good : State → Type 0) (kept : 
   -- where what is in flight is `IsShort` for n killed runs, and one more run is killed while it synchronizes, what that run
   -- leaves is `IsShort` for n + 1
   short_killed : (n : ℕ) (u : UnderWay State) (r : Run State) → AreLines Good u → AreTurns ends Good kept r.turns (begins u) → n + 1 ≤ 5 → (tail : List ℕ)
-      → (h : IsShort n u) → h.tail ≡ tail → IsShort (n + 1) (leaves (stood width ends u r))
+      → (h : IsShort n u) → h.tail ≡ tail → IsShort (n + 1) (leaves (after_turns width ends u r))
   short_killed n u r lines turns few [] h e = absurd (let size = h.few in let none : length h.tail ≡ 0 = ap length e in omega (arith, size, none, few))
   short_killed n u r lines turns few (c ∷ tail) h e =
       let split : the_word ≡ 6 ∷ 5 ∷ (h.more ++ c ∷ tail) = h.split ∙ ap (λ l. 6 ∷ 5 ∷ (h.more ++ l)) e in
@@ -67,15 +67,15 @@ module _ {State : Type 0} (ends : Ends State) (Good : State → Type 0) (kept : 
   -- the count n of runs killed in a row starts again at 0. If ids are left, it was killed while it synchronized, and n is one
   -- more
   pub record Goes (n : ℕ) (u : UnderWay State) (r : Run State) (left : List ℕ) : Type 0 where
-    pub own : IsOwnIf width ends Good kept left (stood width ends u r) r.moves
-    pub lines : AreLines Good (left_if width ends left (stood width ends u r) r.moves)
-    pub short : IsShort (killed_if width ends left n) (left_if width ends left (stood width ends u r) r.moves)
+    pub own : IsOwnIf width ends Good kept left (after_turns width ends u r) r.moves
+    pub lines : AreLines Good (left_if width ends left (after_turns width ends u r) r.moves)
+    pub short : IsShort (killed_if width ends left n) (left_if width ends left (after_turns width ends u r) r.moves)
 
   -- each run comes to what `Goes` says
-  pub goes : (n : ℕ) (u : UnderWay State) (r : Run State) (left : List ℕ) → (stood width ends u r).left ≡ left → AreLines Good u → IsShort n u → AreTurns ends Good kept r.turns (begins u)
-      → ArePossibleIf width ends Good kept left (stood width ends u r) r.moves → killed_if width ends left n ≤ 5 → Goes n u r left
+  pub goes : (n : ℕ) (u : UnderWay State) (r : Run State) (left : List ℕ) → (after_turns width ends u r).left ≡ left → AreLines Good u → IsShort n u → AreTurns ends Good kept r.turns (begins u)
+      → ArePossibleIf width ends Good kept left (after_turns width ends u r) r.moves → killed_if width ends left n ≤ 5 → Goes n u r left
   goes n u r [] e lines short turns p few =
-      let s = stood width ends u r in
+      let s = after_turns width ends u r in
       let clean = begins_cleanly ends Good kept is u r.turns lines turns (short_word n u short) e in
       let good = (left_lines ends Good kept is u r.turns lines turns).good in
       let after = runs_leave_good ends Good kept is width narrow (leaves s) (clean_lines s good clean) r.moves p in
@@ -94,8 +94,8 @@ module _ {State : Type 0} (ends : Ends State) (Good : State → Type 0) (kept : 
   all_own : (rs : List (Run State)) (n : ℕ) (u : UnderWay State) → AreLines Good u → IsShort n u → AreRuns width ends Good kept u rs → AreFewKilled width ends n u rs → AreOwn width ends Good kept u rs
   all_own [] n u lines short runs few = tt
   all_own (r ∷ rs) n u lines short runs few =
-      let one = goes n u r (stood width ends u r).left refl lines short runs.0.0 runs.0.1 few.0 in
-      (one.own, all_own rs (killed_if width ends (stood width ends u r).left n) (left_by_run width ends u r) one.lines one.short runs.1 few.1)
+      let one = goes n u r (after_turns width ends u r).left refl lines short runs.0.0 runs.0.1 few.0 in
+      (one.own, all_own rs (killed_if width ends (after_turns width ends u r).left n) (left_by_run width ends u r) one.lines one.short runs.1 few.1)
 
   -- runs one after the other are their own, after an `IsRow`, as long as few are killed while they synchronize
   pub runs_are_their_own : (u : UnderWay State) → AreLines Good u → IsRow u → (rs : List (Run State)) → AreRuns width ends Good kept u rs

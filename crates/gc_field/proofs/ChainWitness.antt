@@ -12,7 +12,7 @@ use Rattle.gc_station.specs.Links.{AreChained}
 use Rattle.gc_world.proofs.Options.{some_is}
 use Rattle.gc_field.specs.Plain.{plain_task}
 use Rattle.gc_field.specs.ChainWitness.{IsPointedInField, acts, before, commands, measures, moves, runs, scope}
-use Rattle.gc_field.specs.Pointing.{AreStill, turns}
+use Rattle.gc_field.specs.Pointing.{AreStill, turns_telescope}
 use Rattle.gc_field.proofs.Witness.{asked_each, fits, one_part, opens, run_on, units}
 use Rattle.gc_station.specs.Parts.{parts_of}
 use Rattle.gc_station.specs.Model.{opening}
@@ -34,7 +34,7 @@ none_turns : AreStill commands 0 2
 none_turns zero task above under e = absurd (omega (arith, above))
 none_turns (suc zero) task above under e =
     let one : Task = plain_task (record { target = 7; call = measures }) 100 true in
-    ap (λ (t : Task). turns t.command.call) (sym (some_is one task e))
+    ap (λ (t : Task). turns_telescope t.command.call) (sym (some_is one task e))
 none_turns (suc (suc p)) task above under e = absurd (omega (arith, under))
 
 -- the run's parts: one, with the requests by place and moment
@@ -47,7 +47,7 @@ shown_are : shown ends eight (begins before) ≡ asked_each replies
 unfolding is_elsewhere header_at reply_at handed exec digits rounded
 shown_are = refl
 
--- this run of a chain is in the field, and the telescope points if the first command pointed it
+-- this run of a chain is in the field, and the telescope points where the first command pointed it
 pub chain : IsPointedInField
 unfolding is_elsewhere header_at reply_at handed exec digits rounded
 chain =

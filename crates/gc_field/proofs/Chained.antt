@@ -25,6 +25,8 @@ use Rattle.gc_station.specs.Runs.{state_after}
 use Rattle.gc_station.specs.Scopes.{Scope}
 use Rattle.gc_station.specs.Model.{Runs, opening}
 use Rattle.gc_station.proofs.Booking.{of_length}
+use Rattle.gc_station.proofs.Lists.{all_at, get_more}
+use Rattle.gc_station.proofs.OnePart.{runs_front}
 use Rattle.gc_world.specs.Clients.{by_ids}
 use Rattle.gc_field.specs.World.{Ends, Up_deliver}
 use Rattle.gc_world.proofs.Options.{some_is, none_is_not}
@@ -32,7 +34,7 @@ use Rattle.gc_world.proofs.Places.{below}
 use Rattle.gc_field.specs.Begin.{AreTurns, UnderWay, begins, leaves, turned}
 use Rattle.gc_field.specs.Begin.{Model as Begins}
 use Rattle.gc_field.specs.Beginnings.{ArePossibleIf, AreRuns, Run, left_by_run}
-use Rattle.gc_field.specs.Beginnings.{stood as stood_by}
+use Rattle.gc_field.specs.Beginnings.{after_turns as stood_by}
 use Rattle.gc_field.specs.Begun.{IsSafe, WasMadeOn, behind, ids_begun}
 use Rattle.gc_field.specs.Chains.{AreExecutedInChain, IsChainedTo, IsExecutedInChain}
 use Rattle.gc_field.specs.Field.{Move, Sends, Tells, Comes, Foreign, OnLine, Anew, Changes, Joins, ArePossible, seen}
@@ -46,7 +48,7 @@ use Rattle.gc_field.proofs.Possible.{possible_front}
 use Rattle.gc_field.proofs.Among.{get_drop}
 use Rattle.gc_field.proofs.Joining.{AllFit, Fits, all_fitting, run_faithful, safe_at, safe_in}
 use Rattle.gc_field.proofs.Ordered.{executed_behind}
-use Rattle.gc_field.proofs.PartFronts.{IsFront, front_parts, runs_front, front_last, AreWhole, LastIsMarked, marked, last_marked, whole_parts}
+use Rattle.gc_field.proofs.PartFronts.{IsFront, front_parts, front_last, AreWhole, LastIsMarked, marked, last_marked, whole_parts}
 
 -- The stretches of a front.
 
@@ -183,22 +185,10 @@ module _ {State : Type 0} (ends : Ends State) (Good : State → Type 0) (kept : 
 
 -- What is at a place.
 
--- what holds of all elements holds of the one at a place
-all_at : {A : Type 0} (P : A → Type 0) (xs : List A) (k : ℕ) (x : A) → AllByRecursion P xs → slice_get xs k ≡ Some x → P x
-all_at P [] k x h e = absurd (none_is_not x e)
-all_at P (y ∷ xs) zero x h e = subst P (some_is y x e) h.0
-all_at P (y ∷ xs) (suc k) x h e = all_at P xs k x h.1 e
-
 -- where P implies Q, and all elements have P, all have Q
-all_so : {A : Type 0} (P Q : A → Type 0) → ((x : A) → P x → Q x) → (xs : List A) → AllByRecursion P xs → AllByRecursion Q xs
+pub all_so : {A : Type 0} (P Q : A → Type 0) → ((x : A) → P x → Q x) → (xs : List A) → AllByRecursion P xs → AllByRecursion Q xs
 all_so P Q f [] h = tt
 all_so P Q f (x ∷ xs) h = (f x h.0, all_so P Q f xs h.1)
-
--- what is at a place of a list is there when another list follows
-in_more : {A : Type 0} (xs ys : List A) (i : ℕ) (x : A) → slice_get xs i ≡ Some x → slice_get (xs ++ ys) i ≡ Some x
-in_more [] ys i x e = absurd (none_is_not x e)
-in_more (y ∷ xs) ys zero x e = e
-in_more (y ∷ xs) ys (suc i) x e = in_more xs ys i x e
 
 -- what is at a place of the first of two lists in a row, if that has so many, is there in it
 in_front_at : {A : Type 0} (xs ys : List A) (i : ℕ) (x : A) → i < length xs → slice_get (xs ++ ys) i ≡ Some x → slice_get xs i ≡ Some x
@@ -352,7 +342,7 @@ module _ {State : Type 0} (ends : Ends State) (Good : State → Type 0) (kept : 
       subst (λ l. IsFront (parts plan commands scope sent.before) (parts plan commands scope l)) (sym sent.order) (front_parts plan commands (opening plan scope) sent.before sent.rest) in
       let more = front_last (parts plan commands scope sent.before) (parts plan commands scope acts) u.k sent.first u.part front sent.last sent.of_parts u.of_parts in
       let mark_a : slice_get u.part.marks back.m ≡ Some (Some (mark_of back.expected back.answer)) =
-      ap (λ (p : Part). slice_get p.marks back.m) more.1 ∙ in_more sent.first.marks more.0.marks back.m (Some (mark_of back.expected back.answer)) back.mark in
+      ap (λ (p : Part). slice_get p.marks back.m) more.1 ∙ get_more sent.first.marks more.0.marks back.m (Some (mark_of back.expected back.answer)) back.mark in
       let small : back.m < length sent.first.marks = below sent.first.marks back.m (Some (mark_of back.expected back.answer)) back.mark in
       let grown = records_stay plan commands scope sent.before sent.rest in
       let same_cycle : back.answer.cycle ≡ b.cycle = back.own_cycle in
@@ -364,7 +354,7 @@ module _ {State : Type 0} (ends : Ends State) (Good : State → Type 0) (kept : 
         k = back.k;
         record_a = back.answer;
         among = ap (λ l. slice_get (state_after plan commands scope l).records back.k) sent.order ∙ ap (λ l. slice_get l back.k) grown.1
-            ∙ in_more (state_after plan commands scope sent.before).records grown.0 back.k back.answer back.among;
+            ∙ get_more (state_after plan commands scope sent.before).records grown.0 back.k back.answer back.among;
         cycle = same_cycle;
         place = back.own_place;
         line_a = back.line;

@@ -14,7 +14,7 @@ use Rattle.gc_texts.specs.declared.tasks.Task.{Task}
 use Rattle.gc_world.proofs.Options.{some_is}
 use Rattle.gc_field.specs.ChainWitness.{commands, points, reads_all, scope}
 use Rattle.gc_field.specs.Chains.{HasEffect}
-use Rattle.gc_field.specs.CountingChain.{Counter, IsCountedInField, acts, bare, before, begun, counted_or, counting, counts, first, kept_by, moves, runs, stretch, third}
+use Rattle.gc_field.specs.CountingChain.{Counter, IsCountedInField, acts, bare, before, null_replies, counted_or, counting, counts, first, kept_by, moves, runs, stretch, third}
 use Rattle.gc_field.specs.Instrument.{IsAnInstrument, KeepsItsReply, AnyState, all_known}
 use Rattle.gc_field.specs.Begun.{WasMadeOn}
 use Rattle.gc_field.specs.Needed.{Keeper, held, kept, value}
@@ -97,7 +97,7 @@ effect =
 -- a connection is made and cleared, and all eight null procedures are answered by the counting instrument, whatever is to be asked
 pub opens_counting :
     (width : ℕ) (tasks : List Task) (reads : Asked → List ℕ → Reading)
-    → Runs (plan_of width) tasks (opening (plan_of width) (record { turns = 100; reads = reads })) (begun_with begun [])
+    → Runs (plan_of width) tasks (opening (plan_of width) (record { turns = 100; reads = reads })) (begun_with null_replies [])
 unfolding is_elsewhere header_at reply_at digits
 opens_counting width tasks reads =
     (tt, (refl, (tt, (refl, (tt, (tt, (refl, (tt, (tt, (refl, (tt, (tt, (refl, (tt, (tt, (refl, (tt, (tt, (refl, (tt, (tt, (refl, (tt, (tt, (refl, (tt, (tt, tt)))))))))))))))))))))))))))
@@ -113,12 +113,12 @@ unfolding is_elsewhere header_at reply_at digits
 third_made = record { front = take 13 moves; later = drop 14 moves; split = refl; id = 2; rest = []; reaches = refl; executed = refl; reply = refl }
 
 -- the run has one part: its turns, steps, and the three requests by place and moment
-parts_are : parts_of plan commands (opening plan scope) acts ≡ one_part (asked_each begun) (seen moves) ((0, 15) ∷ (1, 20) ∷ (2, 25) ∷ [])
+parts_are : parts_of plan commands (opening plan scope) acts ≡ one_part (asked_each null_replies) (seen moves) ((0, 15) ∷ (1, 20) ∷ (2, 25) ∷ [])
 unfolding is_elsewhere header_at reply_at digits
 parts_are = refl
 
 -- what the line does while the station synchronizes shows these turns
-shown_are : shown counting eight (begins before) ≡ asked_each begun
+shown_are : shown counting eight (begins before) ≡ asked_each null_replies
 unfolding is_elsewhere header_at reply_at digits
 shown_are = refl
 

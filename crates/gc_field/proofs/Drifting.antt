@@ -11,7 +11,7 @@ use Rattle.gc_client.specs.Rule.{id_in}
 use Rattle.gc_field.specs.Instrument.{IsAnInstrument, AnyState, nothing}
 use Rattle.gc_field.specs.Begin.{begins, leaves, none_under_way, turned}
 use Rattle.gc_field.specs.Begun.{WasMadeOn}
-use Rattle.gc_field.specs.Drifting.{IsAnsweredByDrifting, acts, answer, begun, commands, drifting, moves, plan, runs, scope, turns}
+use Rattle.gc_field.specs.Drifting.{IsAnsweredByDrifting, acts, answer, null_replies, commands, drifting, moves, plan, runs, scope, turns}
 use Rattle.gc_texts.specs.Nears.{is_elsewhere}
 use Rattle.gc_station.specs.Parts.{parts_of}
 use Rattle.gc_station.specs.Model.{after_all, opening}
@@ -41,12 +41,12 @@ module _ (raw : RawCall) where
   was_made = record { front = take 11 (moves raw); later = drop 12 (moves raw); split = refl; id = 1; rest = []; reaches = refl; executed = refl; reply = refl }
 
   -- the run has one part: its turns, steps, and the two requests by place and moment
-  parts_are : parts_of plan (commands raw) (opening plan scope) (acts raw) ≡ one_part (part.Asks ∷ part.Asks ∷ asked_each begun) (seen (moves raw)) ((0, 220) ∷ (1, 320) ∷ [])
+  parts_are : parts_of plan (commands raw) (opening plan scope) (acts raw) ≡ one_part (part.Asks ∷ part.Asks ∷ asked_each null_replies) (seen (moves raw)) ((0, 220) ∷ (1, 320) ∷ [])
   unfolding is_elsewhere header_at reply_at digits
   parts_are = refl
 
   -- what the line does while the station synchronizes shows these turns
-  shown_are : shown drifting turns (begins (none_under_way 5)) ≡ part.Asks ∷ part.Asks ∷ asked_each begun
+  shown_are : shown drifting turns (begins (none_under_way 5)) ≡ part.Asks ∷ part.Asks ∷ asked_each null_replies
   unfolding is_elsewhere header_at reply_at digits
   shown_are = refl
 

@@ -24,7 +24,7 @@ use Rattle.gc_values.specs.Whole.{signed_text}
 use Rattle.gc_values.specs.Written.{minus_text, whole_text, behind_text, written}
 use Rattle.gc_values.specs.declared.value.Value.{Value}
 use Rattle.gc_values.specs.declared.value.Value.TheVariants as value
-use Rattle.gc_values.proofs.WrittenSpells.{writes_whole, behind}
+use Rattle.gc_values.proofs.WrittenSpells.{writes_whole, is_fraction_text}
 use Rattle.gc_catalogue.specs.Calls.{call_fields, IsFitting}
 use Rattle.gc_catalogue.specs.Lists.{behind_commas, params_of}
 use Rattle.gc_catalogue.specs.declared.call.Call.{Call}
@@ -91,7 +91,7 @@ above_written : (m : ℤ) (s : ℕ) → AreAbove (written m s)
 above_written m s =
     let n = unsigned_abs m in
     joined (λ b. 37 < b) (minus_text m) (whole_text (n / 10 ^ s) ++ (46 ∷ behind_text s (n % 10 ^ s))) (above_minus m)
-    (joined (λ b. 37 < b) (whole_text (n / 10 ^ s)) (46 ∷ behind_text s (n % 10 ^ s)) (above_whole (n / 10 ^ s)) (lit< tt, above_digits (behind_text s (n % 10 ^ s)) (behind n s).digits))
+    (joined (λ b. 37 < b) (whole_text (n / 10 ^ s)) (46 ∷ behind_text s (n % 10 ^ s)) (above_whole (n / 10 ^ s)) (lit< tt, above_digits (behind_text s (n % 10 ^ s)) (is_fraction_text n s).digits))
 
 -- a hexadecimal digit is above the sign
 above_digit : (d : ℕ) → d < 16 → 37 < slice_index lower_digits d

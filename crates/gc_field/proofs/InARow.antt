@@ -8,7 +8,7 @@ use Rattle.gc_client.specs.Rule.{heard}
 use Rattle.gc_instrument.specs.State.{KeptReply}
 use Rattle.gc_field.specs.World.{Ends, Request}
 use Rattle.gc_field.specs.Begin.{Aged, AreLines, AreTurns, Turn, UnderWay, begins, ids_under_way, leaves}
-use Rattle.gc_field.specs.Beginnings.{ArePossibleIf, AreRuns, IsRow, Run, left_by_run, stood}
+use Rattle.gc_field.specs.Beginnings.{ArePossibleIf, AreRuns, IsRow, Run, left_by_run, after_turns}
 use Rattle.gc_field.specs.Field.{Move}
 use Rattle.gc_field.specs.InARow.{AreFaithful, AreFew, AreInARow, Program, killed_by, killed_over, left_over}
 use Rattle.gc_field.specs.Instrument.{IsAnInstrument}
@@ -17,7 +17,7 @@ use Rattle.gc_field.proofs.BegunRuns.{IsShort, goes, short_row, short_word}
 use Rattle.gc_field.proofs.Joining.{run_faithful}
 
 -- lines that are marked as old, without the marks, are the same lines
-same_lines : {Line : Type 0} (xs : List Line) → map (λ (x : Aged Line). x.line) (map (λ x. record { old = true; line = x }) xs) ≡ xs
+pub same_lines : {Line : Type 0} (xs : List Line) → map (λ (x : Aged Line). x.line) (map (λ x. record { old = true; line = x }) xs) ≡ xs
 same_lines [] = refl
 same_lines (x ∷ xs) = ap (λ l. x ∷ l) (same_lines xs)
 
@@ -33,7 +33,7 @@ module _ {State : Type 0} (ends : Ends State) (Good : State → Type 0) (kept : 
   -- what one run of a station leaves in flight is `AreLines`, and `IsShort` by the number of runs in a row that were killed
   -- while they synchronized
   step : (ts : List (Turn State)) (ms : List (Move State)) (n : ℕ) (u : UnderWay State) → AreLines Good u → IsShort n u → AreTurns ends Good kept ts (begins u)
-      → ArePossibleIf 7 ends Good kept (stood 7 ends u (run ts ms)).left (stood 7 ends u (run ts ms)) ms → killed_by ends n u (run ts ms) ts ≤ 5
+      → ArePossibleIf 7 ends Good kept (after_turns 7 ends u (run ts ms)).left (after_turns 7 ends u (run ts ms)) ms → killed_by ends n u (run ts ms) ts ≤ 5
       → AreLines Good (left_by_run 7 ends u (run ts ms)) × IsShort (killed_by ends n u (run ts ms) ts) (left_by_run 7 ends u (run ts ms))
   step [] ms n u lines short turns p few = (
     left_lines ends Good kept is u [] lines tt,
@@ -41,7 +41,7 @@ module _ {State : Type 0} (ends : Ends State) (Good : State → Type 0) (kept : 
   )
   step (t ∷ ts) ms n u lines short turns p few =
       let r = run (t ∷ ts) ms in
-      let one = goes ends Good kept is 7 (omega arith) n u r (stood 7 ends u r).left refl lines short turns p few in
+      let one = goes ends Good kept is 7 (omega arith) n u r (after_turns 7 ends u r).left refl lines short turns p few in
       (one.lines, one.short)
 
   -- what all runs of a station leave in flight is `AreLines`, and `IsShort` by the number of runs in a row that were killed

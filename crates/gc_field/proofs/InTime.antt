@@ -20,7 +20,7 @@ use Rattle.gc_field.specs.Begun.{IsClean, IsFaithful, behind, ids_begun, nulls_s
 use Rattle.gc_field.specs.Field.{Move, Sends, Tells, Comes, Foreign, OnLine, Anew, Changes, Joins, moves, moved, ArePossible, seen}
 use Rattle.gc_field.specs.Instrument.{IsAnInstrument}
 use Rattle.gc_field.specs.Laws.{asked}
-use Rattle.gc_field.specs.Runs.{IsFaithfulThroughout, IsInTime, gives_up, world}
+use Rattle.gc_field.specs.Runs.{IsFaithfulThroughout, IsInTime, times_out, world}
 use Rattle.gc_field.specs.Shown.{Stretch}
 use Rattle.gc_field.proofs.Instruments.{exchange_of}
 use Rattle.gc_field.proofs.Possible.{moved_append, possible_front, possible_behind}
@@ -201,7 +201,7 @@ module _ {State : Type 0} (ends : Ends State) (Good : State → Type 0) (kept : 
       let waits : Waits (behind 7 ends s.from front) n (after_moves p between) =
       subst (λ (v : World (ById Asked) State). Waits v n (after_moves p between)) (sym (moved_append 7 ends before (Sends target call deadline ∷ between) (ids_begun s.from)))
       (waits_all ends Good kept between (moves ends (by_ids 7 ends) w (Sends target call deadline)) n p possible.1 (sent_waits s.from before target call deadline f room)) in
-      let same : m.0 ≡ record p { given_up = gives_up deadline between } = some_pending m.0 (record p { given_up = gives_up deadline between }) (sym m.1 ∙ waits le ∙ ap Some (after_is p between)) in
+      let same : m.0 ≡ record p { given_up = times_out deadline between } = some_pending m.0 (record p { given_up = times_out deadline between }) (sym m.1 ∙ waits le ∙ ap Some (after_is p between)) in
       m.2 ∙ ap (λ q. Some (met q line)) same
 
   -- a sound stretch is in time

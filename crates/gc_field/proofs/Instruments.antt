@@ -51,7 +51,7 @@ alike_is e Good kept is alike =
 -- The simulator.
 
 -- if the kept line for an id is this one (`kept_line`), this line is kept, with that id
-kept_own : (k : Option KeptReply) (id : ℕ) (line : List ℕ) → kept_line k (Some id) ≡ Some line → k ≡ Some (record { id = id; line = line })
+pub kept_own : (k : Option KeptReply) (id : ℕ) (line : List ℕ) → kept_line k (Some id) ≡ Some line → k ≡ Some (record { id = id; line = line })
 kept_own None id line e = let never : ⊥ = cc in absurd never
 kept_own (Some k) id line e = chosen (eqb k.id id) refl e where
   chosen : (b : Bool) → eqb k.id id ≡ b → cond b (Some k.line) None ≡ Some line → Some k ≡ Some (record { id = id; line = line })

@@ -32,6 +32,7 @@ use Rattle.gc_station.proofs.Booking.{Books, client_after, settled_by, sent_by, 
 use Rattle.gc_station.proofs.EachRun.{fine_opening, each_once}
 use Rattle.gc_station.proofs.Following.{BooksInParts, follows}
 use Rattle.gc_station.proofs.Meets.{was_answered, was_late}
+use Rattle.gc_station.proofs.Lists.{all_append}
 use Rattle.gc_station.specs.Scopes.{Scope}
 use Rattle.gc_world.specs.Clients.{by_ids}
 use Rattle.gc_world.specs.Record.{IsReplyTo}
@@ -40,12 +41,12 @@ use Rattle.gc_world.proofs.Places.{below}
 use Rattle.gc_field.specs.World.{Ends}
 use Rattle.gc_field.specs.Begin.{AreLines, AreTurns, UnderWay, begins, ids_under_way, leaves, turned}
 use Rattle.gc_field.specs.Beginnings.{AreOwn, ArePossibleIf, AreRuns, IsOwnIf, Run, left_by_run, left_if, on_line}
-use Rattle.gc_field.specs.Beginnings.{stood as stood_by}
+use Rattle.gc_field.specs.Beginnings.{after_turns as stood_by}
 use Rattle.gc_field.specs.Begun.{IsClean, IsFaithful, IsSafe, WasMadeOn, behind, ids_begun}
 use Rattle.gc_field.specs.Field.{ArePossible, seen}
 use Rattle.gc_field.specs.Instrument.{IsAnInstrument}
 use Rattle.gc_field.specs.Laws.{asked}
-use Rattle.gc_field.specs.Runs.{IsInField, IsItsOwn, IsOwnAnswer, IsDealtWith, IsRunFaithful, IsFaithfulThroughout, IsInTime, AreSentAs, own_sent, own_settled, world, written_over}
+use Rattle.gc_field.specs.Runs.{IsInField, IsOwnAnswer, LateHasExecution, IsRunFaithful, IsFaithfulThroughout, IsInTime, AreSentAs, own_sent, own_settled, world, written_over}
 use Rattle.gc_field.specs.Shown.{AreShownAs, Stretch, shown, stretches}
 use Rattle.gc_field.proofs.BeginJoin.{begins_cleanly, left_lines}
 use Rattle.gc_field.proofs.BegunFaithful.{sent_is}
@@ -56,7 +57,8 @@ use Rattle.gc_field.proofs.Meant.{are_meant}
 use Rattle.gc_field.proofs.Safe.{goes_out}
 use Rattle.gc_field.proofs.Shown.{left_is}
 use Rattle.gc_field.proofs.Unbegun.{faithful_none}
-use Rattle.gc_field.proofs.Among.{among_settled, among_late, asked_at, all_append, get_drop, map_drop}
+use Rattle.gc_field.proofs.Timeless.{all_later, all_timeless, late_all_later, late_timeless}
+use Rattle.gc_field.proofs.Among.{among_settled, among_late, asked_at, get_drop, map_drop}
 use Rattle.gc_field.proofs.Once.{true_is_not}
 
 module _ {State : Type 0} (ends : Ends State) (Good : State → Type 0) (kept : State → Option KeptReply) (is : IsAnInstrument ends Good kept) where
@@ -259,66 +261,6 @@ module _ {State : Type 0} (ends : Ends State) (Good : State → Type 0) (kept : 
 
   -- Its own.
 
-  -- an answer that is its own in the later stretches is its own in these with one more before it
-  own_later : (commands : List Task) (p : Part) (s : Stretch State) (ps : List Part) (ss : List (Stretch State)) (r : Record) (line : List ℕ)
-      → IsItsOwn ends Good kept commands ps ss r line → IsItsOwn ends Good kept commands (p ∷ ps) (s ∷ ss) r line
-  own_later commands p s ps ss r line h = record {
-    k = suc h.k;
-    part = h.part;
-    stretch = h.stretch;
-    of_parts = h.of_parts;
-    of_stretches = h.of_stretches;
-    m = h.m;
-    expected = h.expected;
-    mark = h.mark;
-    request = h.request;
-    sent = h.sent;
-    task = h.task;
-    listed = h.listed;
-    asks = h.asks;
-    settled = h.settled;
-    made = h.made;
-    reply = h.reply;
-    executed = h.executed;
-    made_on = h.made_on;
-  }
-
-  -- whether an answer is its own doesn't depend on the moment at which it was recorded
-  own_timeless : (commands : List Task) (ps : List Part) (ss : List (Stretch State)) (r : Record) (line : List ℕ)
-      → IsItsOwn ends Good kept commands ps ss (timeless r) line → IsItsOwn ends Good kept commands ps ss r line
-  own_timeless commands ps ss r line h = record {
-    k = h.k;
-    part = h.part;
-    stretch = h.stretch;
-    of_parts = h.of_parts;
-    of_stretches = h.of_stretches;
-    m = h.m;
-    expected = h.expected;
-    mark = h.mark;
-    request = h.request;
-    sent = h.sent;
-    task = h.task;
-    listed = h.listed;
-    asks = h.asks;
-    settled = h.settled;
-    made = h.made;
-    reply = h.reply;
-    executed = h.executed;
-    made_on = h.made_on;
-  }
-
-  -- whether answers are their own doesn't depend on the moments at which they were recorded
-  all_timeless : (commands : List Task) (ps : List Part) (ss : List (Stretch State)) (rs : List Record)
-      → AllByRecursion (IsOwnAnswer ends Good kept commands ps ss) (map timeless rs) → AllByRecursion (IsOwnAnswer ends Good kept commands ps ss) rs
-  all_timeless commands ps ss [] h = tt
-  all_timeless commands ps ss (r ∷ rs) h = (λ line answered. own_timeless commands ps ss r line (h.0 line answered), all_timeless commands ps ss rs h.1)
-
-  -- answers that are their own in the later stretches are their own in these with one more before it
-  all_later : (commands : List Task) (p : Part) (s : Stretch State) (ps : List Part) (ss : List (Stretch State)) (rs : List Record)
-      → AllByRecursion (IsOwnAnswer ends Good kept commands ps ss) rs → AllByRecursion (IsOwnAnswer ends Good kept commands (p ∷ ps) (s ∷ ss)) rs
-  all_later commands p s ps ss [] h = tt
-  all_later commands p s ps ss (r ∷ rs) h = (λ line answered. own_later commands p s ps ss r line (h.0 line answered), all_later commands p s ps ss rs h.1)
-
   -- the answers among what the first stretch settled, and what was lost then, are their own
   own_first : (reads : Asked → List ℕ → Reading) (commands : List Task) (p : Part) (s : Stretch State) (ps : List Part) (ss : List (Stretch State))
       (waiting : List (Pending Asked)) (xs : List (Settlement Asked)) → xs ≡ own_settled ends s ++ map lost waiting → Fits p s → IsSafePart p s
@@ -370,7 +312,7 @@ module _ {State : Type 0} (ends : Ends State) (Good : State → Type 0) (kept : 
       let xs = own_settled ends s ++ map lost (world ends s).client.waiting in
       all_append (IsOwnAnswer ends Good kept commands (p ∷ q ∷ ps) (s ∷ t ∷ ss)) (records_of reads 0 p.marks xs) (written_over ends reads (q ∷ ps) (t ∷ ss))
       (own_first reads commands p s (q ∷ ps) (t ∷ ss) (world ends s).client.waiting xs refl f.0 g.0 h.0)
-      (all_later commands p s (q ∷ ps) (t ∷ ss) (written_over ends reads (q ∷ ps) (t ∷ ss)) (own_all reads commands (q ∷ ps) (t ∷ ss) f.1 g.1 h.1))
+      (all_later ends Good kept commands p s (q ∷ ps) (t ∷ ss) (written_over ends reads (q ∷ ps) (t ∷ ss)) (own_all reads commands (q ∷ ps) (t ∷ ss) f.1 g.1 h.1))
 
   -- A command that wasn't sent has no answer.
 
@@ -397,66 +339,15 @@ module _ {State : Type 0} (ends : Ends State) (Good : State → Type 0) (kept : 
     by_case true out others g = (g.0, others g.1)
     by_case false out others g = (unsent_own commands ps ss r out, others g)
 
-  -- Dealt with, though late.
+  -- Executed, though late.
 
-  -- if the instrument dealt with a late record in the later stretches, it did so in these stretches with one more before it
-  late_later : (commands : List Task) (p : Part) (s : Stretch State) (ps : List Part) (ss : List (Stretch State)) (r : Record)
-      → IsDealtWith ends Good kept commands ps ss r → IsDealtWith ends Good kept commands (p ∷ ps) (s ∷ ss) r
-  late_later commands p s ps ss r f = λ late.
-      let h = f late in
-      record {
-        k = suc h.k;
-        part = h.part;
-        stretch = h.stretch;
-        of_parts = h.of_parts;
-        of_stretches = h.of_stretches;
-        m = h.m;
-        expected = h.expected;
-        mark = h.mark;
-        task =
-            h.task;
-        listed = h.listed;
-        line = h.line;
-        made_on = h.made_on;
-      }
-
-  -- if the instrument dealt with all late records in the later stretches, it did so in these stretches with one more before it
-  late_all_later : (commands : List Task) (p : Part) (s : Stretch State) (ps : List Part) (ss : List (Stretch State)) (rs : List Record)
-      → AllByRecursion (IsDealtWith ends Good kept commands ps ss) rs → AllByRecursion (IsDealtWith ends Good kept commands (p ∷ ps) (s ∷ ss)) rs
-  late_all_later commands p s ps ss [] h = tt
-  late_all_later commands p s ps ss (r ∷ rs) h = (late_later commands p s ps ss r h.0, late_all_later commands p s ps ss rs h.1)
-
-  -- whether the instrument dealt with late records doesn't depend on the moments at which they were recorded
-  late_timeless : (commands : List Task) (ps : List Part) (ss : List (Stretch State)) (rs : List Record)
-      → AllByRecursion (IsDealtWith ends Good kept commands ps ss) (map timeless rs) → AllByRecursion (IsDealtWith ends Good kept commands ps ss) rs
-  late_timeless commands ps ss [] h = tt
-  late_timeless commands ps ss (r ∷ rs) h = (
-    (λ late. let g = h.0 late in
-        record {
-          k = g.k;
-          part = g.part;
-          stretch = g.stretch;
-          of_parts = g.of_parts;
-          of_stretches = g.of_stretches;
-          m = g.m;
-          expected = g.expected;
-          mark = g.mark;
-          task =
-              g.task;
-          listed = g.listed;
-          line = g.line;
-          made_on = g.made_on;
-        }),
-    late_timeless commands ps ss rs h.1,
-  )
-
-  -- the instrument dealt with the late records among those that the first stretch records
+  -- the commands of the late records among those that the first stretch records were executed
   late_first : (reads : Asked → List ℕ → Reading) (commands : List Task) (p : Part) (s : Stretch State) (ps : List Part) (ss : List (Stretch State))
       (waiting : List (Pending Asked)) (xs : List (Settlement Asked)) → xs ≡ own_settled ends s ++ map lost waiting → Fits p s → IsSafePart p s
       → AreOf commands p.marks (map asked (own_sent ends s))
-      → AllByRecursion (IsDealtWith ends Good kept commands (p ∷ ps) (s ∷ ss)) (records_of reads 0 p.marks xs)
+      → AllByRecursion (LateHasExecution ends Good kept commands (p ∷ ps) (s ∷ ss)) (records_of reads 0 p.marks xs)
   late_first reads commands p s ps ss waiting xs e f safe sent =
-      all_records reads (IsDealtWith ends Good kept commands (p ∷ ps) (s ∷ ss)) p.marks xs
+      all_records reads (LateHasExecution ends Good kept commands (p ∷ ps) (s ∷ ss)) p.marks xs
       (λ n mark x at got says.
       let late : x.outcome ≡ Late = was_late (record_of reads 0 mark x) x (record { reads = reads; expected = mark.expected; command = refl; ended = refl }) says in
       let here = among_late (own_settled ends s) waiting n x (sym (ap (λ l. slice_get l n) e) ∙ got) late in
@@ -482,9 +373,9 @@ module _ {State : Type 0} (ends : Ends State) (Good : State → Type 0) (kept : 
         made_on = subst (λ call. WasMadeOn 7 ends s.from s.moves (8 + n) call made.0) right made.1;
       })
 
-  -- the instrument dealt with all late records that the stretches record
+  -- the commands of all late records that the stretches record were executed
   pub late_all : (reads : Asked → List ℕ → Reading) (commands : List Task) (ps : List Part) (ss : List (Stretch State)) → AllFit ps ss → AllSafe ps ss
-      → AreSentAs ends commands ps ss → AllByRecursion (IsDealtWith ends Good kept commands ps ss) (written_over ends reads ps ss)
+      → AreSentAs ends commands ps ss → AllByRecursion (LateHasExecution ends Good kept commands ps ss) (written_over ends reads ps ss)
   late_all reads commands [] [] f g h = tt
   late_all reads commands [] (s ∷ ss) f g h = tt
   late_all reads commands (p ∷ ps) [] f g h = absurd f
@@ -493,18 +384,18 @@ module _ {State : Type 0} (ends : Ends State) (Good : State → Type 0) (kept : 
   late_all reads commands (p ∷ q ∷ ps) (s ∷ []) f g h = absurd f.1
   late_all reads commands (p ∷ q ∷ ps) (s ∷ t ∷ ss) f g h =
       let xs = own_settled ends s ++ map lost (world ends s).client.waiting in
-      all_append (IsDealtWith ends Good kept commands (p ∷ q ∷ ps) (s ∷ t ∷ ss)) (records_of reads 0 p.marks xs) (written_over ends reads (q ∷ ps) (t ∷ ss))
+      all_append (LateHasExecution ends Good kept commands (p ∷ q ∷ ps) (s ∷ t ∷ ss)) (records_of reads 0 p.marks xs) (written_over ends reads (q ∷ ps) (t ∷ ss))
       (late_first reads commands p s (q ∷ ps) (t ∷ ss) (world ends s).client.waiting xs refl f.0 g.0 h.0)
-      (late_all_later commands p s (q ∷ ps) (t ∷ ss) (written_over ends reads (q ∷ ps) (t ∷ ss)) (late_all reads commands (q ∷ ps) (t ∷ ss) f.1 g.1 h.1))
+      (late_all_later ends Good kept commands p s (q ∷ ps) (t ∷ ss) (written_over ends reads (q ∷ ps) (t ∷ ss)) (late_all reads commands (q ∷ ps) (t ∷ ss) f.1 g.1 h.1))
 
-  -- if the instrument dealt with all late records of commands that were sent, it dealt with all late records: no other command
+  -- if the commands of all late records that were sent were executed, those of all late records were: no other command
   -- is late
   late_sent : (commands : List Task) (ps : List Part) (ss : List (Stretch State)) (rs : List Record)
-      → AllByRecursion (IsDealtWith ends Good kept commands ps ss) (sent_of rs) → AllByRecursion (IsDealtWith ends Good kept commands ps ss) rs
+      → AllByRecursion (LateHasExecution ends Good kept commands ps ss) (sent_of rs) → AllByRecursion (LateHasExecution ends Good kept commands ps ss) rs
   late_sent commands ps ss [] h = tt
   late_sent commands ps ss (r ∷ rs) h = by_case (went_out r.end) refl (late_sent commands ps ss rs) h where
-    by_case : (b : Bool) → went_out r.end ≡ b → (AllByRecursion (IsDealtWith ends Good kept commands ps ss) (sent_of rs) → AllByRecursion (IsDealtWith ends Good kept commands ps ss) rs)
-        → AllByRecursion (IsDealtWith ends Good kept commands ps ss) (sent_with b r (sent_of rs)) → AllByRecursion (IsDealtWith ends Good kept commands ps ss) (r ∷ rs)
+    by_case : (b : Bool) → went_out r.end ≡ b → (AllByRecursion (LateHasExecution ends Good kept commands ps ss) (sent_of rs) → AllByRecursion (LateHasExecution ends Good kept commands ps ss) rs)
+        → AllByRecursion (LateHasExecution ends Good kept commands ps ss) (sent_with b r (sent_of rs)) → AllByRecursion (LateHasExecution ends Good kept commands ps ss) (r ∷ rs)
     by_case true out others g = (g.0, others g.1)
     by_case false out others g = ((λ late. let never : true ≡ false = sym (ap went_out late) ∙ out in absurd (true_is_not never)), others g)
 
@@ -545,10 +436,10 @@ module _ {State : Type 0} (ends : Ends State) (Good : State → Type 0) (kept : 
       record {
         begun = parts_begun plan commands start acts h.runs;
         clean = fit.1;
-        own = all_sent commands ps ss end.records (all_timeless commands ps ss (sent_of end.records)
+        own = all_sent commands ps ss end.records (all_timeless ends Good kept commands ps ss (sent_of end.records)
             (subst (AllByRecursion (IsOwnAnswer ends Good kept commands ps ss)) (sym written) (own_all scope.reads commands ps ss fit.0 safe sent)));
-        late = late_sent commands ps ss end.records (late_timeless commands ps ss (sent_of end.records)
-            (subst (AllByRecursion (IsDealtWith ends Good kept commands ps ss)) (sym written) (late_all scope.reads commands ps ss fit.0 safe sent)));
+        late = late_sent commands ps ss end.records (late_timeless ends Good kept commands ps ss (sent_of end.records)
+            (subst (AllByRecursion (LateHasExecution ends Good kept commands ps ss)) (sym written) (late_all scope.reads commands ps ss fit.0 safe sent)));
         one_for_one = each_once plan commands scope acts;
         sent = sent;
         written = written;

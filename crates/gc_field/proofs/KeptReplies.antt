@@ -1,7 +1,6 @@
 -- What an instrument's retained reply is to: the last request that it was handed and knows (`table`), or a later one. And what
 -- it means that a line is vouched for: it was made for its request, as that request's call was executed. The id of request n is
--- n
--- - `since`, modulo 8.
+-- the difference of n and `since`, modulo 8.
 use Rattle.std.proofs.Common.{◌≡◌, ℕ, ◌+◌, ◌-◌, ◌%◌, ◌<◌, ◌≤◌, ◌⊎◌, inl, inr, Bool, true, false, List, [], ◌∷◌, ◌++◌, Option, Some, None, refl, sym, ap, subst, arith}
 use Rattle.std.specs.Prelude.{slice_get}
 use Rattle.gc_catalogue.specs.declared.asked.Asked.{Asked}

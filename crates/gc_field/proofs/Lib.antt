@@ -3,6 +3,7 @@ pub mod Joined
 pub mod Answered
 pub mod Once
 pub mod KeptReplies
+pub mod NearTable
 pub mod Vouched
 pub mod Instruments
 pub mod Possible
@@ -31,6 +32,7 @@ pub mod Meant
 pub mod InTime
 pub mod Safe
 pub mod Among
+pub mod Timeless
 pub mod Joining
 pub mod InARow
 pub mod Witness

@@ -54,7 +54,33 @@ asked_for : (s : Model) (bytes : List ℕ) (p : Part) → ((bytes ≡ 10 ∷ [])
 asked_for s bytes p (inl e) = inl (e.0, ap (λ (x : Part). x.turns) e.1)
 asked_for s bytes p (inr e) = inr (e.0, ap (λ (x : Part). x.turns) e.1)
 
+-- an act brings no bytes, and does not close the connection
+abbrev LeavesRest : Act → Type 0
+LeavesRest (Gave piece m) = ⊥
+LeavesRest Closed = ⊥
+LeavesRest act = Unit {0}
+
+-- such an act leaves the bytes since the last line feed as they were
+rest_stays : (h : Bool) (rest : List ℕ) (act : Act) → LeavesRest act → left_of h rest act ≡ rest
+rest_stays h rest (Gave piece m) leaves = absurd leaves
+rest_stays h rest Closed leaves = absurd leaves
+rest_stays true rest act leaves = refl
+rest_stays false rest act leaves = refl
+
+-- a close forgets the bytes since the last line feed
+close_forgets : (h : Bool) (rest : List ℕ) → left_of h rest Closed ≡ []
+close_forgets true rest = refl
+close_forgets false rest = refl
+
 module _ (plan : Plan) (commands : List Task) where
+  -- an act of a run that brings no bytes and does not close leaves the bytes since the last line feed as they were
+  same_rest : (s : Model) (act : Act) → Performs commands s (action_at plan s) act → LeavesRest act → (after plan commands s act).rest ≡ s.rest
+  same_rest s act obeys leaves = rest_is plan commands s act obeys ∙ rest_stays (is_heard s.progress.phase) s.rest act leaves
+
+  -- a close of a run forgets the bytes since the last line feed
+  no_rest : (s : Model) → Performs commands s (action_at plan s) Closed → (after plan commands s Closed).rest ≡ []
+  no_rest s obeys = rest_is plan commands s Closed obeys ∙ close_forgets (is_heard s.progress.phase) s.rest
+
   -- once a station has synchronized, an act means the steps of its part
   act_means : (s : Model) (act : Act) → Invariant plan commands s → has_begun s.progress ≡ true → Performs commands s (action_at plan s) act
       → Means s.client s.rest act (doing plan commands s (action_at plan s) act).steps (after plan commands s act).rest
@@ -63,62 +89,21 @@ module _ (plan : Plan) (commands : List Task) where
   act_means s (Put bytes) fine begun obeys = (
     put_means s bytes (putting plan commands s (action_at plan s))
         (put_is plan commands s (Put bytes) bytes fine obeys refl begun),
-    rest_is plan commands s (Put bytes) obeys ∙ plain (is_heard s.progress.phase),
-  ) where
-    -- this act leaves the bytes since the last line feed as they were
-    plain : (h : Bool) → left_of h s.rest (Put bytes) ≡ s.rest
-    plain true = refl
-    plain false = refl
+    same_rest s (Put bytes) obeys tt,
+  )
   act_means s (Cut bytes count) fine begun obeys = (
     put_means s bytes (putting plan commands s (action_at plan s))
         (put_is plan commands s (Cut bytes count) bytes fine obeys refl begun),
-    rest_is plan commands s (Cut bytes count) obeys
-        ∙ plain (is_heard s.progress.phase),
-  ) where
-    -- this act leaves the bytes since the last line feed as they were
-    plain : (h : Bool) → left_of h s.rest (Cut bytes count) ≡ s.rest
-    plain true = refl
-    plain false = refl
-  act_means s (Told m) fine begun obeys = (refl, rest_is plan commands s (Told m) obeys ∙ plain (is_heard s.progress.phase)) where
-    -- this act leaves the bytes since the last line feed as they were
-    plain : (h : Bool) → left_of h s.rest (Told m) ≡ s.rest
-    plain true = refl
-    plain false = refl
-  act_means s Untold fine begun obeys = (refl, rest_is plan commands s Untold obeys ∙ plain (is_heard s.progress.phase)) where
-    -- this act leaves the bytes since the last line feed as they were
-    plain : (h : Bool) → left_of h s.rest Untold ≡ s.rest
-    plain true = refl
-    plain false = refl
-  act_means s (Silent m) fine begun obeys = (refl, rest_is plan commands s (Silent m) obeys ∙ plain (is_heard s.progress.phase)) where
-    -- this act leaves the bytes since the last line feed as they were
-    plain : (h : Bool) → left_of h s.rest (Silent m) ≡ s.rest
-    plain true = refl
-    plain false = refl
-  act_means s Ended fine begun obeys = (refl, rest_is plan commands s Ended obeys ∙ plain (is_heard s.progress.phase)) where
-    -- this act leaves the bytes since the last line feed as they were
-    plain : (h : Bool) → left_of h s.rest Ended ≡ s.rest
-    plain true = refl
-    plain false = refl
-  act_means s Broke fine begun obeys = (refl, rest_is plan commands s Broke obeys ∙ plain (is_heard s.progress.phase)) where
-    -- this act leaves the bytes since the last line feed as they were
-    plain : (h : Bool) → left_of h s.rest Broke ≡ s.rest
-    plain true = refl
-    plain false = refl
-  act_means s Closed fine begun obeys = (refl, rest_is plan commands s Closed obeys ∙ plain (is_heard s.progress.phase)) where
-    -- a close forgets the bytes since the last line feed
-    plain : (h : Bool) → left_of h s.rest Closed ≡ []
-    plain true = refl
-    plain false = refl
-  act_means s Opened fine begun obeys = (refl, rest_is plan commands s Opened obeys ∙ plain (is_heard s.progress.phase)) where
-    -- this act leaves the bytes since the last line feed as they were
-    plain : (h : Bool) → left_of h s.rest Opened ≡ s.rest
-    plain true = refl
-    plain false = refl
-  act_means s Unopened fine begun obeys = (refl, rest_is plan commands s Unopened obeys ∙ plain (is_heard s.progress.phase)) where
-    -- this act leaves the bytes since the last line feed as they were
-    plain : (h : Bool) → left_of h s.rest Unopened ≡ s.rest
-    plain true = refl
-    plain false = refl
+    same_rest s (Cut bytes count) obeys tt,
+  )
+  act_means s (Told m) fine begun obeys = (refl, same_rest s (Told m) obeys tt)
+  act_means s Untold fine begun obeys = (refl, same_rest s Untold obeys tt)
+  act_means s (Silent m) fine begun obeys = (refl, same_rest s (Silent m) obeys tt)
+  act_means s Ended fine begun obeys = (refl, same_rest s Ended obeys tt)
+  act_means s Broke fine begun obeys = (refl, same_rest s Broke obeys tt)
+  act_means s Closed fine begun obeys = (refl, no_rest s obeys)
+  act_means s Opened fine begun obeys = (refl, same_rest s Opened obeys tt)
+  act_means s Unopened fine begun obeys = (refl, same_rest s Unopened obeys tt)
 
   -- while a station synchronizes, an act means the turns of its part
   turns_mean : (s : Model) (act : Act) → has_begun s.progress ≡ false → Performs commands s (action_at plan s) act
@@ -129,65 +114,24 @@ module _ (plan : Plan) (commands : List Task) where
   turns_mean s (Put bytes) begins obeys = (
     asked_for s bytes (beginning s (action_at plan s) (Put bytes))
         (asked_is plan commands s (Put bytes) bytes obeys refl begins),
-    rest_is plan commands s (Put bytes) obeys ∙ plain (is_heard s.progress.phase),
-  ) where
-    -- this act leaves the bytes since the last line feed as they were
-    plain : (h : Bool) → left_of h s.rest (Put bytes) ≡ s.rest
-    plain true = refl
-    plain false = refl
+    same_rest s (Put bytes) obeys tt,
+  )
   turns_mean s (Cut bytes count) begins obeys = (
     asked_for s bytes (beginning s (action_at plan s) (Cut bytes count))
         (asked_is plan commands s (Cut bytes count) bytes obeys refl begins),
-    rest_is plan commands s (Cut bytes count) obeys
-        ∙ plain (is_heard s.progress.phase),
-  ) where
-    -- this act leaves the bytes since the last line feed as they were
-    plain : (h : Bool) → left_of h s.rest (Cut bytes count) ≡ s.rest
-    plain true = refl
-    plain false = refl
-  turns_mean s Untold begins obeys = (turns_plain plan commands s (action_at plan s) Untold tt, rest_is plan commands s Untold obeys ∙ plain (is_heard s.progress.phase)) where
-    -- this act leaves the bytes since the last line feed as they were
-    plain : (h : Bool) → left_of h s.rest Untold ≡ s.rest
-    plain true = refl
-    plain false = refl
-  turns_mean s (Told m) begins obeys = (turns_plain plan commands s (action_at plan s) (Told m) tt, rest_is plan commands s (Told m) obeys ∙ plain (is_heard s.progress.phase)) where
-    -- this act leaves the bytes since the last line feed as they were
-    plain : (h : Bool) → left_of h s.rest (Told m) ≡ s.rest
-    plain true = refl
-    plain false = refl
-  turns_mean s (Silent m) begins obeys = (turns_plain plan commands s (action_at plan s) (Silent m) tt, rest_is plan commands s (Silent m) obeys ∙ plain (is_heard s.progress.phase)) where
-    -- this act leaves the bytes since the last line feed as they were
-    plain : (h : Bool) → left_of h s.rest (Silent m) ≡ s.rest
-    plain true = refl
-    plain false = refl
-  turns_mean s Ended begins obeys = (turns_plain plan commands s (action_at plan s) Ended tt, rest_is plan commands s Ended obeys ∙ plain (is_heard s.progress.phase)) where
-    -- this act leaves the bytes since the last line feed as they were
-    plain : (h : Bool) → left_of h s.rest Ended ≡ s.rest
-    plain true = refl
-    plain false = refl
-  turns_mean s Broke begins obeys = (turns_plain plan commands s (action_at plan s) Broke tt, rest_is plan commands s Broke obeys ∙ plain (is_heard s.progress.phase)) where
-    -- this act leaves the bytes since the last line feed as they were
-    plain : (h : Bool) → left_of h s.rest Broke ≡ s.rest
-    plain true = refl
-    plain false = refl
-  turns_mean s Opened begins obeys = (turns_plain plan commands s (action_at plan s) Opened tt, rest_is plan commands s Opened obeys ∙ plain (is_heard s.progress.phase)) where
-    -- this act leaves the bytes since the last line feed as they were
-    plain : (h : Bool) → left_of h s.rest Opened ≡ s.rest
-    plain true = refl
-    plain false = refl
-  turns_mean s Unopened begins obeys = (turns_plain plan commands s (action_at plan s) Unopened tt, rest_is plan commands s Unopened obeys ∙ plain (is_heard s.progress.phase)) where
-    -- this act leaves the bytes since the last line feed as they were
-    plain : (h : Bool) → left_of h s.rest Unopened ≡ s.rest
-    plain true = refl
-    plain false = refl
-  turns_mean s Closed begins obeys = (turns_plain plan commands s (action_at plan s) Closed tt, rest_is plan commands s Closed obeys ∙ plain (is_heard s.progress.phase)) where
-    -- a close forgets the bytes since the last line feed
-    plain : (h : Bool) → left_of h s.rest Closed ≡ []
-    plain true = refl
-    plain false = refl
+    same_rest s (Cut bytes count) obeys tt,
+  )
+  turns_mean s Untold begins obeys = (turns_plain plan commands s (action_at plan s) Untold tt, same_rest s Untold obeys tt)
+  turns_mean s (Told m) begins obeys = (turns_plain plan commands s (action_at plan s) (Told m) tt, same_rest s (Told m) obeys tt)
+  turns_mean s (Silent m) begins obeys = (turns_plain plan commands s (action_at plan s) (Silent m) tt, same_rest s (Silent m) obeys tt)
+  turns_mean s Ended begins obeys = (turns_plain plan commands s (action_at plan s) Ended tt, same_rest s Ended obeys tt)
+  turns_mean s Broke begins obeys = (turns_plain plan commands s (action_at plan s) Broke tt, same_rest s Broke obeys tt)
+  turns_mean s Opened begins obeys = (turns_plain plan commands s (action_at plan s) Opened tt, same_rest s Opened obeys tt)
+  turns_mean s Unopened begins obeys = (turns_plain plan commands s (action_at plan s) Unopened tt, same_rest s Unopened obeys tt)
+  turns_mean s Closed begins obeys = (turns_plain plan commands s (action_at plan s) Closed tt, no_rest s obeys)
 
   -- an act means its part, whether the station has synchronized (`b`) or not
-  is_meant : (s : Model) (act : Act) (b : Bool) → has_begun s.progress ≡ b → Invariant plan commands s → Performs commands s (action_at plan s) act
+  pub is_meant : (s : Model) (act : Act) (b : Bool) → has_begun s.progress ≡ b → Invariant plan commands s → Performs commands s (action_at plan s) act
       → IsMeant b s act (if b then doing plan commands s (action_at plan s) act else beginning s (action_at plan s) act) (after plan commands s act)
   is_meant s act true e fine obeys = (none_doing plan commands s (action_at plan s) act, act_means s act fine e obeys)
   is_meant s act false e fine obeys = (steps_none plan commands s (action_at plan s) act, turns_mean s act e obeys, word_after plan commands s act obeys e)

@@ -1,19 +1,17 @@
 -- The parts of the first acts of a run are a front of the parts of all its acts; and if the last part of a front has a request,
 -- the station had synchronized by then, and no turn came after that. A part is what happens in a run from one synchronization
 -- to the next, as the station sees it.
-use Rattle.std.proofs.Common.{◌≡◌, ◌⊎◌, inl, inr, ℕ, zero, suc, ◌+◌, ◌&&◌, Bool, true, false, if◌then◌else◌, List, [], ◌∷◌, ◌++◌, length, Some, refl, sym, ◌∙◌, ap, subst, arith, append_assoc}
+use Rattle.std.proofs.Common.{◌≡◌, ◌⊎◌, inl, inr, ℕ, zero, suc, ◌+◌, ◌&&◌, Bool, true, false, if◌then◌else◌, List, [], ◌∷◌, ◌++◌, length, Some, refl, sym, ◌∙◌, ap, subst, arith}
 use Rattle.std.specs.Prelude.{slice_get}
-use Rattle.gc_catalogue.specs.declared.asked.Asked.{Asked}
-use Rattle.gc_client.specs.OneForOne as step
 use Rattle.gc_texts.specs.declared.tasks.Task.{Task}
 use Rattle.gc_station.specs.declared.plan.Plan.{Plan}
 use Rattle.gc_links.specs.Acts.{Act}
 use Rattle.gc_station.specs.Deciding.{has_begun}
-use Rattle.gc_station.specs.Parts as part
 use Rattle.gc_station.specs.Parts.{Part, joined, nothing, in_front, acting, beginning, doing, ends_part, parts_of}
 use Rattle.gc_station.specs.Progressing.{loses_all}
-use Rattle.gc_station.specs.Model.{Model, Runs, action_at, after}
+use Rattle.gc_station.specs.Model.{Model, action_at, after}
 use Rattle.gc_station.proofs.Asked.{FirstHasNone, goes_begun, marks_none, nil_both, no_turns}
+use Rattle.gc_station.proofs.Following.{joined_assoc}
 use Rattle.gc_world.proofs.Options.{some_is, none_is_not}
 
 -- The front of a run.
@@ -25,13 +23,6 @@ IsFront [] qs = ⊥
 IsFront (p ∷ ps) [] = ⊥
 IsFront (p ∷ []) (q ∷ qs) = (more : Part) × (q ≡ joined p more)
 IsFront (p ∷ next ∷ ps) (q ∷ qs) = (q ≡ p) × IsFront (next ∷ ps) qs
-
--- of three parts in a row, the first two or the last two may be joined first
-joined_assoc : (p q r : Part) → joined (joined p q) r ≡ joined p (joined q r)
-joined_assoc p q r =
-    ap (λ (turns : List part.Turn). record { turns = turns; steps = (p.steps ++ q.steps) ++ r.steps; marks = (p.marks ++ q.marks) ++ r.marks }) (append_assoc p.turns q.turns r.turns)
-    ∙ ap (λ (steps : List (step.Step Asked)). record { turns = p.turns ++ (q.turns ++ r.turns); steps = steps; marks = (p.marks ++ q.marks) ++ r.marks }) (append_assoc p.steps q.steps r.steps)
-    ∙ ap (λ (marks : List _). record { turns = p.turns ++ (q.turns ++ r.turns); steps = p.steps ++ (q.steps ++ r.steps); marks = marks }) (append_assoc p.marks q.marks r.marks)
 
 -- `IsFront` is preserved if the same part is put before both lists
 front_more : (p : Part) (b : Bool) (ps qs : List Part) → IsFront ps qs → IsFront (in_front p b ps) (in_front p b qs)
@@ -57,11 +48,6 @@ front_parts plan commands s (act ∷ xs) ys =
     front_more (acting plan commands s (action_at plan s) act) (ends_part plan commands s act) (parts_of plan commands (after plan commands s act) xs)
     (parts_of plan commands (after plan commands s act) (xs ++ ys))
     (front_parts plan commands (after plan commands s act) xs ys)
-
--- the first acts of a run are a run
-pub runs_front : (plan : Plan) (commands : List Task) (s : Model) (xs ys : List Act) → Runs plan commands s (xs ++ ys) → Runs plan commands s xs
-runs_front plan commands s [] ys h = tt
-runs_front plan commands s (act ∷ xs) ys h = (h.0, runs_front plan commands (after plan commands s act) xs ys h.1)
 
 -- the last part of a front of parts is the front of the part at its place in all
 pub front_last : (ps qs : List Part) (i : ℕ) (p q : Part) → IsFront ps qs → length ps ≡ suc i → slice_get ps i ≡ Some p → slice_get qs i ≡ Some q → (more : Part) × (q ≡ joined p more)

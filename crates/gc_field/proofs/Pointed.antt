@@ -40,10 +40,10 @@ use Rattle.gc_field.specs.Beginnings.{Run}
 use Rattle.gc_field.specs.Chains.{AreCalls, HasNoStartBetween, IsUndisturbed, IsChainedTo, IsExecutedInChain, behind, executing}
 use Rattle.gc_field.specs.Field.{Move, Sends, Tells, Comes, Foreign, OnLine, Anew, Changes, Joins}
 use Rattle.gc_field.specs.Laws.{asked, kept_of}
-use Rattle.gc_field.specs.Pointing.{AreStill, IsMeasuredWhereItPointed, IsPointedInChain, SimulatorHasItsEffect, bare, behind_call, turns}
+use Rattle.gc_field.specs.Pointing.{AreStill, IsMeasuredWhereItPointed, IsPointedInChain, SimulatorHasItsEffect, bare, behind_call, turns_telescope}
 use Rattle.gc_field.specs.Runs.{IsInField, own_sent, world}
 use Rattle.gc_field.specs.Shown.{Stretch, stretches}
-use Rattle.gc_field.proofs.Chained.{chains_executed, sent_at}
+use Rattle.gc_field.proofs.Chained.{chains_executed, sent_at, all_so}
 use Rattle.gc_field.proofs.Instruments.{simulator}
 use Rattle.gc_field.proofs.Joining.{run_faithful}
 use Rattle.gc_field.proofs.Once.{true_is_not}
@@ -121,7 +121,7 @@ commanded_same s command = by_tests (int_eq command (pos 0)) (int_eq command (po
   by_tests false false false = (refl, refl)
 
 -- a call that turns no telescope leaves its direction and its face as they were
-call_same : (s : State) (c : Call) → turns (Table c) ≡ false → IsSame s (exec s c).state
+call_same : (s : State) (c : Call) → turns_telescope (Table c) ≡ false → IsSame s (exec s c).state
 unfolding exec
 call_same s (call.SetPrecision n) e = set_same _ s _ (refl, refl)
 call_same s (call.SetDate d) e = set_same _ s _ (refl, refl)
@@ -136,12 +136,12 @@ call_same s (call.FineAdjust area_hz area_v dummy) e = cc
 call_same s c e = (refl, refl)
 
 -- a request that turns no telescope leaves its direction and its face as they were
-asked_same : (s : State) (asked : Asked) → turns asked ≡ false → IsSame s (behind_call s asked)
+asked_same : (s : State) (asked : Asked) → turns_telescope asked ≡ false → IsSame s (behind_call s asked)
 asked_same s (Table c) e = call_same s c e
 asked_same s (Raw raw) e = (refl, refl)
 
--- a request turns no telescope if it turns none if it is a call of the table
-still_table : (asked : Asked) → (is_of_table asked ≡ true → turns asked ≡ false) → turns asked ≡ false
+-- a request turns no telescope if, should it be a call of the table, it turns none: other requests turn none
+still_table : (asked : Asked) → (is_of_table asked ≡ true → turns_telescope asked ≡ false) → turns_telescope asked ≡ false
 still_table (Table c) f = f refl
 still_table (Raw raw) f = refl
 
@@ -152,7 +152,7 @@ unfolding exec
 position_points s hz v pos_mode atr_mode dummy = (refl, refl)
 
 -- calls that turn no telescope leave its direction and its face as they were
-executing_same : (calls : List Asked) (s : State) → Each (λ x. turns x ≡ false) calls → IsSame s (executing behind_call s calls)
+executing_same : (calls : List Asked) (s : State) → Each (λ x. turns_telescope x ≡ false) calls → IsSame s (executing behind_call s calls)
 executing_same [] s h = (refl, refl)
 executing_same (x ∷ calls) s h =
     let one = asked_same s x h.0 in
@@ -163,15 +163,16 @@ executing_same (x ∷ calls) s h =
 
 -- if the requests between m and n turn no telescope, the calls that are executed between don't
 all_still : (sent : List Sent) (m n : ℕ) (ns : List ℕ) (calls : List Asked) → AreCalls sent ns calls
-    → Each (λ x. (r : Sent) → slice_get sent x ≡ Some r → is_of_table r.call ≡ true → (m < x) × (x < n)) ns → ((x : ℕ) (r : Sent) → m < x → x < n → slice_get sent x ≡ Some r → turns r.call ≡ false)
-    → Each (λ x. turns x ≡ false) calls
+    → Each (λ x. (r : Sent) → slice_get sent x ≡ Some r → is_of_table r.call ≡ true → (m < x) × (x < n)) ns
+    → ((x : ℕ) (r : Sent) → m < x → x < n → slice_get sent x ≡ Some r → turns_telescope r.call ≡ false)
+    → Each (λ x. turns_telescope x ≡ false) calls
 all_still sent m n [] [] h g f = tt
 all_still sent m n [] (x ∷ calls) h g f = absurd h
 all_still sent m n (k ∷ ns) [] h g f = absurd h
 all_still sent m n (k ∷ ns) (x ∷ calls) h g f =
-    let still : turns h.0.0.call ≡ false =
+    let still : turns_telescope h.0.0.call ≡ false =
     still_table h.0.0.call (λ of. let inside : (m < k) × (k < n) = g.0 h.0.0 h.0.1 of in f k h.0.0 inside.0 inside.1 h.0.1) in
-    (ap turns (sym h.0.2) ∙ still, all_still sent m n ns calls h.1 g.1 f)
+    (ap turns_telescope (sym h.0.2) ∙ still, all_still sent m n ns calls h.1 g.1 f)
 
 -- an element at place k + n of a list is after its first k at place n
 get_own : (k n j : ℕ) (xs : List Sent) (x : Sent) → j ≡ k + n → slice_get xs j ≡ Some x → slice_get (drop k xs) n ≡ Some x
@@ -181,14 +182,14 @@ get_own (suc k) n zero (y ∷ xs) x e got = absurd (omega (arith, e))
 get_own (suc k) n (suc j) (y ∷ xs) x e got = get_own k n j xs x (omega (arith, e)) got
 
 -- a null procedure turns no telescope
-null_still : (a : Wanted Asked) (r : Sent) → asked r ≡ a → a ≡ record { target = 0; call = Table call.NullProc } → turns r.call ≡ false
-null_still a r e f = ap (λ (o : Wanted Asked). turns o.call) (e ∙ f)
+null_still : (a : Wanted Asked) (r : Sent) → asked r ≡ a → a ≡ record { target = 0; call = Table call.NullProc } → turns_telescope r.call ≡ false
+null_still a r e f = ap (λ (o : Wanted Asked). turns_telescope o.call) (e ∙ f)
 
 -- a task that turns no telescope turns none at any moment
-turns_none : (task : Task) (utc : ℕ) → turns task.command.call ≡ false → turns (call_at task utc) ≡ false
+turns_none : (task : Task) (utc : ℕ) → turns_telescope task.command.call ≡ false → turns_telescope (call_at task utc) ≡ false
 turns_none task utc still = by_clock task.now where
   -- the lemma above, whether the task sets the clock (`true`)
-  by_clock : (b : Bool) → turns (if b then Table (call.SetDate (date_time utc)) else task.command.call) ≡ false
+  by_clock : (b : Bool) → turns_telescope (if b then Table (call.SetDate (date_time utc)) else task.command.call) ≡ false
   by_clock true = refl
   by_clock false = still
 
@@ -202,15 +203,16 @@ module _ (plan : Plan) (commands : List Task) (scope : Scope) (acts : List Act) 
       (state_after plan commands scope acts).records a b line) (still : AreStill commands a b.place) where
     -- a request between those of the chain's two commands turns no telescope, by its mark: it is a null procedure, or for a
     -- command between them
-    still_by : (x : ℕ) (r : Sent) (o : Option _) (above : h.m < x) (under : x < h.n) → slice_get h.part.marks x ≡ Some o → (y : Wanted Asked) → asked r ≡ y → IsOf commands o y → turns r.call ≡ false
+    still_by : (x : ℕ) (r : Sent) (o : Option _) (above : h.m < x) (under : x < h.n) → slice_get h.part.marks x ≡ Some o
+        → (y : Wanted Asked) → asked r ≡ y → IsOf commands o y → turns_telescope r.call ≡ false
     still_by x r None above under at y e is = null_still y r e is
     still_by x r (Some mark) above under at y e is =
         let there = h.between x mark above under at in
         let quiet = turns_none is.0 mark.sent (still mark.place is.0 there.1 there.2 is.1) in
-        ap (λ (o : Wanted Asked). turns o.call) (e ∙ is.2) ∙ quiet
+        ap (λ (o : Wanted Asked). turns_telescope o.call) (e ∙ is.2) ∙ quiet
 
     -- a request of the client between those of the chain's two commands turns no telescope
-    still_at : (x : ℕ) (r : Sent) → h.m < x → x < h.n → slice_get (own_sent ends h.stretch) x ≡ Some r → turns r.call ≡ false
+    still_at : (x : ℕ) (r : Sent) → h.m < x → x < h.n → slice_get (own_sent ends h.stretch) x ≡ Some r → turns_telescope r.call ≡ false
     still_at x r above under got =
         let f = run_faithful ends IsFittingState kept_of simulator.is plan commands scope acts u rs field in
         let of = sent_at ends commands (parts plan commands scope acts) ss h.i h.part h.stretch f.sent h.of_parts h.of_stretches in
@@ -221,7 +223,7 @@ module _ (plan : Plan) (commands : List Task) (scope : Scope) (acts : List Act) 
         still_by x r mark.0 above under mark.1 y.0 same y.2
 
     -- the same by the request's number in the stretch, if the eight null procedures come first
-    still_number : (k : ℕ) (r : Sent) → 8 + h.m < k → k < 8 + h.n → slice_get (world ends h.stretch).wire.sent k ≡ Some r → turns r.call ≡ false
+    still_number : (k : ℕ) (r : Sent) → 8 + h.m < k → k < 8 + h.n → slice_get (world ends h.stretch).wire.sent k ≡ Some r → turns_telescope r.call ≡ false
     still_number k r above under got =
         still_at (k - 8) r (omega (arith, above)) (omega (arith, above, under)) (get_own 8 (k - 8) k (world ends h.stretch).wire.sent r (omega (arith, above)) got)
 
@@ -243,11 +245,6 @@ module _ (plan : Plan) (commands : List Task) (scope : Scope) (acts : List Act) 
               let at = subst (λ c. ((behind_call s c).pointing ≡ record { hz = hz; v = v }) × ((behind_call s c).face ≡ s.face)) (sym e) (position_points s hz v pos_mode atr_mode dummy) in
               (pointing ∙ at.0, face ∙ at.1);
         }
-
-  -- where P implies Q, and all elements have P, all have Q
-  all_so : {A : Type 0} (P Q : A → Type 0) → ((x : A) → P x → Q x) → (xs : List A) → AllByRecursion P xs → AllByRecursion Q xs
-  all_so P Q f [] h = tt
-  all_so P Q f (x ∷ xs) h = (f x h.0, all_so P Q f xs h.1)
 
   -- if the laws of stations `ChainsStay`, `MarksGoOn` and `RecordsStay` hold, each record of a run over the simulator is
   -- `IsPointedInChain`

@@ -1,7 +1,5 @@
 -- The instrument of a scene is an instrument in the sense of the station's promise.
-use Rattle.std.proofs.Common.{◌≡◌, ◌⊎◌, ℕ, ◌<◌, inl, inr, Bool, true, false, List, [], ◌∷◌, Option, Some, None, cond, refl, sym, ◌∙◌, ap, subst, eqb, lit<}
-use Rattle.std.proofs.lemmas.Bool.{eqb-true}
-use Rattle.gc_world.proofs.Options.{some_is}
+use Rattle.std.proofs.Common.{◌≡◌, ◌⊎◌, ℕ, ◌<◌, inl, inr, Bool, true, false, List, [], ◌∷◌, Option, Some, None, cond, refl, sym, ap, subst, lit<}
 use Rattle.gc_lines.proofs.Written.{reply_back}
 use Rattle.gc_lines.proofs.Requests.{request_found}
 use Rattle.gc_lines.specs.Replies.{ReplyFields, reply_text}
@@ -29,6 +27,7 @@ use Rattle.gc_scenes.specs.declared.rules.Scripted.{Scripted}
 use Rattle.gc_field.specs.Instrument.{KeepsItsOwn}
 use Rattle.gc_field.specs.SceneField.{scene_handed, scene_ends, scene_kept, KeepsAReply, IsHeard, SceneIsAnInstrument}
 use Rattle.gc_field.proofs.Once.{true_is_not}
+use Rattle.gc_field.proofs.Instruments.{kept_own}
 
 -- equal numbers within `Some` are equal
 some_number : (a b : ℕ) → Some a ≡ Some b → a ≡ b
@@ -38,20 +37,13 @@ some_number a b e = cc
 some_played : (a b : Played) → Some a ≡ Some b → a ≡ b
 some_played a b e = cc
 
--- if the kept line for an id is this one, this line is kept, with that id
-kept_own : (k : Option KeptReply) (id : ℕ) (line : List ℕ) → kept_line k (Some id) ≡ Some line → k ≡ Some (record { id = id; line = line })
-kept_own None id line e = let wrong : ⊥ = cc in absurd wrong
-kept_own (Some k) id line e = chosen (eqb k.id id) refl e where
-  chosen : (b : Bool) → eqb k.id id ≡ b → cond b (Some k.line) None ≡ Some line → Some k ≡ Some (record { id = id; line = line })
-  chosen true t e = ap (λ i. Some (record { id = i; line = k.line })) (eqb-true k.id id t) ∙ ap (λ l. Some (record { id = id; line = l })) (some_is k.line line e)
-  chosen false t e = let wrong : ⊥ = cc in absurd wrong
-
 -- what is sent again is what is retained
 again_kept : (b : Bool) (k : Option KeptReply) (id : ℕ) (line : List ℕ) → cond b (kept_line k (Some id)) None ≡ Some line → k ≡ Some (record { id = id; line = line })
 again_kept true k id line e = kept_own k id line e
 again_kept false k id line e = let wrong : ⊥ = cc in absurd wrong
 
--- what a request gives, as the promise wants it
+-- what the instrument does with a request, of which `known` says whether it is a call of the table, meets the clauses of
+-- `IsAnInstrument`
 record Does (s : SceneState) (id : ℕ) (known : Bool) (h : Handed SceneState) : Type 0 where
   reads : IsHeard s.base.kept → heard h.reply ≡ Some id
   repeats : h.executed ≡ false → s.base.kept ≡ Some (record { id = id; line = h.reply })
@@ -68,12 +60,12 @@ own_or_none : (b : Bool) (id : ℕ) (line : List ℕ) (k : Option KeptReply)
 own_or_none true id line k = inr refl
 own_or_none false id line k = inl refl
 
--- what is retained after a request is heard
+-- a line that is retained after a request reads as a reply with its id
 kept_heard : (b : Bool) (id : ℕ) (line : List ℕ) (k : Option KeptReply) → heard line ≡ Some id → IsHeard (cond b (kept_after k (Some id) line) None)
 kept_heard true id line k h = h
 kept_heard false id line k h = tt
 
--- what a request gives of which this comes
+-- a request that is played, or answered again by what is retained, meets the clauses
 played_does : (s : SceneState) (id : ℕ) (known : Bool) (p : Played) (o : Option (List ℕ)) → again_for s (Some id) ≡ o → id < 8 → p.rc < 65536 → Does s id known (again_or_played s (Some id) p o)
 played_does s id known p (Some line) again small code =
     let kept = again_kept s.repeats s.base.kept id line again in
@@ -87,40 +79,40 @@ played_does s id known p None again small code =
       good = λ good. kept_heard p.state.repeats id line p.state.base.kept (line_heard id p small code);
     }
 
--- the code of a fault that is due, or of a later one, is a code
+-- the code of a fault that is due, or else of a later one, is below 65536
 fault_by : (f : Fault) (b : Bool) (later : Option ℕ) (code : ℕ) → (later ≡ Some code → code < 65536) → cond b (Some f.rc) later ≡ Some code → code < 65536
 fault_by f true later code rest e = subst (λ (c : ℕ). c < 65536) (some_number f.rc code e) f.fits
 fault_by f false later code rest e = rest e
 
--- a fault's code is a code
+-- the code of the first fault that is due is below 65536
 fault_bound : (rpc : ℕ) (fs : List Fault) (code : ℕ) → fault_of rpc fs ≡ Some code → code < 65536
 fault_bound rpc [] code e = let wrong : ⊥ = cc in absurd wrong
 fault_bound rpc (f ∷ fs) code e = fault_by f (is_due rpc f) (fault_of rpc fs) code (fault_bound rpc fs code) e
 
--- the code of a call is a code
+-- the code with which a call is answered is below 65536
 call_bound : (s : SceneState) (call : Call) (o : Option ℕ) → ((code : ℕ) → o ≡ Some code → code < 65536) → (unless_faulted s call o).rc < 65536
 unfolding plays
 call_bound s call (Some code) is = is code refl
 call_bound s call None is = (outcome_sound s call).code
 
--- the code of a reply that the scene has is a code
+-- the code of a reply that the scene gives to a procedure is below 65536
 scripted_bound : (s : SceneState) (a : Option Scripted) (p : Played) → scripted s a ≡ Some p → p.rc < 65536
 scripted_bound s None p e = let wrong : ⊥ = cc in absurd wrong
 scripted_bound s (Some a) p e = subst (λ (q : Played). q.rc < 65536) (some_played (record { state = s; rc = a.rc; params = scripted_params a.with }) p e) a.fits
 
--- the code of what comes of a request that isn't in the table is a code
+-- the code with which a request is answered that is no call of the table is below 65536
 raw_bound : (s : SceneState) (rpc : ℕ) (o : Option ℕ) (p : Played) → ((code : ℕ) → o ≡ Some code → code < 65536) → unless_faulted_raw s rpc o ≡ Some p → p.rc < 65536
 raw_bound s rpc (Some code) p is e = subst (λ (q : Played). q.rc < 65536) (some_played (record { state = s; rc = code; params = [] }) p e) (is code refl)
 raw_bound s rpc None p is e = scripted_bound s (answer_of rpc s.answers) p e
 
--- what a request for a call gives
+-- a call of the table meets the clauses
 call_does : (s : SceneState) (id : ℕ) (call : Call) → id < 8 → Does s id true (handed_call s (call_fields call).number (Some id) call)
 unfolding handed_call
 call_does s id call small =
     let rpc = (call_fields call).number in
     played_does s id true (played_call s rpc call) (again_for s (Some id)) refl small (call_bound (counting rpc s) call (fault_of rpc s.faults) (fault_bound rpc s.faults))
 
--- what a request gives whose procedure isn't in the table
+-- a request that is no call of the table meets the clauses, whether the scene plays it or it is refused
 raw_by : (s : SceneState) (id rpc : ℕ) (o : Option Played) → id < 8 → ((p : Played) → o ≡ Some p → p.rc < 65536) → Does s id false (played_or_refused s rpc (Some id) o)
 raw_by s id rpc (Some p) small code = played_does s id false p (again_for s (Some id)) refl small (code p refl)
 raw_by s id rpc None small code = record {
@@ -130,18 +122,18 @@ raw_by s id rpc None small code = record {
   good = λ good. good;
 }
 
--- what a request gives whose procedure isn't in the table, by what the scene has for it
+-- a request that is no call of the table meets the clauses
 raw_does : (s : SceneState) (id : ℕ) (raw : RawCall) → id < 8 → Does s id false (handed_raw s raw.rpc (Some id))
 unfolding handed_raw
 raw_does s id raw small =
     raw_by s id raw.rpc (played_raw s raw.rpc) small (λ p e. raw_bound (counting raw.rpc s) raw.rpc (fault_of raw.rpc s.faults) p (fault_bound raw.rpc s.faults) e)
 
--- what any request gives
+-- any request meets the clauses
 asked_does : (s : SceneState) (id : ℕ) (asked : Asked) → id < 8 → Does s id (is_of_table asked) (scene_handed s id asked)
 asked_does s id (Table call) small = call_does s id call small
 asked_does s id (Raw raw) small = raw_does s id raw small
 
--- what is said of a call is what the instrument does with its line
+-- what `scene_handed` says of a call of the table is what the instrument does with its line
 calls : (s : SceneState) (id : ℕ) (call : Call) → id < 8 → IsFitting call
     → IsPlayed s (request_line (Some id) call) (scene_handed s id (Table call)).state (Some (scene_handed s id (Table call)).reply)
 calls s id call small fits =
@@ -149,7 +141,7 @@ calls s id call small fits =
     let back = call_again (Some id) call small fits in
     answers q (request_found (request_line (Some id) call) q back.line) (scene_handed s id (Table call)).reply (names_call call back.is_call (record { state = refl; line = refl })) refl
 
--- and of another procedure
+-- what `scene_handed` says of another procedure is what the instrument does with its line
 raws : (s : SceneState) (id : ℕ) (raw : RawCall) → id < 8
     → IsPlayed s (asked_line (Some id) (Raw raw)) (scene_handed s id (Raw raw)).state (Some (scene_handed s id (Raw raw)).reply)
 raws s id raw small =
@@ -157,7 +149,7 @@ raws s id raw small =
     let back = asked_again (Some id) (Raw raw) small raw.is in
     answers q (request_found (asked_line (Some id) (Raw raw)) q back.line) (scene_handed s id (Raw raw)).reply (names_none raw.is.no_procedure (record { state = refl; line = refl })) refl
 
--- the instrument of a scene is an instrument, and what is said of a request is what it does with the line
+-- the instrument of a scene is an instrument, and what `scene_handed` says of a request is what it does with the line
 pub scene_is_an_instrument : SceneIsAnInstrument
 scene_is_an_instrument = record {
   is = record {

@@ -1,10 +1,8 @@
 -- Each line that comes was made for its request as its call was executed, whatever is repeated or lost, and however often the
--- instrument starts again. Requests that `E` names are excepted. M n call line stands for any property that the reply to each
--- request has that is executed. The client is the one that is given the number of each reply's request: `count` of its requests
--- are settled, and the id of request n is n - `since`, modulo 8. After a request that `knows` names the instrument retains its
--- own reply to that, or nothing; after another one it may retain what it retained: so what it retains is a reply to `table`,
--- the last such request that it was handed, or to a later request. `AllVouched` is the invariant of a world: each reply in
--- flight, the retained reply and each answer was made so.
+-- instrument starts again; requests that `E` names are excepted. M n call line is any property that the reply to each executed
+-- request has. The client is given the number of each reply's request: `count` of its requests are settled, and request n has the
+-- id n - `since` modulo 8. What the instrument retains is a reply to `table`, the last request that it was handed and that `knows`
+-- names, or to a later one. `AllVouched` is the invariant: each reply in flight, the retained one and each answer was made so.
 use Rattle.std.proofs.Common.{◌≡◌, ℕ, ◌+◌, ◌-◌, ◌%◌, ◌<◌, ◌≤◌, ◌⊎◌, inl, inr, Bool, true, false, List, [], ◌∷◌, ◌++◌, length, drop, Option, Some, None, refl, sym, ◌∙◌, ap, subst, arith, ltb, eqb}
 use Rattle.std.proofs.lemmas.List.{length_push}
 use Rattle.std.proofs.lemmas.Bool.{ltb-false}
@@ -26,7 +24,8 @@ use Rattle.gc_field.specs.Field.{IsOfLine}
 use Rattle.gc_field.specs.Instrument.{IsAnInstrumentFor, KeepsItsReply}
 use Rattle.gc_field.proofs.Answered.{AllSo, all_so_more, all_so_append, all_so_settle}
 use Rattle.gc_field.proofs.Once.{IsClimbing, IsIdle, IsOrdered, IsUnknown, climbing_started, climbing_acted, climbing_handed, climbing_sent, known_not, ordered_acted, ordered_handed, unknown_more, why_acted, true_is_not}
-use Rattle.gc_field.proofs.KeptReplies.{rising_each, rising_tail, IsKept, KeptIs, kept_more, kept_still, newest, newest_up, newest_low, IsDealt, newest_dealt, kept_handed, IsVouched, IsOn}
+use Rattle.gc_field.proofs.KeptReplies.{rising_each, rising_tail, KeptIs, kept_more, kept_still, newest, newest_up, newest_low, IsDealt, newest_dealt, kept_handed, IsVouched, IsOn}
+use Rattle.gc_field.proofs.NearTable.{IsNear, near_same, near_on, near_of}
 
 module _ {State : Type 0} (width : ℕ) (narrow : width ≤ 7) (knows : Asked → Bool) (ends : Ends State) (Good : State → Type 0)
     (kept : State → Option KeptReply) (keeper : IsAnInstrumentFor ends Good kept knows) (low : ℕ) (E : ℕ → Type 0) (Plain : Type 0) (M : ℕ → Asked → List ℕ → Type 0) where
@@ -58,18 +57,13 @@ module _ {State : Type 0} (width : ℕ) (narrow : width ≤ 7) (knows : Asked �
     own (inl e) = inl e
     own (inr v) = inr (record { among = has_more _ made more v.among; acted = lasts n v.acted; request = v.request; found = v.found; reply = v.reply; on = v.on })
 
-  -- all requests are known (`Plain`), and the one handed last is the newest known one; or each request that isn't excepted is
-  -- at most seven after the newest known one
-  abbrev pub IsNear : List Sent → ℕ → ℕ → Type 0
-  IsNear sent top table = (Plain × (top ≤ table + 1) × Each (λ (r : Sent). knows r.call ≡ true) sent) ⊎ ((n : ℕ) → E n ⊎ (n ≤ table + 7))
-
   -- the invariant, over the fields of a world: each reply in flight, the retained reply `k`, and each answer is vouched for;
   -- executions are in order, and each request acts once to which the instrument retains its reply
   pub record AllVouchedIn (since count : ℕ) (sent : List Sent) (executed starts : List ℕ) (made : List (Numbered (List ℕ))) (settled : List (Settlement Asked))
       (up : List (Numbered Request)) (down : List (Numbered (List ℕ))) (k : Option KeptReply) : Type 0 where
     -- the number of the last request that the instrument was handed is one less than this
     pub top : ℕ
-    -- that of the newest known one
+    -- the number of the newest request that is known
     pub table : ℕ
     pub counted : count ≤ top
     pub within : top ≤ length sent
@@ -79,7 +73,7 @@ module _ {State : Type 0} (width : ℕ) (narrow : width ≤ 7) (knows : Asked �
     pub below : Each (λ x. x.number < top) down
     pub holds : KeptIs (Vouched sent executed made table) since top table k
     pub lines : Each (IsOf written sent) up
-    pub near : IsNear sent top table
+    pub near : IsNear knows E Plain sent top table
     pub coming : Each (λ x. Vouched sent executed made table x.number x.line) down
     pub answers : AllSo (Vouched sent executed made table) 0 settled
     pub order : IsOrdered top executed
@@ -118,7 +112,7 @@ module _ {State : Type 0} (width : ℕ) (narrow : width ≤ 7) (knows : Asked �
         once = λ keeps is. climbing_sent keeps ((h.top - 1 - since) % 8) h.top sent (r ∷ []) executed starts k (h.once keeps is);
       }
     where
-      near_sent : (r : Sent) → (Plain → knows r.call ≡ true) → IsNear sent h.top h.table → IsNear (sent ++ r ∷ []) h.top h.table
+      near_sent : (r : Sent) → (Plain → knows r.call ≡ true) → IsNear knows E Plain sent h.top h.table → IsNear knows E Plain (sent ++ r ∷ []) h.top h.table
       near_sent r plain (inl n) = inl (n.0, n.1, each_append (λ (r : Sent). knows r.call ≡ true) sent (r ∷ []) n.2 (plain n.0, tt))
       near_sent r plain (inr n) = inr n
 
@@ -133,33 +127,6 @@ module _ {State : Type 0} (width : ℕ) (narrow : width ≤ 7) (knows : Asked �
       subst (λ z. AllVouched (requested w target call (Some z))) (some_is y x e)
       (true_sent c.since c.count w.wire.sent w.wire.executed w.wire.starts w.wire.made w.wire.settled w.wire.up w.wire.down (kept w.wire.state) target id call (omega arith) plain h)
 
-  -- A request that reaches the instrument.
-
-  -- where request n is excepted, or at most seven after the newest known one, and has the id of the request whose reply is
-  -- retained, it is excepted or it is that request
-  near_same : (since top table n : ℕ) (k : KeptReply) (P : ℕ → List ℕ → Type 0) → IsKept P since top table k → since ≤ n → top ≤ n + 1 → k.id ≡ (n - since) % 8
-      → E n ⊎ (n ≤ table + 7) → E n ⊎ P n k.line
-  near_same since top table n k P held recent le same (inl e) = inl e
-  near_same since top table n k P held recent le same (inr near) =
-      let one : held.number ≡ n = omega (arith, held.recent, held.before, held.behind, held.id, recent, le, same, near) in
-      inr (subst (λ i. P i k.line) one held.line)
-
-  -- what is near stays near where request n was handed, which is known if all are
-  near_on : (sent : List Sent) (top table n : ℕ) (known : Bool) → table ≤ n → (Each (λ (r : Sent). knows r.call ≡ true) sent → known ≡ true) → IsNear sent top table
-      → IsNear sent (n + 1) (newest known n table)
-  near_on sent top table n known low all (inl h) =
-      let is : n ≡ newest known n table = sym (ap (λ b. newest b n table) (all h.2)) in
-      inl (h.0, omega (arith, is), h.2)
-  near_on sent top table n known low all (inr f) = inr (λ i. elim (f i) [
-    | inl e ↦ inl e
-    | inr le ↦ inr (let up = newest_up known n table low in omega (arith, le, up))
-  ])
-
-  -- request n is excepted, or at most seven after the newest known one: at most seven are outstanding
-  near_of : (sent : List Sent) (top table n : ℕ) → n < top + 7 → IsNear sent top table → E n ⊎ (n ≤ table + 7)
-  near_of sent top table n few (inl h) = inr (omega (arith, few, h.1))
-  near_of sent top table n few (inr f) = f n
-
   -- what `AllVouched` says of the front request, x
   record IsFront (w : World (ByNumber Asked) State) (h : AllVouched w) (x : Numbered Request) (known : Bool) : Type 0 where
     recent : w.client.since ≤ x.number
@@ -173,7 +140,7 @@ module _ {State : Type 0} (width : ℕ) (narrow : width ≤ 7) (knows : Asked �
     unknown : (known ≡ false) → IsUnknown knows w.wire.sent x.number
     all : Each (λ (r : Sent). knows r.call ≡ true) w.wire.sent → known ≡ true
 
-  -- each front request is so
+  -- the front request of the requests in flight is as `IsFront` says
   front_is : (w : World (ByNumber Asked) State) (x : Numbered Request) (rest : List (Numbered Request)) (known : Bool) → w.wire.up ≡ x ∷ rest → knows x.line.call ≡ known → Sound width ends Good w
       → (h : AllVouched w) → IsFront w h x known
   front_is w x rest known q is s h =
@@ -188,7 +155,7 @@ module _ {State : Type 0} (width : ℕ) (narrow : width ≤ 7) (knows : Asked �
         small = o.small;
         top = a;
         least = omega (arith, a, h.lower);
-        near = near_of w.wire.sent h.top h.table x.number (omega (arith, g.sent, s.few, h.counted, narrow)) h.near;
+        near = near_of knows E Plain w.wire.sent h.top h.table x.number (omega (arith, g.sent, s.few, h.counted, narrow)) h.near;
         of = o;
         unknown = λ not. (o.request, o.found, ap knows o.call ∙ is ∙ not);
         all = λ every. sym is ∙ sym (ap knows o.call) ∙ each_get (λ (r : Sent). knows r.call ≡ true) w.wire.sent x.number o.request every o.found;
@@ -231,7 +198,7 @@ module _ {State : Type 0} (width : ℕ) (narrow : width ≤ 7) (knows : Asked �
             (omega arith, tt);
         holds = kept_handed P Q f c.since h.top h.table n x.line.id known line (kept v.state) after front.recent front.top front.least front.id own now h.holds;
         lines = o.1;
-        near = near_on v.sent h.top h.table n known front.least front.all h.near;
+        near = near_on knows E Plain v.sent h.top h.table n known front.least front.all h.near;
         coming = each_append _ v.down _ (each_more (λ (y : Numbered (List ℕ)). P y.number y.line) (λ y. Q y.number y.line) (λ y. f y.number y.line) v.down h.coming) (own, tt);
         answers = all_so_more P Q f 0 v.settled h.answers;
         order = order;
@@ -247,7 +214,8 @@ module _ {State : Type 0} (width : ℕ) (narrow : width ≤ 7) (knows : Asked �
       let v = w.wire in
       let m : Numbered (List ℕ) = record { number = x.number; line = line } in
       let held = subst (λ k. KeptIs (Vouched v.sent v.executed v.made h.table) w.client.since h.top h.table k) (ke ∙ e) h.holds in
-      elim (near_same w.client.since h.top h.table x.number (record { id = x.line.id; line = line }) (Vouched v.sent v.executed v.made h.table) held front.recent front.top front.id front.near) [
+      elim (near_same knows E Plain w.client.since h.top h.table x.number (record { id = x.line.id; line = line })
+      (Vouched v.sent v.executed v.made h.table) held front.recent front.top front.id front.near) [
         | inl e ↦ inl e
         | inr p ↦ (vouched_on v.sent v.executed v.executed v.made (m ∷ []) h.table h.table x.number line (λ i has. has) (omega arith) p).1
       ]

@@ -10,7 +10,7 @@ use Rattle.gc_world.specs.Clients.{by_ids}
 use Rattle.gc_field.specs.World.{Ends, Numbered, Request, Step, Send, Up_deliver, Up_lose, Up_repeat, Down_deliver, Down_lose, Down_repeat, Expire, Restart_client, Restart_instrument, Nothing, World, without, doubled, up_delivered, with_up, with_down, on_wire, requested, down_delivered}
 use Rattle.gc_world.proofs.Rows.{length-settle}
 use Rattle.gc_field.specs.Field.{Move, Sends, Tells, Comes, Foreign, OnLine, Anew, Changes, Joins, IsOfLine, moves, moved, ArePossible}
-use Rattle.gc_field.specs.Runs.{gives_up}
+use Rattle.gc_field.specs.Runs.{times_out}
 
 -- what these moves make of an outstanding request: a moment at or past its deadline times it out, and nothing else changes it
 abbrev pub after_moves : {State : Type 0} → Pending Asked → List (Move State) → Pending Asked
@@ -35,9 +35,9 @@ or_none true = refl
 or_none false = refl
 
 -- a request has timed out after moves if it was before, or if a moment at or past its deadline is read
-pub after_is : {State : Type 0} (p : Pending Asked) (ms : List (Move State)) → after_moves p ms ≡ record p { given_up = p.given_up || gives_up p.deadline ms }
+pub after_is : {State : Type 0} (p : Pending Asked) (ms : List (Move State)) → after_moves p ms ≡ record p { given_up = p.given_up || times_out p.deadline ms }
 after_is p [] = ap (λ b. record p { given_up = b }) (or_none p.given_up)
-after_is p (Tells now ∷ ms) = after_is (expired now p) ms ∙ ap (λ b. record p { given_up = b }) (or_assoc p.given_up (nat_le p.deadline now) (gives_up p.deadline ms))
+after_is p (Tells now ∷ ms) = after_is (expired now p) ms ∙ ap (λ b. record p { given_up = b }) (or_assoc p.given_up (nat_le p.deadline now) (times_out p.deadline ms))
 after_is p (Sends target call deadline ∷ ms) = after_is p ms
 after_is p (Comes line ∷ ms) = after_is p ms
 after_is p (Foreign line ∷ ms) = after_is p ms

@@ -37,7 +37,7 @@ abbrev pub Units : ℕ → Type 0
 Units zero = Unit {0}
 Units (suc n) = Unit {0} × Units n
 
--- these facts hold
+-- `Units` holds
 pub units : (n : ℕ) → Units n
 units zero = tt
 units (suc n) = (tt, units n)

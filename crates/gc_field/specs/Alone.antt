@@ -21,7 +21,7 @@ two_at_once line = Sends 1 (Table NullProc) 9 ∷ Sends 2 (Table NullProc) 9 ∷
 
 -- the reply that is retained is booked as the second request's answer, though no request was executed: so it wasn't made on
 -- executing that request
-pub record IsBookedUnexecuted (state : State) (line : List ℕ) : Type 0 where
+pub record SecondIsBookedUnexecuted (state : State) (line : List ℕ) : Type 0 where
   pub possible : ArePossible ends IsFittingState kept_of (by_ids WINDOW ends) (two_at_once line) (ids_open state)
   pub settled : (left WINDOW ends state (two_at_once line)).wire.settled
       ≡ record { target = 1; call = Table NullProc; outcome = Lost } ∷ record { target = 2; call = Table NullProc; outcome = Answered line } ∷ []
@@ -31,4 +31,4 @@ pub record IsBookedUnexecuted (state : State) (line : List ℕ) : Type 0 where
 -- if the simulator retains a reply with id 1, that reply is booked for the second of two requests that are sent at once, which
 -- isn't executed
 abbrev pub TwoAtOnceAreBookedWrong : Type 0
-TwoAtOnceAreBookedWrong = (state : State) (line : List ℕ) → IsFittingState state → kept_line state.kept (Some 1) ≡ Some line → IsBookedUnexecuted state line
+TwoAtOnceAreBookedWrong = (state : State) (line : List ℕ) → IsFittingState state → kept_line state.kept (Some 1) ≡ Some line → SecondIsBookedUnexecuted state line

@@ -1,6 +1,6 @@
--- A synchronization in the field, this project's own: a beginner, an instrument, and a line between them that keeps order,
--- loses lines whole, and repeats one directly after it. The beginner sends null procedures with the ids 6 5 4 3 2 1 0 7, the
--- word, each until it is answered. What is in flight from before may be anything. Connections aren't spoken of, because a close
+-- A synchronization in the field, this project's own: a client that synchronizes, an instrument, and a line between them that
+-- keeps order, loses lines whole, and repeats one directly after it. The client sends null procedures with the ids
+-- 6 5 4 3 2 1 0 7, the word, each until it is answered. What is in flight from before may be anything. Connections aren't spoken of, because a close
 -- is a loss of lines. A request that is cut is lost, because a line feed arrives after its front. The instrument may start
 -- again at any moment.
 use Rattle.std.specs.Prelude.{◌≡◌, ℕ, ◌<◌, Bool, true, false, List, [], ◌∷◌, ◌++◌, map, Option, None}
@@ -37,7 +37,7 @@ pub record AreLines {State : Type 0} (Good : State → Type 0) (u : UnderWay Sta
   pub ids : Each (λ x. x.id < IDS) u.up
   pub good : Good u.state
 
--- The beginner.
+-- The client that synchronizes.
 
 -- a request or a reply in flight, marked old if the request, or the one that the reply was sent for, is from before this
 -- synchronization
@@ -63,7 +63,7 @@ leaves s = record { up = map (λ x. x.line) s.up; down = map (λ x. x.line) s.do
 
 -- one step of a synchronization
 pub data Turn (State : Type 0) : Type 0 where
-  -- the beginner's part: the null procedure of the first id that isn't answered is sent, the first time or again, whole or in
+  -- the client's part: the null procedure of the first id that isn't answered is sent, the first time or again, whole or in
   -- part; the front reply comes; a line comes that is no reply with an id
   Asks : Turn State
   Comes : Turn State

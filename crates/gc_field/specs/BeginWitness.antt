@@ -89,14 +89,14 @@ abbrev pub eight_come : List (Turn State)
 eight_come = Comes ∷ Comes ∷ Comes ∷ Comes ∷ Comes ∷ Comes ∷ Comes ∷ Comes ∷ []
 
 -- the moves after that synchronization: the first command is sent, and the reply after the eight comes
-abbrev pub one_more : List (Move State)
-one_more = Sends 7 (Table InstrumentNo) 100 ∷ field.Comes (codes "%R1P,0,0:0,654321") ∷ []
+abbrev pub ninth_comes : List (Move State)
+ninth_comes = Sends 7 (Table InstrumentNo) 100 ∷ field.Comes (codes "%R1P,0,0:0,654321") ∷ []
 
 -- those replies answer the whole word, and the one after them is booked for the first command, though nothing was executed
 pub record IsBookedFromBefore : Type 0 where
   pub begun : (turned ends eight_come (begins with_the_word)).left ≡ []
-  pub possible : ArePossible ends IsFittingState kept_of (by_ids WINDOW ends) one_more (ids_begun (leaves (turned ends eight_come (begins with_the_word))))
+  pub possible : ArePossible ends IsFittingState kept_of (by_ids WINDOW ends) ninth_comes (ids_begun (leaves (turned ends eight_come (begins with_the_word))))
   pub settled :
-      (behind WINDOW ends (leaves (turned ends eight_come (begins with_the_word))) one_more).wire.settled
+      (behind WINDOW ends (leaves (turned ends eight_come (begins with_the_word))) ninth_comes).wire.settled
       ≡ nulls_settled ++ record { target = 7; call = Table InstrumentNo; outcome = Answered (codes "%R1P,0,0:0,654321") } ∷ []
-  pub executed : (behind WINDOW ends (leaves (turned ends eight_come (begins with_the_word))) one_more).wire.executed ≡ []
+  pub executed : (behind WINDOW ends (leaves (turned ends eight_come (begins with_the_word))) ninth_comes).wire.executed ≡ []

@@ -50,9 +50,9 @@ pub record Run (State : Type 0) : Type 0 where
   pub moves : List (Move State)
 
 module _ {State : Type 0} (width : ℕ) (ends : Ends State) where
-  -- the state of a run's synchronization when the run has synchronized, or is killed before
-  abbrev pub stood : UnderWay State → Run State → Model State
-  stood u r = turned ends r.turns (begins u)
+  -- the state of a run's synchronization at the end of its turns: the run has synchronized then, or is killed
+  abbrev pub after_turns : UnderWay State → Run State → Model State
+  after_turns u r = turned ends r.turns (begins u)
 
   -- what is in flight after a run, by the ids of its word that are left. None: it had synchronized, and its moves followed.
   -- Some: it was killed while it synchronized
@@ -62,7 +62,7 @@ module _ {State : Type 0} (width : ℕ) (ends : Ends State) where
 
   -- what is in flight after a run
   abbrev pub left_by_run : UnderWay State → Run State → UnderWay State
-  left_by_run u r = left_if (stood u r).left (stood u r) r.moves
+  left_by_run u r = left_if (after_turns u r).left (after_turns u r) r.moves
 
   -- how many runs in a row were killed while they synchronized, counted at the end of a run, where `n` were before it. No id of
   -- its word is left: none, because the run has synchronized. Some ids are left: one more
@@ -74,7 +74,7 @@ module _ {State : Type 0} (width : ℕ) (ends : Ends State) where
   -- before the first
   abbrev pub AreFewKilled : ℕ → UnderWay State → List (Run State) → Type 0
   AreFewKilled n u [] = Unit {0}
-  AreFewKilled n u (r ∷ rs) = (killed_if (stood u r).left n ≤ 5) × AreFewKilled (killed_if (stood u r).left n) (left_by_run u r) rs
+  AreFewKilled n u (r ∷ rs) = (killed_if (after_turns u r).left n ≤ 5) × AreFewKilled (killed_if (after_turns u r).left n) (left_by_run u r) rs
 
   module _ (Good : State → Type 0) (kept : State → Option KeptReply) where
     -- the moves of a run are possible, by the ids of its word that are left. None: they are possible moves of a client. Some:
@@ -86,7 +86,7 @@ module _ {State : Type 0} (width : ℕ) (ends : Ends State) where
     -- each run is possible, over what the one before it left
     abbrev pub AreRuns : UnderWay State → List (Run State) → Type 0
     AreRuns u [] = Unit {0}
-    AreRuns u (r ∷ rs) = (AreTurns ends Good kept r.turns (begins u) × ArePossibleIf (stood u r).left (stood u r) r.moves) × AreRuns (left_by_run u r) rs
+    AreRuns u (r ∷ rs) = (AreTurns ends Good kept r.turns (begins u) × ArePossibleIf (after_turns u r).left (after_turns u r) r.moves) × AreRuns (left_by_run u r) rs
 
     -- if a run has synchronized (no id of its word is left), it has synchronized cleanly, and its moves are faithful
     abbrev pub IsOwnIf : List ℕ → Model State → List (Move State) → Type 0
@@ -96,7 +96,7 @@ module _ {State : Type 0} (width : ℕ) (ends : Ends State) where
     -- each run that has synchronized has synchronized cleanly, and is faithful, over what the one before it left
     abbrev pub AreOwn : UnderWay State → List (Run State) → Type 0
     AreOwn u [] = Unit {0}
-    AreOwn u (r ∷ rs) = IsOwnIf (stood u r).left (stood u r) r.moves × AreOwn (left_by_run u r) rs
+    AreOwn u (r ∷ rs) = IsOwnIf (after_turns u r).left (after_turns u r) r.moves × AreOwn (left_by_run u r) rs
 
 -- for any instrument, after a run that measured, or over a line with nothing in flight: as long as fewer than six runs in a row
 -- end while they synchronize, each run that has synchronized has synchronized cleanly, and each of its answers is its own

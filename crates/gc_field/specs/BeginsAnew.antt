@@ -25,7 +25,7 @@ use Rattle.gc_field.specs.Begin as turn
 use Rattle.gc_field.specs.Begin.{Turn, Asks, Reaches, UnderWay, begins, leaves, turned}
 use Rattle.gc_field.specs.Beginnings.{Run, left_by_run}
 use Rattle.gc_field.specs.Begun.{WasMadeOn}
-use Rattle.gc_field.specs.CountingChain.{Counter, before, begun, counting, kept_by}
+use Rattle.gc_field.specs.CountingChain.{Counter, before, null_replies, counting, kept_by}
 use Rattle.gc_field.specs.Field.{Move, Sends, Tells, Comes, OnLine}
 use Rattle.gc_field.specs.Instrument.{IsAnInstrument, AnyState}
 use Rattle.gc_field.specs.Runs.{IsInField}
@@ -80,7 +80,7 @@ put_all now (line ∷ others) acts = Put (with_end line) ∷ Told (at now) ∷ p
 -- the acts until seven have timed out: the station synchronizes; seven commands are sent, and nothing comes until their
 -- deadline
 abbrev pub given_up : List Act
-given_up = begun_with begun (Told (at 15) ∷ put_all 15 seven (Silent (at 115) ∷ []))
+given_up = begun_with null_replies (Told (at 15) ∷ put_all 15 seven (Silent (at 115) ∷ []))
 
 -- the acts from there on: the station resynchronizes, and its first null procedure is sent. The reply to the first command
 -- comes, and is discarded; the reply to the seventh comes twice, and the second is discarded; the other null procedures are
@@ -147,11 +147,11 @@ run = record { turns = eight; moves = moves }
 abbrev pub runs : List (Run Counter)
 runs = run ∷ record { turns = turns; moves = moves_anew } ∷ record { turns = []; moves = [] } ∷ []
 
--- what is in flight if the run resynchronizes
+-- what is in flight when the run resynchronizes
 abbrev pub left : UnderWay Counter
 left = left_by_run WINDOW counting before run
 
--- what is in flight if the run has synchronized again
+-- what is in flight once the run has synchronized again
 abbrev pub from : UnderWay Counter
 from = leaves (turned counting turns (begins left))
 

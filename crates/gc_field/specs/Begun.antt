@@ -176,7 +176,7 @@ module _ {State : Type 0} (width : ℕ) (ends : Ends State) (u : UnderWay State)
         → WasMadeOn ms m s.call line
     -- in order: requests are executed in the order of sending, over starts too
     pub in_order : IsInOrder (behind ms).wire.executed
-    -- late: the instrument dealt with the request, though its reply came too late
+    -- late: the instrument executed the request, though its reply came too late
     pub late :
         (m : ℕ) (s : Settlement Asked) → 8 ≤ m → IsSafe Good kept ms m → slice_get (behind ms).wire.settled m ≡ Some s → s.outcome ≡ Late
         → (line : List ℕ) × WasMadeOn ms m s.call line

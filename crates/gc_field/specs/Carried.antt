@@ -12,7 +12,7 @@ use Rattle.gc_field.specs.Begun.{IsClean, IsFaithful, behind, ids_begun}
 use Rattle.gc_field.specs.Field.{Move, ArePossible, seen}
 use Rattle.gc_field.specs.Instrument.{IsAnInstrument, AnyState}
 use Rattle.gc_field.specs.Laws.{kept_of}
-use Rattle.gc_field.specs.Meaning.{Amount, client_after}
+use Rattle.gc_field.specs.Meaning.{AllMean, client_after}
 
 -- acts of a station, and the moves of the line and of an instrument that go with them. The synchronization before these acts
 -- has synchronized cleanly, and left `u` in flight; `rest` are the bytes of an unfinished line that the last piece of the
@@ -20,7 +20,7 @@ use Rattle.gc_field.specs.Meaning.{Amount, client_after}
 pub record IsCarried {State : Type 0} (ends : Ends State) (Good : State → Type 0) (kept : State → Option KeptReply) (u : UnderWay State) (rest : List ℕ)
     (acts : List Act) (ms : List (Move State)) : Type 0 where
   pub clean : IsClean Good kept u
-  pub steps : Amount fresh rest acts (seen ms)
+  pub steps : AllMean fresh rest acts (seen ms)
   pub possible : ArePossible ends Good kept (by_ids WINDOW ends) ms (ids_begun u)
 
 -- `IsFaithful` holds of these moves, and the station's client ends in the same state as the world's client

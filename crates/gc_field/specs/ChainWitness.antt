@@ -147,7 +147,7 @@ runs = record { turns = eight; moves = moves } ∷ record { turns = []; moves = 
 
 -- this is a run in the field that recorded all three answers; the third command is of the first one's chain, no command between
 -- the two turns the telescope, and nothing disturbs the instrument. So when the third is executed, after both others, the
--- telescope points if the first pointed it
+-- telescope points where the first pointed it
 pub record IsPointedInField : Type 0 where
   pub field : IsInField ends IsFittingState kept_of plan commands scope acts before runs
   pub records : (state_after plan commands scope acts).records ≡ records_with first second third

@@ -51,8 +51,8 @@ abbrev pub counts : Counter → Asked → Counter
 counts s call = record { count = suc s.count; keeps = s.keeps }
 
 -- the replies to the eight null procedures: the instrument had executed 27 requests before
-abbrev pub begun : List (List ℕ)
-begun =
+abbrev pub null_replies : List (List ℕ)
+null_replies =
     codes "%R1P,0,6:0,28" ∷ codes "%R1P,0,5:0,29" ∷ codes "%R1P,0,4:0,30" ∷ codes "%R1P,0,3:0,31" ∷ codes "%R1P,0,2:0,32" ∷ codes "%R1P,0,1:0,33"
     ∷ codes "%R1P,0,0:0,34" ∷ codes "%R1P,0,7:0,35" ∷ []
 
@@ -70,7 +70,7 @@ third = codes "%R1P,0,2:0,38"
 
 -- the acts of the run
 abbrev pub acts : List Act
-acts = acts_with begun first second third
+acts = acts_with null_replies first second third
 
 -- what the line does once the run has synchronized
 abbrev pub moves : List (Move Counter)

@@ -59,8 +59,8 @@ abbrev pub scope : Scope
 scope = record { turns = 100; reads = λ call line. Value Nothing }
 
 -- the replies to the null procedures
-abbrev pub begun : List (List ℕ)
-begun =
+abbrev pub null_replies : List (List ℕ)
+null_replies =
     codes "%R1P,0,6:0,12" ∷ codes "%R1P,0,5:0,12" ∷ codes "%R1P,0,4:0,12" ∷ codes "%R1P,0,3:0,12" ∷ codes "%R1P,0,2:0,12" ∷ codes "%R1P,0,1:0,12"
     ∷ codes "%R1P,0,0:0,12" ∷ codes "%R1P,0,7:0,12" ∷ []
 
@@ -88,7 +88,7 @@ acts raw =
     ∷ Opened
     ∷ Put (10 ∷ [])
     ∷ Told (at 210)
-    ∷ exchanged 215 asked begun (
+    ∷ exchanged 215 asked null_replies (
     Told (at 220)
     ∷ Put (with_end (codes "%R1Q,5003,0:"))
     ∷ Told (at 220)

@@ -12,7 +12,7 @@ use Rattle.gc_station.specs.Model.{Runs, opening}
 use Rattle.gc_field.specs.Simulator.{ends}
 use Rattle.gc_field.specs.World.{Ends}
 use Rattle.gc_field.specs.Begin.{AreLines, Turn, UnderWay}
-use Rattle.gc_field.specs.Beginnings.{AreRuns, IsRow, Run, killed_if, left_by_run, stood}
+use Rattle.gc_field.specs.Beginnings.{AreRuns, IsRow, Run, killed_if, left_by_run, after_turns}
 use Rattle.gc_field.specs.Instrument.{AnyState, IsAnInstrument}
 use Rattle.gc_field.specs.Laws.{kept_of}
 use Rattle.gc_field.specs.Runs.{IsRunFaithful}
@@ -36,7 +36,7 @@ module _ {State : Type 0} (ends : Ends State) where
   -- which nothing happened, doesn't count
   abbrev pub killed_by : ℕ → UnderWay State → Run State → List (Turn State) → ℕ
   killed_by n u r [] = n
-  killed_by n u r (t ∷ ts) = killed_if WINDOW ends (stood WINDOW ends u r).left n
+  killed_by n u r (t ∷ ts) = killed_if WINDOW ends (after_turns WINDOW ends u r).left n
 
   -- how many runs in a row were killed while they synchronized, at the end of these, where `n` were before
   abbrev pub killed_over : ℕ → UnderWay State → List (Run State) → ℕ

@@ -93,7 +93,15 @@ pub record IsLateInField : Type 0 where
   pub records :
       (state_after plan commands scope acts).records
       ≡ record { sent = Some 15; utc = 120; cycle = 1; place = 0; turn = plain_turn; command = record { target = 7; call = Table InstrumentNo }; end = end.Late }
-      ∷ record { sent = Some 115; utc = 125; cycle = 1; place = 1; turn = plain_turn; command = record { target = 8; call = Table InstrumentNo }; end = end.Answered Fine (Some (Long (pos 123456))) answer }
+      ∷ record {
+        sent = Some 115;
+        utc = 125;
+        cycle = 1;
+        place = 1;
+        turn = plain_turn;
+        command = record { target = 8; call = Table InstrumentNo };
+        end = end.Answered Fine (Some (Long (pos 123456))) answer;
+      }
       ∷ []
   pub late_made_on : WasMadeOn WINDOW ends from moves 8 (Table InstrumentNo) late
   pub answer_made_on : WasMadeOn WINDOW ends from moves 9 (Table InstrumentNo) answer

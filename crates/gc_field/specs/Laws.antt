@@ -59,7 +59,7 @@ module _ {State : Type 0} (width : ℕ) (ends : Ends State) (state : State) (ms 
         (m : ℕ) (s : Settlement Asked) (line : List ℕ) → 0 < m → slice_get left.wire.settled m ≡ Some s → s.outcome ≡ Answered line → WasMadeOn width ends state ms m s.call line
     -- in order: requests are executed in the order of sending, over starts too
     pub in_order : IsInOrder left.wire.executed
-    -- late: the instrument dealt with the request, though its reply came too late
+    -- late: the instrument executed the request, though its reply came too late
     pub late :
         (m : ℕ) (s : Settlement Asked) → 0 < m → slice_get left.wire.settled m ≡ Some s → s.outcome ≡ Late → (line : List ℕ) × WasMadeOn width ends state ms m s.call line
     -- acts once: if the instrument retains its reply to each request that it knows, between two of its starts each of these is

@@ -1,5 +1,5 @@
 -- What the acts of a link are to a station's client, this project's own. Nothing is said of when a station sends: only that it
--- retains the client's rule, with the window of seven, and hears each line that comes or discards what came. Connections may be
+-- follows the client's rule, with the window of seven, and hears each line that comes or discards what came. Connections may be
 -- closed and made at any time, and that is nothing to the client.
 use Rattle.std.specs.Prelude.{◌≡◌, ◌⊎◌, ℕ, List, [], ◌∷◌, ◌++◌, map, Some}
 use Rattle.gc_lines.specs.Frames.{rest_behind}
@@ -37,7 +37,7 @@ pub record IsHeard (before piece : List ℕ) (m : Moment) (steps : List (Step As
 
 -- what a piece that is discarded means, as while a connection is drained: the moment is read, and it is as if the piece had
 -- been lost
-pub record IsDropped (before : List ℕ) (m : Moment) (steps : List (Step Asked)) (behind : List ℕ) : Type 0 where
+pub record IsDiscarded (before : List ℕ) (m : Moment) (steps : List (Step Asked)) (behind : List ℕ) : Type 0 where
   pub lines : steps ≡ Expire m.elapsed ∷ []
   pub rest : behind ≡ before
 
@@ -49,7 +49,7 @@ Means client before (Told m) steps behind = (steps ≡ Expire m.elapsed ∷ []) 
 Means client before Untold steps behind = (steps ≡ []) × (behind ≡ before)
 Means client before (Put bytes) steps behind = IsPut client bytes steps × (behind ≡ before)
 Means client before (Cut bytes count) steps behind = IsPut client bytes steps × (behind ≡ before)
-Means client before (Gave piece m) steps behind = IsHeard before piece m steps behind ⊎ IsDropped before m steps behind
+Means client before (Gave piece m) steps behind = IsHeard before piece m steps behind ⊎ IsDiscarded before m steps behind
 Means client before (Silent m) steps behind = (steps ≡ Expire m.elapsed ∷ []) × (behind ≡ before)
 Means client before Ended steps behind = (steps ≡ []) × (behind ≡ before)
 Means client before Broke steps behind = (steps ≡ []) × (behind ≡ before)
@@ -68,8 +68,8 @@ client_after client (step ∷ steps) = client_after (stepped client step) steps
 
 -- these acts, in order, mean these steps, in order: for a client that begins in this state, with these bytes since the last
 -- line feed
-abbrev pub Amount : ById Asked → List ℕ → List Act → List (Step Asked) → Type 0
-Amount client before [] steps = steps ≡ []
-Amount client before (act ∷ acts) steps =
+abbrev pub AllMean : ById Asked → List ℕ → List Act → List (Step Asked) → Type 0
+AllMean client before [] steps = steps ≡ []
+AllMean client before (act ∷ acts) steps =
     (first : List (Step Asked)) × (later : List (Step Asked)) × (behind : List ℕ) × (steps ≡ first ++ later) × Means client before act first behind
-    × Amount (client_after client first) behind acts later
+    × AllMean (client_after client first) behind acts later

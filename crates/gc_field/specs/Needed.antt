@@ -149,15 +149,15 @@ shared = asks (Table NullProc) (value 0 0) (Changes (Some (1, 27)) ∷ asks (Tab
 
 -- Instruments that retain no reply: their state says whether they are out of order.
 
--- an id that differs from this one, unless that is 0
-abbrev pub turned : ℕ → ℕ
-turned zero = 0
-turned (suc id) = id + 2
+-- another id than this one: the next; but 0 stays 0
+abbrev pub other_id : ℕ → ℕ
+other_id zero = 0
+other_id (suc id) = id + 2
 
 -- the id of a reply to a request with this id: another one if the instrument is out of order
 abbrev pub id_of : Bool → ℕ → ℕ
 id_of false id = id
-id_of true id = turned id
+id_of true id = other_id id
 
 -- what an instrument that may be out of order does with a request: it executes the request, and its reply has another id if it
 -- is out of order (`broken`). `behind` is its state afterwards
@@ -174,9 +174,9 @@ mistaken = record { handed = λ b id call. answers_in true id b; restarted = λ 
 
 -- an instrument whose lines are read by another grammar
 abbrev pub misheard : Ends Bool
-misheard = record mistaken { handed = λ b id call. answers_in false id b; heard = λ line. option_map turned (heard line) }
+misheard = record mistaken { handed = λ b id call. answers_in false id b; heard = λ line. option_map other_id (heard line) }
 
--- an instrument that answers without having dealt with the request
+-- an instrument that answers without having executed the request
 abbrev pub idle : Ends Bool
 idle = record mistaken { handed = λ b id call. record { state = b; reply = value id 0; executed = false } }
 

@@ -39,15 +39,15 @@ abbrev pub bare : State → State
 bare s = with_kept None s
 
 -- whether a request may turn the simulator's telescope
-abbrev pub turns : Asked → Bool
-turns (Table (Position hz v pos_mode atr_mode dummy)) = true
-turns (Table (ChangeFace pos_mode atr_mode dummy)) = true
-turns (Table (FineAdjust area_hz area_v dummy)) = true
-turns _ = false
+abbrev pub turns_telescope : Asked → Bool
+turns_telescope (Table (Position hz v pos_mode atr_mode dummy)) = true
+turns_telescope (Table (ChangeFace pos_mode atr_mode dummy)) = true
+turns_telescope (Table (FineAdjust area_hz area_v dummy)) = true
+turns_telescope _ = false
 
 -- no command from place a up to place b turns the telescope
 abbrev pub AreStill : List Task → ℕ → ℕ → Type 0
-AreStill commands a b = (p : ℕ) (task : Task) → a < p → p < b → slice_get commands p ≡ Some task → turns task.command.call ≡ false
+AreStill commands a b = (p : ℕ) (task : Task) → a < p → p < b → slice_get commands p ≡ Some task → turns_telescope task.command.call ≡ false
 
 -- in two states of an instrument the telescope points in the same direction, in the same face
 pub record PointsAs (s t : State) : Type 0 where

@@ -42,10 +42,10 @@ use Rattle.gc_field.specs.Meaning.{Means}
 use Rattle.gc_field.specs.Shown.{AreShownAs, Stretch, stretches}
 
 -- whether a moment at or past this deadline is read among these moves
-abbrev pub gives_up : {State : Type 0} → ℕ → List (Move State) → Bool
-gives_up deadline [] = false
-gives_up deadline (Tells now ∷ ms) = nat_le deadline now || gives_up deadline ms
-gives_up deadline (_ ∷ ms) = gives_up deadline ms
+abbrev pub times_out : {State : Type 0} → ℕ → List (Move State) → Bool
+times_out deadline [] = false
+times_out deadline (Tells now ∷ ms) = nat_le deadline now || times_out deadline ms
+times_out deadline (_ ∷ ms) = times_out deadline ms
 
 module _ {State : Type 0} (ends : Ends State) where
   -- the world after a stretch. Its requests 0 to 7 are the null procedures of the synchronization, and the client's come after
@@ -78,10 +78,10 @@ module _ {State : Type 0} (ends : Ends State) where
       → (behind WINDOW ends s.from (before ++ Sends target call deadline ∷ between)).wire.down ≡ record { number = length (behind WINDOW ends s.from before).wire.sent; line = line } ∷ rest
       → length (behind WINDOW ends s.from (before ++ Sends target call deadline ∷ between)).wire.settled ≤ length (behind WINDOW ends s.from before).wire.sent
       → slice_get (world s).wire.settled (length (behind WINDOW ends s.from before).wire.sent)
-      ≡ Some (record { target = target; call = call; outcome = if gives_up deadline between then Late else Answered line })
+      ≡ Some (record { target = target; call = call; outcome = if times_out deadline between then Late else Answered line })
 
   -- the records that these stretches record, with the moment 0: how each command ended in its own stretch, and as lost what is
-  -- outstanding if the next stretch begins
+  -- outstanding when the next stretch begins
   abbrev pub written_over : (Asked → List ℕ → Reading) → List Part → List (Stretch State) → List Record
   written_over reads (p ∷ []) (s ∷ []) = records_of reads 0 p.marks (own_settled s)
   written_over reads (p ∷ q ∷ ps) (s ∷ t ∷ ss) =
@@ -114,7 +114,7 @@ module _ {State : Type 0} (ends : Ends State) (Good : State → Type 0) (kept : 
     pub shown : AreShownAs ends u rs (parts_of plan commands (opening plan scope) acts)
     pub possible : AreRuns WINDOW ends Good kept u rs
 
-  -- if the answer `line` of record `r` comes from, in a run with the parts `ps` and the stretches `ss`: in stretch k, the
+  -- where the answer `line` of record `r` comes from, in a run with the parts `ps` and the stretches `ss`: in stretch k, the
   -- client's request m is the command of the record's cycle and place; the instrument made this line on executing that very
   -- request; and the line settled the request
   pub record IsItsOwn (commands : List Task) (ps : List Part) (ss : List (Stretch State)) (r : Record) (line : List ℕ) : Type 0 where
@@ -143,10 +143,10 @@ module _ {State : Type 0} (ends : Ends State) (Good : State → Type 0) (kept : 
   abbrev pub IsOwnAnswer : List Task → List Part → List (Stretch State) → Record → Type 0
   IsOwnAnswer commands ps ss r = (line : List ℕ) → answer_of r.end ≡ Some line → IsItsOwn commands ps ss r line
 
-  -- the instrument dealt with the command of a late record `r`, in a run with the parts `ps` and the stretches `ss`: in stretch
+  -- the instrument executed the command of a late record `r`, in a run with the parts `ps` and the stretches `ss`: in stretch
   -- k, the client's request m is the command of the record's cycle and place, and the instrument made a line on executing that
   -- request
-  pub record WasDealtWith (commands : List Task) (ps : List Part) (ss : List (Stretch State)) (r : Record) : Type 0 where
+  pub record HasExecution (commands : List Task) (ps : List Part) (ss : List (Stretch State)) (r : Record) : Type 0 where
     pub k : ℕ
     pub part : Part
     pub stretch : Stretch State
@@ -160,9 +160,9 @@ module _ {State : Type 0} (ends : Ends State) (Good : State → Type 0) (kept : 
     pub line : List ℕ
     pub made_on : WasMadeOn WINDOW ends stretch.from stretch.moves (8 + m) (call_at task (sent_at r)) line
 
-  -- if a record is late, the instrument dealt with its command all the same: by `WasDealtWith`
-  abbrev pub IsDealtWith : List Task → List Part → List (Stretch State) → Record → Type 0
-  IsDealtWith commands ps ss r = r.end ≡ end.Late → WasDealtWith commands ps ss r
+  -- if a record is late, the instrument executed its command all the same: by `HasExecution`
+  abbrev pub LateHasExecution : List Task → List Part → List (Stretch State) → Record → Type 0
+  LateHasExecution commands ps ss r = r.end ≡ end.Late → HasExecution commands ps ss r
 
   -- a stretch is faithful after its first moves, however many
   abbrev pub IsFaithfulThroughout : Stretch State → Type 0
@@ -170,14 +170,14 @@ module _ {State : Type 0} (ends : Ends State) (Good : State → Type 0) (kept : 
 
   -- what holds of a run in the field, from its records back to what the instrument executed
   pub record IsRunFaithful (plan : Plan) (commands : List Task) (scope : Scope) (acts : List Act) (u : UnderWay State) (rs : List (Run State)) : Type 0 where
-    -- no command is sent before the eighth null procedure is answered: neither at first, nor if it resynchronizes
+    -- no command is sent before the eighth null procedure is answered: neither at first, nor when the run resynchronizes
     pub begun : AreBegun the_word (parts_of plan commands (opening plan scope) acts)
-    -- and if it has synchronized, it has synchronized cleanly: no request from before is in flight, nor a reply to one
+    -- and where it has synchronized, it has synchronized cleanly: no request from before is in flight, nor a reply to one
     pub clean : AreOwn WINDOW ends Good kept u rs
     -- its own: the answer of each record was made on executing the request of that very cycle and place
     pub own : AllByRecursion (IsOwnAnswer commands (parts_of plan commands (opening plan scope) acts) (stretches ends u rs)) (state_after plan commands scope acts).records
-    -- and if a reply came too late, the instrument dealt with the request all the same
-    pub late : AllByRecursion (IsDealtWith commands (parts_of plan commands (opening plan scope) acts) (stretches ends u rs)) (state_after plan commands scope acts).records
+    -- and if a reply came too late, the instrument executed the request all the same
+    pub late : AllByRecursion (LateHasExecution commands (parts_of plan commands (opening plan scope) acts) (stretches ends u rs)) (state_after plan commands scope acts).records
     -- one for one: the records and what is outstanding are the commands sent, and those recorded without being sent, in order,
     -- each once
     pub one_for_one : EachOnce plan commands scope acts

@@ -122,7 +122,15 @@ pub record IsAnsweredInField : Type 0 where
   pub over : is_over (state_after plan commands scope acts).progress ≡ true
   pub records :
       (state_after plan commands scope acts).records
-      ≡ record { sent = Some 15; utc = 20; cycle = 1; place = 0; turn = plain_turn; command = record { target = 7; call = Table InstrumentNo }; end = end.Answered Fine (Some (Long (pos 123456))) answer } ∷ []
+      ≡ record {
+        sent = Some 15;
+        utc = 20;
+        cycle = 1;
+        place = 0;
+        turn = plain_turn;
+        command = record { target = 7; call = Table InstrumentNo };
+        end = end.Answered Fine (Some (Long (pos 123456))) answer;
+      } ∷ []
   pub made_on : WasMadeOn WINDOW ends (leaves (turned ends turns (begins before))) moves 8 (Table InstrumentNo) answer
 
 -- some run is one in the field

@@ -1,7 +1,7 @@
--- Each act preserves the weaker record `Mid` (see `Midway`), which holds in the midst of an act, before what is outstanding is
--- lost: the counts, the client, the marks and the records belong together (`Sound`), and the phase fits them (`Placed`). An act
--- is one call on the link, with its result. A mark says which command an outstanding request is of, or `None` of a null
--- procedure; a piece is the bytes that one read gave.
+-- Each act preserves `Mid` (see `Midway`), which holds in the midst of an act, before what is outstanding is lost: the counts,
+-- the client, the marks and the records belong together (`Sound`), and the phase fits them (`Placed`). An act is one call on the
+-- link, with its result. A mark says which command an outstanding request is of, or `None` of a null procedure; a piece is the
+-- bytes that one read gave.
 use Rattle.std.proofs.Common.{◌≡◌, ℕ, ◌<◌, inl, ◌&&◌, ◌||◌, Bool, true, false, not, List, [], ◌∷◌, length, if◌then◌else◌, nat_eq, nat_lt, Option, Some, None, refl, sym, ap, subst}
 use Rattle.std.proofs.lemmas.Bool.{eqb-true}
 use Rattle.gc_lines.specs.Frames.{rest_behind}
@@ -22,7 +22,7 @@ use Rattle.gc_station.specs.declared.progress.Waiting.{Waiting}
 use Rattle.gc_links.specs.Acts.{Act, Told, Cut, Gave, Silent, Ended, Broke, Opened}
 use Rattle.gc_station.specs.Deciding.{is_up, is_past, is_quiet}
 use Rattle.gc_station.specs.Marks.{commands_in}
-use Rattle.gc_station.specs.Progressing.{moment_noted, failing, after_failure, is_finished, is_spared, lines_asked, quieted, drained, time_passed, silent, is_idle, closed}
+use Rattle.gc_station.specs.Progressing.{moment_noted, failing, after_failure, is_finished, is_spared, lines_synchronizing, quieted, drained, time_passed, silent, is_idle, closed}
 use Rattle.gc_station.specs.Model.{Model, with_progress, with_moment, with_rest, waiting_of, line_came, lines_came, lines_completed, after_piece, is_heard, reckoned, piece_at, after_clock, after_put, after_open, after_read, after_close}
 use Rattle.gc_station.proofs.Invariant.{is_bare, is_done, says_done}
 use Rattle.gc_station.proofs.Midway.{Placed, SoundAt, PlacedAt, Mid, sound_moment, sound_settles}
@@ -35,21 +35,21 @@ fail_placed : (p : Progress) (rest : List ℕ) (marks : List (Option Mark)) (why
 fail_placed p rest marks why true other = record { empty = λ e. cc; finished = λ e. absurd (not_both (is_done why) e other) }
 fail_placed p rest marks why false other = record { empty = λ e. cc; finished = λ e. absurd (not_both (is_done why) e other) }
 
--- a failure preserves the weaker record, unless the run fails for being done
+-- a failure preserves `Mid`, unless the run fails for being done
 pub mid_fail : (plan : Plan) (commands : List Task) (s : Model) (why : Cause) → is_done why ≡ false → Mid plan commands s → Mid plan commands (with_progress (failing why) s)
 mid_fail plan commands s why other mid = (mid.0, fail_placed s.progress s.rest s.marks why (is_up s.progress.phase) other)
 
--- a moment that times requests out preserves the weaker record
+-- a moment that times requests out preserves `Mid`
 pub mid_moment : (plan : Plan) (commands : List Task) (s : Model) (m : Moment) → Mid plan commands s → Mid plan commands (with_moment m s)
 mid_moment plan commands s m mid = (sound_moment plan commands s.progress.left s.progress.unsent s.client s.marks s.records s.passes m.elapsed mid.0, mid.1)
 
--- an act that reads the clock preserves the weaker record, if the change of the progress does
+-- an act that reads the clock preserves `Mid`, if the change of the progress does
 pub mid_clock : (plan : Plan) (commands : List Task) (f : Moment → Progress → Progress) (s : Model) (act : Act) → Mid plan commands s
     → ((m : Moment) → Mid plan commands (with_progress (f m) s)) → Mid plan commands (after_clock f s act)
 mid_clock plan commands f s (Told m) mid ok = mid_moment plan commands (with_progress (f m) s) m (ok m)
 mid_clock plan commands f s act mid ok = mid_fail plan commands s cause.Clock refl mid
 
--- an act that puts bytes preserves the weaker record, if the change of the model does
+-- an act that puts bytes preserves `Mid`, if the change of the model does
 pub mid_put : (plan : Plan) (commands : List Task) (requests : ℕ) (f : Model → Model) (s : Model) (act : Act) → Mid plan commands (f s) → Mid plan commands (after_put requests f s act)
 mid_put plan commands requests f s (Cut bytes n) mid = mid_fail plan commands (f s) (cause.Write requests n) refl mid
 mid_put plan commands requests f s act mid = mid
@@ -75,7 +75,7 @@ all_sent n p e = three (nat_eq p.left 0) (nat_eq p.unsent 0) (nat_eq n 0) e refl
 placed_again : (plan : Plan) (n : ℕ) (why : Cause) (p : Progress) (rest : List ℕ) (marks : List (Option Mark)) → is_done why ≡ false → rest ≡ [] → PlacedAt (after_failure plan n why p) rest marks
 placed_again plan n why p rest marks other none = again_placed why p.left p.unsent rest marks (is_finished n p) (is_spared plan why p || nat_lt 0 p.tries) other none (all_sent n p)
 
--- an attempt to connect preserves the weaker record
+-- an attempt to connect preserves `Mid`
 pub mid_open : (plan : Plan) (commands : List Task) (s : Model) (act : Act) → s.progress.phase ≡ Down → Mid plan commands s → Mid plan commands (after_open plan s act)
 mid_open plan commands s Opened is mid = (mid.0, record { empty = λ e. mid.1.empty (ap is_bare is); finished = λ e. cc })
 mid_open plan commands s act is mid = (mid.0, placed_again plan (commands_in s.marks) cause.Open s.progress s.rest s.marks refl (mid.1.empty (ap is_bare is)))
@@ -98,12 +98,12 @@ close_sound : (plan : Plan) (commands : List Task) (s : Model) (w : Waiting) (wh
     → SoundAt plan commands (closed plan w why s.progress) s.client s.marks s.records s.passes
 close_sound plan commands s w why sound = closed_along (λ (q : Progress). SoundAt plan commands q s.client s.marks s.records s.passes) plan w why s.progress sound sound
 
--- a close preserves the weaker record, if one for being done has nothing left to be sent
+-- a close preserves `Mid`, if one for being done has nothing left to be sent
 pub mid_close : (plan : Plan) (commands : List Task) (s : Model) (why : Cause) → (why ≡ cause.Done → (s.progress.left ≡ 0) × (s.progress.unsent ≡ 0))
     → Mid plan commands s → Mid plan commands (after_close plan why s)
 mid_close plan commands s why done mid = let w : Waiting = waiting_of (with_rest [] s) in (close_sound plan commands s w why mid.0, close_placed plan w why s.progress s.marks done)
 
--- the weaker record, in a phase in which lines are heard: requests are sent then
+-- `Mid`, in a phase in which lines are heard: requests are sent then
 pub record Listening (plan : Plan) (commands : List Task) (s : Model) : Type 0 where
   pub sound : SoundAt plan commands s.progress s.client s.marks s.records s.passes
   pub is_ready : s.progress.phase ≡ Ready
@@ -140,7 +140,7 @@ heard_ready Ready e = refl
 heard_ready phase e = cc
 
 -- lines that are heard while the station synchronizes preserve `Listening`: they change neither the counts nor the phase
-listen_asked : (plan : Plan) (commands : List Task) (s : Model) (lines : List (List ℕ)) → Listening plan commands s → Listening plan commands (with_progress (λ p. lines_asked p lines) s)
+listen_asked : (plan : Plan) (commands : List Task) (s : Model) (lines : List (List ℕ)) → Listening plan commands s → Listening plan commands (with_progress (λ p. lines_synchronizing p lines) s)
 listen_asked plan commands s lines l =
     let it = asked_along (λ (q : Progress). SoundAt plan commands q s.client s.marks s.records s.passes × (q.phase ≡ Ready)) (λ q line h. h) s.progress lines (l.sound, l.is_ready) in
     record { sound = it.0; is_ready = it.1 }
@@ -151,19 +151,25 @@ listen_came plan commands s [] piece l = listen_lines plan commands (with_rest (
 listen_came plan commands s (asked ∷ others) piece l = listen_asked plan commands (with_rest (rest_behind s.rest piece) s) (lines_completed s.rest piece)
     (record { sound = l.sound; is_ready = l.is_ready })
 
--- counting what a piece settled preserves the weaker record, where lines are heard
+-- counting what a piece settled preserves `Mid`, where lines are heard
 reckoned_ready : (plan : Plan) (commands : List Task) (s : Model) (until : Until) (before : ℕ) → Listening plan commands s → Mid plan commands (reckoned plan until before s)
-reckoned_ready plan commands s until before l =
-    (l.sound, record { empty = λ e. absurd (not_both (is_bare s.progress.phase) e (ap is_bare l.is_ready)); finished = λ e. absurd (not_both (says_done s.progress.phase) e (ap says_done l.is_ready)) })
+reckoned_ready plan commands s until before l = (
+  l.sound,
+  record {
+    empty = λ e. absurd (not_both (is_bare s.progress.phase) e (ap is_bare l.is_ready));
+    finished = λ e. absurd
+        (not_both (says_done s.progress.phase) e (ap says_done l.is_ready));
+  },
+)
 
--- a piece that was counted preserves the weaker record, heard or not
+-- a piece that was counted preserves `Mid`, heard or not
 reckoned_came : (plan : Plan) (commands : List Task) (s : Model) (until : Until) (before : ℕ) (h : Bool) (word piece : List ℕ) → is_heard s.progress.phase ≡ h
     → Mid plan commands s → Mid plan commands (reckoned plan until before (after_piece h word piece s))
 reckoned_came plan commands s until before true word piece is mid =
     reckoned_ready plan commands (after_piece true word piece s) until before (listen_came plan commands s word piece (record { sound = mid.0; is_ready = heard_ready s.progress.phase is }))
 reckoned_came plan commands s until before false word piece is mid = (mid.0, record { empty = mid.1.empty; finished = mid.1.finished })
 
--- a piece preserves the weaker record, whether it is heard or discarded
+-- a piece preserves `Mid`, whether it is heard or discarded
 pub mid_piece : (plan : Plan) (commands : List Task) (s : Model) (until : Until) (piece : List ℕ) (m : Moment) → Mid plan commands s → Mid plan commands (piece_at plan until piece m s)
 mid_piece plan commands s until piece m mid =
     reckoned_came plan commands (with_moment m (with_progress (moment_noted m) s)) until (commands_in s.marks) (is_heard s.progress.phase) s.progress.word piece refl
@@ -177,7 +183,7 @@ down_placed : (b : Bool) (phase : Phase) (left unsent : ℕ) (rest : List ℕ) (
 down_placed true phase left unsent rest marks is placed = record { empty = λ e. placed.empty (ap is_bare is); finished = λ e. cc }
 down_placed false phase left unsent rest marks is placed = placed
 
--- the weaker record of a model, with this progress in place of its own
+-- `Mid` of a model, with this progress in place of its own
 abbrev MidAt : Plan → List Task → Model → Progress → Type 0
 MidAt plan commands s p = SoundAt plan commands p s.client s.marks s.records s.passes × PlacedAt p s.rest s.marks
 
@@ -192,11 +198,11 @@ quiet_there plan commands s Pausing p is mid = (mid.0, down_placed (is_past p.pa
 quiet_there plan commands s Draining p is mid = drained_there plan commands s p (is_quiet plan p) mid
 quiet_there plan commands s phase p is mid = mid
 
--- a read that gave nothing preserves the weaker record
+-- a read that gave nothing preserves `Mid`
 pub mid_silent : (plan : Plan) (commands : List Task) (s : Model) (until : Until) (m : Moment) → Mid plan commands s → Mid plan commands (with_moment m (with_progress (silent plan until m) s))
 mid_silent plan commands s until m mid = mid_moment plan commands (with_progress (silent plan until m) s) m (quiet_there plan commands s s.progress.phase (time_passed until m s.progress) refl mid)
 
--- a read preserves the weaker record, whatever came of it
+-- a read preserves `Mid`, whatever came of it
 pub mid_read : (plan : Plan) (commands : List Task) (until : Until) (s : Model) (act : Act) → Mid plan commands s → Mid plan commands (after_read plan until s act)
 mid_read plan commands until s (Gave bytes m) mid = mid_piece plan commands s until bytes m mid
 mid_read plan commands until s (Silent m) mid = mid_silent plan commands s until m mid

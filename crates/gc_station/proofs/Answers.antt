@@ -26,7 +26,7 @@ use Rattle.gc_station.specs.Answers.{ReadsBefore, first_deadline, deadline_after
 use Rattle.gc_station.specs.Ends.{LateIsJustified, LostIsJustified}
 use Rattle.gc_station.specs.Deciding.{later}
 use Rattle.gc_station.specs.Quiet.{IsAsking}
-use Rattle.gc_station.specs.Progressing.{turned, moment_noted, reckoned_early, cycle_begun, skipped, attempts_left_out, skipped_at, cleared, null_sent, renewed, sent, asking, loses_all, setup_sent}
+use Rattle.gc_station.specs.Progressing.{turned, moment_noted, reckoned_early, cycle_begun, skipped, attempts_left_out, skipped_at, cleared, null_sent, renewed, sent, request_noted, loses_all, setup_sent}
 use Rattle.gc_station.specs.Marks.{commands_in}
 use Rattle.gc_station.specs.Reasons.{IsFor}
 use Rattle.gc_station.specs.Records.{Record}
@@ -221,7 +221,7 @@ clock_honest plan commands scope acts (Told m) f s h o = moment_told plan comman
 clock_honest plan commands scope acts Untold f s h o = still plan commands scope acts Untold _ _ _ (λ d. tt) h
 clock_honest plan commands scope acts act f s h o = absurd o
 
--- an act that passes attempts over preserves `IsHonest`
+-- an act that leaves attempts out preserves `IsHonest`
 pass_honest : (plan : Plan) (commands : List Task) (scope : Scope) (acts : List Act) (act : Act) (s : Model)
     → IsHonest plan commands scope acts (acts ++ act ∷ []) s → ReadsClock act
     → IsHonest plan commands scope (acts ++ act ∷ []) (acts ++ act ∷ []) (after_pass plan commands (with_progress turned s) act)
@@ -291,7 +291,8 @@ moved_honest plan commands scope acts actions.Send act tail fine h is needs o en
     put_honest plan commands scope (acts ++ act ∷ []) _
     (λ (x : Model). with_progress (sent (is_chained_after_next commands x.progress) (others_after_next commands x.progress)) (asks_next plan commands x))
     (with_progress turned s) act
-    (first_honest plan commands scope acts act (is_chained_after_next commands s.progress) (others_after_next commands s.progress) (drop (place_next commands s.progress) commands) (mark_next plan commands s.progress) fine h
+    (first_honest plan commands scope acts act (is_chained_after_next commands s.progress) (others_after_next commands s.progress)
+    (drop (place_next commands s.progress) commands) (mark_next plan commands s.progress) fine h
     (record { sends = inl is; cycle = sym (send_cycle plan s is); place = sym (send_place plan commands s is); sent = refl }) needs.3.1
     (ap (λ n. drop n commands) (send_place plan commands s is)) o)
 moved_honest plan commands scope acts actions.Skip act tail fine h is needs o ends =
@@ -306,8 +307,8 @@ moved_honest plan commands scope acts actions.Skip act tail fine h is needs o en
 moved_honest plan commands scope acts actions.Pass act tail fine h is needs o ends = pass_honest plan commands scope acts act (state_after plan commands scope acts) h o
 moved_honest plan commands scope acts actions.Flush act tail fine h is needs o ends =
     let s = state_after plan commands scope acts in
-    put_honest plan commands scope (acts ++ act ∷ []) _ (λ (x : Model). with_progress asking (asks_null plan x)) (with_progress turned s) act
-    (null_honest plan commands scope acts act asking fine h needs.4.1 (λ above. subst IsAsking (sym is) tt) o)
+    put_honest plan commands scope (acts ++ act ∷ []) _ (λ (x : Model). with_progress request_noted (asks_null plan x)) (with_progress turned s) act
+    (null_honest plan commands scope acts act request_noted fine h needs.4.1 (λ above. subst IsAsking (sym is) tt) o)
 moved_honest plan commands scope acts (actions.Read until) act tail fine h is needs o ends = read_honest plan commands scope acts until act tail fine h o ends
 moved_honest plan commands scope acts (actions.Close why) act tail fine h is needs o ends = still plan commands scope acts act _ _ _ (close_still act o) h
 moved_honest plan commands scope acts (actions.Stop why) act tail fine h is needs o ends = absurd o

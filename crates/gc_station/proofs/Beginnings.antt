@@ -152,11 +152,7 @@ module _ (plan : Plan) (commands : List Task) (scope : Scope) (acts : List Act) 
       let it = renews_only plan commands here (action_at plan here) act obeys begun (ap has_begun (sym far) ∙ begins) in
       let full = renews_needs plan commands here (action_at plan here) (fine_stood plan commands scope acts) it.0 (action_for plan here.progress (waiting_of here)) in
       record {
-        renews = it.0;
-        moment = it.1;
-        told = it.2;
-        seven = full.0;
-        given_up = full.1;
+        resynchronizes = record { renews = it.0; moment = it.1; told = it.2; seven = full.0; given_up = full.1 };
         word = ap (λ (x : Model). x.progress.word) on ∙ word_anew plan commands here act obeys begun (ap (λ (x : Model). has_begun x.progress) (sym on) ∙ begins);
         client = (fine_stood plan commands scope (acts ++ act ∷ [])).begins begins;
       }

@@ -14,11 +14,12 @@ use Rattle.gc_client.specs.declared.pending.Pending.{Pending}
 use Rattle.gc_client.specs.declared.window.TheConstants.{WINDOW}
 use Rattle.gc_client.proofs.OneForOne.{one_for_one}
 use Rattle.gc_station.specs.Behind.{IsReplied, IsNearTheTable}
-use Rattle.gc_station.specs.Model.{is_tables, ends_with_table}
+use Rattle.gc_station.specs.Model.{is_some_of_table, ends_with_table}
 use Rattle.gc_station.specs.Progressing.{one_more}
 use Rattle.gc_station.proofs.Booking.{stepped, course_client}
 use Rattle.gc_station.proofs.Facts.{either}
 use Rattle.gc_station.proofs.Meets.{settle_length}
+use Rattle.gc_station.proofs.Lists.{get_more}
 
 -- Steps.
 
@@ -44,12 +45,6 @@ IsWithin x b =
 -- where fewer than seven are counted, `IsWithin` holds of as many
 abbrev pub Counts : Course Asked → ℕ → Type 0
 Counts x b = b < 7 → IsWithin x b
-
--- a list with more after it has the same element at a place of its own
-get_more : {A : Type 0} (xs ys : List A) (k : ℕ) (x : A) → slice_get xs k ≡ Some x → slice_get (xs ++ ys) k ≡ Some x
-get_more [] ys k x e = cc
-get_more (y ∷ xs) ys zero x e = e
-get_more (y ∷ xs) ys (suc k) x e = get_more xs ys k x e
 
 -- an element of the list after is at its place after the list before it
 pub get_behind : {A : Type 0} (xs ys : List A) (n k : ℕ) → n ≡ length xs + k → slice_get (xs ++ ys) n ≡ slice_get ys k
@@ -87,8 +82,8 @@ record EndsReplied (xs : List (Settlement Asked)) : Type 0 where
   at : slice_get xs (length xs - 1) ≡ Some last
   replied : IsReplied last
 
--- a settlement that is of the table is one
-table_one : (o : Option (Settlement Asked)) → is_tables o ≡ true → (x : Settlement Asked) × (o ≡ Some x) × (is_of_table x.call ≡ true)
+-- what is a settlement of a call of the table, by the test, is a settlement
+table_one : (o : Option (Settlement Asked)) → is_some_of_table o ≡ true → (x : Settlement Asked) × (o ≡ Some x) × (is_of_table x.call ≡ true)
 table_one None e = cc
 table_one (Some x) e = (x, refl, e)
 
@@ -136,7 +131,7 @@ within_sent x target call (Some sending) b (inl few) =
 within_sent x target call (Some sending) b (inr (k, s, at, replied, near)) =
     let more = length-append x.sent (record { target = target; call = call } ∷ []) in inr (k, s, at, replied, omega (arith, more, near))
 
--- one more, if it is below seven, is one more
+-- `one_more` of a number below seven is that number and 1
 one_more_is : (b : ℕ) → one_more b < 7 → (b < 7) × (one_more b ≡ b + 1)
 one_more_is b low = either (λ n. n < 7 → (b < 7) × (n ≡ b + 1)) (b + 1) b (nat_lt b WINDOW) (λ e l. (ltb-true b WINDOW e, refl))
     (λ e l. let high : 7 ≤ b = ltb_not b e in absurd (omega (arith, l, high))) low where
@@ -197,7 +192,7 @@ counts_steps done (step ∷ steps) b h =
 -- where `Counts` holds with fewer than seven after, one of the last seven requests is a call of the table that a reply ended
 pub near_so : (x : Course Asked) (b : ℕ) → Counts x b → b < 7 → IsNearTheTable x
 near_so x b h low = by_case (h low) where
-  -- the lemma above, whether no more than `b` requests were sent, or such a call did before them
+  -- the lemma above, whether no more than `b` requests were sent, or such a call was sent before them
   by_case : IsWithin x b → IsNearTheTable x
   by_case (inl few) = inl (omega (arith, few, low))
   by_case (inr (k, s, at, replied, near)) = inr (k, s, at, replied, omega (arith, near, low))

@@ -329,7 +329,7 @@ pub books_turns : (reads : Asked → List ℕ → Reading) (commands : List Task
     → Books reads commands c ms rs (only_turns turns) c ms rs
 books_turns reads commands c ms rs turns = record { client = refl; wrote = wrote_none reads commands ms rs }
 
--- a moment, which may give requests up, leaves the marks and the records
+-- a moment, at which requests may time out, leaves the marks and the records
 pub books_moment : (reads : Asked → List ℕ → Reading) (commands : List Task) (c : ById Asked) (ms : List (Option Mark)) (rs : List Record) (now : ℕ)
     → Books reads commands c ms rs (only (Expire now ∷ [])) (expires c now) ms rs
 books_moment reads commands c ms rs now = record { client = refl; wrote = wrote_none reads commands ms rs }

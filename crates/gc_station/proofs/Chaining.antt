@@ -2,7 +2,7 @@
 -- `next_is_chained`, whether the next command waits for that answer, and `chain_unbroken`. An act is one call on the link, with
 -- its result. `Chain` says that both fields are true to the acts so far, and `Whole` that the command before the next one was
 -- sent, with no connection closed and no new synchronization since.
-use Rattle.std.proofs.Common.{◌≡◌, ◌⊎◌, inl, inr, ℕ, ◌+◌, ◌-◌, ◌<◌, ◌≤◌, ◌||◌, Bool, true, false, List, [], ◌∷◌, ◌++◌, length, drop, map, Option, Some, None, refl, sym, ap, ◌∙◌, subst, arith, append_assoc}
+use Rattle.std.proofs.Common.{◌≡◌, ◌⊎◌, inl, inr, ℕ, ◌+◌, ◌-◌, ◌<◌, ◌≤◌, ◌||◌, Bool, true, false, List, [], ◌∷◌, ◌++◌, length, drop, map, Option, Some, None, refl, sym, ap, ◌∙◌, subst, arith, append_assoc, append-nil}
 use Rattle.std.specs.List.{AllByRecursion}
 use Rattle.std.proofs.lemmas.List.{length-drop, map-append}
 use Rattle.gc_catalogue.specs.declared.answer.Answer.{Answer}
@@ -103,13 +103,13 @@ record Chain (plan : Plan) (commands : List Task) (scope : Scope) (acts : List A
 abbrev LeavesNothingOut : Model → Model → Type 0
 LeavesNothingOut s t = (t.passes ≡ s.passes) ⊎ (t.progress.chain_unbroken ≡ false)
 
--- no act passes commands over, but one after which no chain goes on
+-- no act leaves commands out, but one after which no chain goes on
 moved_keeps : (plan : Plan) (commands : List Task) (action : Action) (s : Model) (act : Act) → LeavesNothingOut s (moved plan commands action s act)
 moved_keeps plan commands Pass s (Told m) = inr refl
 moved_keeps plan commands Pass s act = inl refl
 moved_keeps plan commands action s act = inl (ap (λ (x : Model). x.passes) (moved_changed plan commands action s act))
 
--- nothing that is left out since: if the chain goes on, no act passes commands over
+-- nothing that is left out since: if the chain goes on, no act leaves commands out
 still_passes : (s t : Model) (before : List Request) → LeavesNothingOut s t → t.progress.chain_unbroken ≡ true → s.passes ≡ before → t.passes ≡ before
 still_passes s t before (inl same) e is = same ∙ is
 still_passes s t before (inr none) e is = absurd (not_both t.progress.chain_unbroken e none)
@@ -273,11 +273,7 @@ kept_ended s t (inr none) = inr (ap (λ (p : Progress). p.chain_unbroken) (ended
 chain_along : (plan : Plan) (commands : List Task) (scope : Scope) (done acts : List Act) → Runs plan commands (state_after plan commands scope done) acts
     → Chain plan commands scope done (state_after plan commands scope done).progress
     → Chain plan commands scope (done ++ acts) (state_after plan commands scope (done ++ acts)).progress
-chain_along plan commands scope done [] runs h = subst (λ (xs : List Act). Chain plan commands scope xs (state_after plan commands scope xs).progress) (sym (all_of done)) h where
-  -- a list with nothing appended is itself
-  all_of : (xs : List Act) → xs ++ [] ≡ xs
-  all_of [] = refl
-  all_of (x ∷ xs) = ap (λ ys. x ∷ ys) (all_of xs)
+chain_along plan commands scope done [] runs h = subst (λ (xs : List Act). Chain plan commands scope xs (state_after plan commands scope xs).progress) (sym (append-nil done)) h
 chain_along plan commands scope done (act ∷ acts) runs h =
     let s = state_after plan commands scope done in
     let t = moved plan commands (action_at plan s) (with_progress turned s) act in
@@ -313,7 +309,7 @@ chain_along plan commands scope done (act ∷ acts) runs h =
 -- if none is unsent, no command is left
 pub none_behind : (commands : List Task) → drop (length commands - 0) commands ≡ []
 none_behind commands = let at : length commands - 0 ≡ length commands = omega arith in ap (λ (n : ℕ). drop n commands) at ∙ all_dropped commands where
-  -- a list without as many elements as it has is empty
+  -- if all commands are dropped, none is left
   all_dropped : (commands : List Task) → drop (length commands) commands ≡ []
   all_dropped [] = refl
   all_dropped (task ∷ others) = all_dropped others

@@ -85,7 +85,7 @@ came_phase heard word piece s =
 none_left : (a b n : ℕ) → nat_eq a 0 && nat_eq b 0 && nat_eq n 0 ≡ true → (a ≡ 0) × (b ≡ 0) × (n ≡ 0)
 none_left a b n e = grind (arith, nat_tests, e)
 
--- if the test fails that a new connection takes no try (`spared`) or a try is left, then it takes one, and none is left
+-- if a new connection isn't spared a try and none is left, by one test, it is so by each
 no_try : (spared : Bool) (tries : ℕ) → spared || nat_lt 0 tries ≡ false → (spared ≡ false) × (tries ≡ 0)
 no_try true tries e = cc
 no_try false tries e = (refl, grind (arith, nat_tests, e))

@@ -18,7 +18,7 @@ use Rattle.gc_station.specs.declared.progress.Until.{Until}
 use Rattle.gc_links.specs.Acts.{Act, Told, Put, Gave, Silent, Opened}
 use Rattle.gc_station.specs.Deciding.{is_up, is_past, is_quiet}
 use Rattle.gc_station.specs.Marks.{commands_in}
-use Rattle.gc_station.specs.Progressing.{turned, moment_noted, cycle_begun, skipped, attempts_left_out, opened, cleared, asking, null_sent, renewed, sent, reckoned_early, time_passed, quieted, is_idle, drained, setup_sent}
+use Rattle.gc_station.specs.Progressing.{turned, moment_noted, cycle_begun, skipped, attempts_left_out, opened, cleared, request_noted, null_sent, renewed, sent, reckoned_early, time_passed, quieted, is_idle, drained, setup_sent}
 use Rattle.gc_station.specs.Model.{Model, requests_out, request_text, null_text, first_text, place_next, is_chained_after_next, others_after_next, is_chained_after, others_after, waiting_of, piece_at, with_progress, Performs, moved, cycle_length, text_or_null}
 use Rattle.gc_station.proofs.Turns.{again_down, closed_down}
 use Rattle.gc_station.proofs.Walk.{walk}
@@ -75,7 +75,7 @@ OnLine plan commands F actions.Skip s acts = (m : Moment)
 OnLine plan commands F actions.Pass s acts =
     (m : Moment) → F (reckoned_early plan (commands_in s.marks)
     (attempts_left_out (is_chained_after s.progress.next_others commands s.progress) (others_after s.progress.next_others commands s.progress) m s.progress)) (acts ++ Told m ∷ [])
-OnLine plan commands F actions.Flush s acts = (m : Moment) → F (asking s.progress) (acts ++ Put (request_text s.client (Table NullProc)) ∷ [])
+OnLine plan commands F actions.Flush s acts = (m : Moment) → F (request_noted s.progress) (acts ++ Put (request_text s.client (Table NullProc)) ∷ [])
 OnLine plan commands F (actions.Read until) s acts =
     ((bytes : List ℕ) (m : Moment) → F (piece_at plan until bytes m s).progress (acts ++ Gave bytes m ∷ []))
     × ((m : Moment) → Silenced plan F until m s.progress acts)

@@ -16,12 +16,12 @@ grown true e s a h = refl
 grown false true s a h = omega arith
 grown false false s a h = refl
 
--- nothing is nothing, whether an attempt is followed or not
+-- 0 is chosen, whether an attempt is followed or not
 none_so : (q : Bool) → ◌≡◌ {A = ℕ} (if q then 0 else 0) 0
 none_so true = refl
 none_so false = refl
 
--- 0 of an attempt leaves a count
+-- an attempt that adds 0 leaves a count, whether it is followed or not
 started_again : (q : Bool) (s k : ℕ) → at_most (s + ((if q then 0 else 0) + k)) ≡ at_most (s + (0 + k))
 started_again q s k = ap (λ n. at_most (s + (n + k))) (none_so q)
 
@@ -29,7 +29,7 @@ started_again q s k = ap (λ n. at_most (s + (n + k))) (none_so q)
 settled_then : (q : Bool) (s a k : ℕ) → at_most (later s a + ((if q then 0 else 0) + k)) ≡ at_most (s + (a + k))
 settled_then q s a k = started_again q (later s a) k ∙ omega arith
 
--- a count that grows by one for each command with this ending (`so`), stays for any other, adds up, and doesn't hang on `again`
+-- a count that grows by one for each command with this ending (`so`), stays for any other, adds up, and doesn't depend on `again`
 module _ (count : Tally → ℕ) (so : End → Bool) (step : (end : End) (t : Tally) → count (counted end t) ≡ (if so end then one_more (count t) else count t))
     (adds : (a b : Tally) → count (sum a b) ≡ later (count a) (count b)) (none : count none_yet ≡ 0) (stays : (t : Tally) (n : ℕ) → count (record t { again = n }) ≡ count t) where
   -- how many of these records have this ending, with one before it that counts where its attempt isn't followed (q)
@@ -57,7 +57,8 @@ module _ (count : Tally → ℕ) (so : End → Bool) (step : (end : End) (t : Ta
     -- further one (f)
     by_tests : ((d : Counts) → count (total (tallied d rs)) ≡ at_most (count d.settled + ((if is_followed rs then 0 else count d.attempt) + how_many so (last_attempts rs)))) → (z l f : Bool)
         → count (total (tallied (if z then c else (let d = (if l then begun f else c) in record d { attempt = counted r.end d.attempt })) rs))
-        ≡ at_most (count c.settled + ((if (if z || not l then is_followed rs else f) then 0 else count c.attempt) + how_many so (if z || is_followed rs then last_attempts rs else r ∷ last_attempts rs)))
+        ≡ at_most (count c.settled + ((if (if z || not l then is_followed rs else f) then 0 else count c.attempt) + how_many so
+        (if z || is_followed rs then last_attempts rs else r ∷ last_attempts rs)))
     by_tests ih true l f = ih c
     by_tests ih false false f = counts_next _ (count c.settled) 0 c.attempt r (last_attempts rs) (is_followed rs) (ih (record c { attempt = counted r.end c.attempt }))
     by_tests ih false true true =

@@ -72,7 +72,7 @@ losing_passes : (b : Bool) (s : Model) → (losing b s).passes ≡ s.passes
 losing_passes true s = refl
 losing_passes false s = refl
 
--- what is lost after an act passes nothing over
+-- the loss of what is outstanding, at the end of an act, leaves no command out
 pub ended_passes : (s : Model) → (ended s).passes ≡ s.passes
 ended_passes s = losing_passes (loses_all s.progress) s
 

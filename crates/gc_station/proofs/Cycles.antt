@@ -10,7 +10,7 @@ use Rattle.gc_links.specs.Acts.{Act, Told, Untold, Gave, Silent, Ended, Broke, C
 use Rattle.gc_links.specs.declared.link.Moment.{Moment}
 use Rattle.gc_station.specs.Cycles.{ClockRises, due_after, BeginsAt, BeginsLate, LastBegan, CyclesBeginWhenDue, SentOnlyInTime}
 use Rattle.gc_station.specs.Deciding.{is_due}
-use Rattle.gc_station.specs.Progressing.{turned, moment_noted, cycle_begun, beginning, failing, time_passed, quieted, closed}
+use Rattle.gc_station.specs.Progressing.{turned, moment_noted, cycle_begun, cycle_start, failing, time_passed, quieted, closed}
 use Rattle.gc_station.specs.Reasons.{IsFor, MayGo}
 use Rattle.gc_station.specs.Runs.{state_after}
 use Rattle.gc_station.specs.Scopes.{Scope}
@@ -24,6 +24,7 @@ use Rattle.gc_station.specs.declared.progress.Phase.{Phase}
 use Rattle.gc_station.specs.declared.progress.Progress.{Progress}
 use Rattle.gc_station.specs.declared.progress.Until.{Until}
 use Rattle.gc_station.specs.declared.progress.Waiting.{Waiting}
+use Rattle.gc_station.specs.Silences.{latest}
 use Rattle.gc_station.proofs.Parted.{drop_past}
 use Rattle.gc_station.proofs.Closings.{runs_split, needs_of}
 use Rattle.gc_station.proofs.Always.{always, progress_behind}
@@ -31,8 +32,9 @@ use Rattle.gc_station.proofs.EachRun.{fine_stood}
 use Rattle.gc_station.proofs.Facts.{action_for}
 use Rattle.gc_station.proofs.Invariant.{Invariant}
 use Rattle.gc_station.proofs.Walk.{asked_along, came_along, quieted_along, closed_along, moved_changed, walk}
-use Rattle.gc_station.proofs.Ticking.{le_of, lt_of, due_since, picks, picks_other, or_none, or_some, or_second, and_second, not_both, Ticks, ticked, rises_front, last_of, rises_last, last_more, last_ticks}
+use Rattle.gc_station.proofs.Ticking.{le_of, lt_of, due_since, picks, picks_other, or_none, or_some, or_second, and_second, not_both, Ticks, ticked, rises_front, rises_last, latest_more, last_ticks}
 use Rattle.gc_station.proofs.Due.{begin_due}
+use Rattle.gc_station.proofs.Staying.{Stays, stays, broken}
 
 -- What every run keeps of its cycles.
 
@@ -74,26 +76,6 @@ module _ (plan : Plan) (commands : List Task) (scope : Scope) (some : 0 < plan.e
   -- a cycle that began late among acts began so among them and more
   pub late_more : (acts more : List Act) (n : ℕ) (m : Moment) (late : ℕ) → BeginsLate plan commands scope acts n m late → BeginsLate plan commands scope (acts ++ more) n m late
   late_more acts more n m late b = record { first = b.first; first_begins = at_more acts more 0 b.first b.first_begins; begins = at_more acts more n m b.begins; grid = b.grid }
-
-  -- q is in the same cycle as p, at the same command, with its chain as it was or broken
-  pub record Stays (p q : Progress) : Type 0 where
-    pub left : q.left ≡ p.left
-    pub unsent : q.unsent ≡ p.unsent
-    pub missed : q.missed ≡ p.missed
-    pub due : q.due ≡ p.due
-    pub next_is_chained : q.next_is_chained ≡ p.next_is_chained
-    pub chain_unbroken : (q.chain_unbroken ≡ p.chain_unbroken) ⊎ (q.chain_unbroken ≡ false)
-
-  -- `Stays`, from its parts
-  pub stays : (p q : Progress) → q.left ≡ p.left → q.unsent ≡ p.unsent → q.missed ≡ p.missed → q.due ≡ p.due → q.next_is_chained ≡ p.next_is_chained
-      → (q.chain_unbroken ≡ p.chain_unbroken) ⊎ (q.chain_unbroken ≡ false) → Stays p q
-  stays p q left unsent missed due next_is_chained chain_unbroken = record
-      { left = left; unsent = unsent; missed = missed; due = due; next_is_chained = next_is_chained; chain_unbroken = chain_unbroken }
-
-  -- a chain that was broken still is, if it is as it was or broken
-  pub broken : (a b : Bool) → (b ≡ a) ⊎ (b ≡ false) → a ≡ false → b ≡ false
-  broken a b (inl same) e = same ∙ e
-  broken a b (inr none) e = none
 
   -- `Begun` is preserved by an act that stays in its cycle (`Stays`) and reads moments as `Ticks` says, if the clock doesn't go back
   pub begun_stays : (acts : List Act) (act : Act) (p q : Progress) → Stays p q → Ticks p act q → ClockRises p.moment.elapsed (act ∷ []) → Begun acts p → Begun (acts ++ act ∷ []) q
@@ -197,7 +179,7 @@ module _ (plan : Plan) (commands : List Task) (scope : Scope) (some : 0 < plan.e
             inr (above, ap is_chained (sym at) ∙ or_second p.missed (is_chained (drop (place_next commands p + p.next_others) commands)) e is)
 
   -- `Cycling` holds after the act that begins a cycle at the moment m, if the cycle counts as begun at b and b is its due moment
-  pub begins_cycle : (acts : List Act) (m : Moment) (p : Progress) (n : ℕ) (b : ℕ) → beginning plan m p ≡ b → b ≤ m.elapsed → cycles_begun plan p ≡ n → 0 < p.left → p.left ≤ plan.cycles
+  pub begins_cycle : (acts : List Act) (m : Moment) (p : Progress) (n : ℕ) (b : ℕ) → cycle_start plan m p ≡ b → b ≤ m.elapsed → cycles_begun plan p ≡ n → 0 < p.left → p.left ≤ plan.cycles
       → BeginsLate plan commands scope (acts ++ Told m ∷ []) n m (m.elapsed - b) → Cycling (acts ++ Told m ∷ []) (cycle_begun plan (cycle_length plan commands) m p)
   begins_cycle acts m p n b is past number left within late = record {
     n = n;
@@ -208,7 +190,7 @@ module _ (plan : Plan) (commands : List Task) (scope : Scope) (some : 0 < plan.e
     fewer = omega (arith, left, within);
     began = omega (arith, is, past);
     past = omega (arith, is, past);
-    missed = and_second (nat_lt 0 plan.every) (nat_le plan.every (m.elapsed - beginning plan m p)) (lt-ltb 0 plan.every some) ∙ ap (λ (x : ℕ). nat_le plan.every (m.elapsed - x)) is;
+    missed = and_second (nat_lt 0 plan.every) (nat_le plan.every (m.elapsed - cycle_start plan m p)) (lt-ltb 0 plan.every some) ∙ ap (λ (x : ℕ). nat_le plan.every (m.elapsed - x)) is;
     due = ap (λ (x : ℕ). m.utc - (m.elapsed - x)) is;
     held = λ e. (e, refl);
     chained = λ e. inl e;
@@ -223,7 +205,7 @@ module _ (plan : Plan) (commands : List Task) (scope : Scope) (some : 0 < plan.e
   pub record Start (acts : List Act) (m : Moment) (p : Progress) : Type 0 where
     pub n : ℕ
     pub b : ℕ
-    pub is : beginning plan m p ≡ b
+    pub is : cycle_start plan m p ≡ b
     pub past : b ≤ m.elapsed
     pub number : cycles_begun plan p ≡ n
     pub late : BeginsLate plan commands scope (acts ++ Told m ∷ []) n m (m.elapsed - b)
@@ -291,7 +273,7 @@ module _ (plan : Plan) (commands : List Task) (scope : Scope) (some : 0 < plan.e
   -- from p to q, over an act after these acts: the moment read last is the act's if it reads one, else p's; and `Begun` holds
   -- of q if the clock doesn't go back at the act
   abbrev pub OnTo : List Act → Progress → Act → Progress → Type 0
-  OnTo acts p act q = (q.moment.elapsed ≡ last_of p.moment.elapsed (act ∷ [])) × (ClockRises p.moment.elapsed (act ∷ []) → Begun (acts ++ act ∷ []) q)
+  OnTo acts p act q = (q.moment.elapsed ≡ latest p.moment.elapsed (act ∷ [])) × (ClockRises p.moment.elapsed (act ∷ []) → Begun (acts ++ act ∷ []) q)
 
   -- `OnTo`, from a progress to that of a model
   abbrev pub On : List Act → Progress → Act → Model → Type 0
@@ -401,8 +383,14 @@ module _ (plan : Plan) (commands : List Task) (scope : Scope) (some : 0 < plan.e
       (λ m. (refl, λ rises. begun_next acts (Told m) s.progress _ refl refl refl refl refl (λ e. refl) (refl, refl) rises needs.2 fine.unsent h), λ n. fails acts s Untold cause.Clock h (refl, refl))
   on_moved acts actions.Pass act is o fine needs h =
       let s = with_progress turned (state_after plan commands scope acts) in
-      walk plan commands (On acts s.progress) actions.Pass s act o
-      (λ m. (refl, λ rises. begun_past acts (Told m) s.progress _ refl refl refl refl refl needs.4 (λ e. refl) (refl, refl) rises needs.2 fine.unsent h), λ n. fails acts s Untold cause.Clock h (refl, refl))
+      walk plan commands (On acts s.progress) actions.Pass s act o (
+        λ m. (
+          refl,
+          λ rises. begun_past acts (Told m) s.progress _ refl refl refl refl refl needs.4 (λ e. refl)
+              (refl, refl) rises needs.2 fine.unsent h,
+        ),
+        λ n. fails acts s Untold cause.Clock h (refl, refl),
+      )
   on_moved acts (actions.Read until) act is o fine needs h =
       let s = with_progress turned (state_after plan commands scope acts) in
       walk plan commands (On acts s.progress) (actions.Read until) s act o (
@@ -446,10 +434,10 @@ module _ (plan : Plan) (commands : List Task) (scope : Scope) (some : 0 < plan.e
 
   -- if the clock doesn't go back in these acts, the moment read last is the last that they read, and `Begun` holds after them
   abbrev pub Kept : List Act → Type 0
-  Kept acts = ClockRises 0 acts → ((state_after plan commands scope acts).progress.moment.elapsed ≡ last_of 0 acts) × Begun acts (state_after plan commands scope acts).progress
+  Kept acts = ClockRises 0 acts → ((state_after plan commands scope acts).progress.moment.elapsed ≡ latest 0 acts) × Begun acts (state_after plan commands scope acts).progress
 
   -- if the clock doesn't go back in acts and one more, it doesn't at the last act, counted from the moment read before it
-  pub rises_here : (acts : List Act) (act : Act) → ClockRises 0 (acts ++ act ∷ []) → (state_after plan commands scope acts).progress.moment.elapsed ≡ last_of 0 acts
+  pub rises_here : (acts : List Act) (act : Act) → ClockRises 0 (acts ++ act ∷ []) → (state_after plan commands scope acts).progress.moment.elapsed ≡ latest 0 acts
       → ClockRises (state_after plan commands scope acts).progress.moment.elapsed (act ∷ [])
   rises_here acts act rises at = subst (λ (n : ℕ). ClockRises n (act ∷ [])) (sym at) (rises_last 0 acts act rises)
 
@@ -462,7 +450,7 @@ module _ (plan : Plan) (commands : List Task) (scope : Scope) (some : 0 < plan.e
       let on = on_moved done (action_at plan s) act refl o (fine_stood plan commands scope done) (action_for plan s.progress (waiting_of s)) (begun_turned done s.progress old.1) in
       let t = moved plan commands (action_at plan s) (with_progress turned s) act in
       let there = progress_behind plan commands scope done act in (
-        ap (λ (p : Progress). p.moment.elapsed) there ∙ on.0 ∙ ap (λ (n : ℕ). last_of n (act ∷ [])) old.0 ∙ sym (last_more 0 done act),
+        ap (λ (p : Progress). p.moment.elapsed) there ∙ on.0 ∙ ap (λ (n : ℕ). latest n (act ∷ [])) old.0 ∙ sym (latest_more 0 done act),
         subst (λ (p : Progress). Begun (done ++ act ∷ []) p) (sym there) (on.1 (rises_here done act rises old.0)),
       )
 

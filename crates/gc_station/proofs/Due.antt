@@ -2,7 +2,7 @@
 -- action under some conditions. `BeginsDue` says of an action: if it begins a cycle, the cycle is due.
 use Rattle.std.proofs.Common.{◌≡◌, ◌&&◌, Bool, true, false, nat_lt, nat_le, nat_eq, if◌then◌else◌, not}
 use Rattle.gc_client.specs.declared.window.TheConstants.{WINDOW}
-use Rattle.gc_station.specs.Deciding.{is_up, is_idle, is_finished, has_begun, is_dead, is_due, has_room, action_of, action_in, action_on, action_told, may_go, waits_for_all, action_again, action_ready, action_begun, action_beginning, action_sent, action_settled, action_done, action_next, action_room, action_waiting, action_up, is_stale, is_stopping, is_held_back, action_cycle, action_prepare, action_turn, action_preparing, is_preparing}
+use Rattle.gc_station.specs.Deciding.{is_up, is_idle, is_finished, has_begun, is_dead, is_due, has_room, action_of, action_in, action_on, action_of_phase, may_go, waits_for_all, action_again, action_ready, action_begun, action_beginning, action_sent, action_settled, action_done, action_next, action_room, action_waiting, action_without_turns, is_stale, is_stopping, is_held_back, action_cycle, action_prepare, action_turn, action_preparing, is_preparing}
 use Rattle.gc_station.specs.declared.cause.Cause.TheVariants as cause
 use Rattle.gc_station.specs.declared.plan.Plan.{Plan}
 use Rattle.gc_station.specs.declared.progress.Action.{Action}
@@ -101,7 +101,7 @@ module _ (plan : Plan) (p : Progress) (w : Waiting) where
   ready_due = either (BeginsDue plan p) (action_begun plan p w) (action_beginning plan p w) (has_begun p) (λ e. begun_due) (λ e. beginning_due)
 
   -- in each phase a cycle begins only when it is due, where turns are left and the moment was read
-  pub told_due : (at : Phase) → BeginsDue plan p (action_told plan at p w)
+  pub told_due : (at : Phase) → BeginsDue plan p (action_of_phase plan at p w)
   told_due phase.Ready = ready_due
   told_due phase.Down = λ b. cc
   told_due phase.Pausing = λ b. cc
@@ -111,17 +111,17 @@ module _ (plan : Plan) (p : Progress) (w : Waiting) where
   told_due (phase.Over why) = λ b. cc
 
   -- no cycle begins if all turns are used up
-  pub up_due : (up : Bool) → BeginsDue plan p (action_up up)
+  pub up_due : (up : Bool) → BeginsDue plan p (action_without_turns up)
   up_due true = λ b. cc
   up_due false = λ b. cc
 
   -- a cycle begins only when it is due, if the end isn't decided yet
   pub on_due : BeginsDue plan p (action_on plan p w)
   on_due =
-      either (BeginsDue plan p) (action_up (is_up p.phase)) _ (nat_eq p.turns 0) (λ e. up_due (is_up p.phase))
+      either (BeginsDue plan p) (action_without_turns (is_up p.phase)) _ (nat_eq p.turns 0) (λ e. up_due (is_up p.phase))
       (λ e. either (BeginsDue plan p) (actions.Close cause.Stale) _ (is_stale plan p w) (λ d b. cc)
       (λ d. either (BeginsDue plan p) (actions.Close cause.Stopped) _ (is_stopping p w) (λ f b. cc)
-      (λ f. either (BeginsDue plan p) actions.ReadClock (action_told plan p.phase p w) p.stale (λ g b. cc) (λ g. told_due p.phase))))
+      (λ f. either (BeginsDue plan p) actions.ReadClock (action_of_phase plan p.phase p w) p.clock_due (λ g b. cc) (λ g. told_due p.phase))))
 
   -- in each phase a cycle begins only when it is due
   pub in_due : (at : Phase) → BeginsDue plan p (action_in at plan p w)

@@ -2,7 +2,6 @@
 -- stands for these commands, whether they were sent or were left out.) A mark says which command an outstanding request is of,
 -- or `None` of a null procedure.
 use Rattle.std.proofs.Common.{◌≡◌, ℕ, zero, suc, ◌+◌, ◌-◌, ◌<◌, ◌≤◌, Bool, true, false, nat_eq, List, [], ◌∷◌, ◌++◌, length, take, drop, map, Option, Some, None, refl, sym, ap, ◌∙◌, arith, append_assoc, append-nil}
-use Rattle.std.proofs.lemmas.Bool.Decides.{nat_tests}
 use Rattle.std.proofs.lemmas.List.{length-map, length-drop, map-append}
 use Rattle.gc_catalogue.specs.declared.answer.Reading.{Reading}
 use Rattle.gc_catalogue.specs.declared.asked.Asked.{Asked}
@@ -16,6 +15,7 @@ use Rattle.gc_station.specs.declared.mark.Mark.{Mark}
 use Rattle.gc_station.specs.EachOnce.{Request, requests, of_task, all_cycles, sent_by, of_record, of_waiting, still_waiting, cycle_with, of_cycles, of_text, in_text}
 use Rattle.gc_station.specs.Requests.{asked_at, of_command}
 use Rattle.gc_station.proofs.Timing.{asked_text, unsent_text}
+use Rattle.gc_station.proofs.Ticking.{not_none}
 use Rattle.gc_station.specs.Marks.{commands_in, record_of, records_of}
 use Rattle.gc_station.specs.Records.{Record}
 
@@ -93,10 +93,7 @@ cycles_all : (cycle place : ℕ) (asks : List (Wanted Asked)) → 0 < cycle → 
 cycles_all cycle place [] some = refl
 cycles_all cycle place (a ∷ others) some =
     let one : Request = record { cycle = cycle; place = place; asked = a } in
-    ap (λ b. cycle_with b one (of_cycles (requests cycle (place + 1) others))) (not_none cycle some) ∙ ap (λ xs. one ∷ xs) (cycles_all cycle (place + 1) others some) where
-      -- a number above 0 isn't 0
-      not_none : (n : ℕ) → 0 < n → nat_eq n 0 ≡ false
-      not_none n some = grind (arith, nat_tests, some)
+    ap (λ b. cycle_with b one (of_cycles (requests cycle (place + 1) others))) (not_none cycle some) ∙ ap (λ xs. one ∷ xs) (cycles_all cycle (place + 1) others some)
 
 -- the requests of the records, followed by those of the outstanding commands (by the marks and the outstanding requests), are,
 -- as far as they are of a cycle, and as the text has them, the requests given last
@@ -133,7 +130,7 @@ pub each_empty : (commands : List Task) (ms : List (Option Mark)) (ws : List (Pe
     → ws ≡ [] → EachIs commands ms ws rs sent → of_text commands (map of_record rs) ≡ sent
 each_empty commands ms ws rs sent none h =
     ap (of_text commands) (sym (append-nil (map of_record rs)) ∙ sym (ap (λ xs. map of_record rs ++ xs) (ap (still_waiting ms) none ∙ nothing ms))) ∙ h where
-      -- if no request is outstanding, no command does
+      -- if no request is outstanding, no command is
       nothing : (ms : List (Option Mark)) → still_waiting ms [] ≡ []
       nothing [] = refl
       nothing (m ∷ ms) = refl

@@ -1,7 +1,7 @@
--- Each act, and so each run, preserves the invariant of every run (`Invariant`). Most lemmas say that an action preserves the
--- weaker record `Mid` of `Midway`: the counts, the client, the marks and the records belong together, and the phase fits them,
--- before what is outstanding is lost. An act is one call on the link, with its result. A mark says which command an outstanding
--- request is of, or `None` of a null procedure.
+-- Each act, and so each run, preserves the invariant of every run (`Invariant`). Most lemmas say that an action preserves
+-- `Mid` of `Midway`: the counts, the client, the marks and the records belong together, and the phase fits them, before what is
+-- outstanding is lost. An act is one call on the link, with its result. A mark says which command an outstanding request is of,
+-- or `None` of a null procedure.
 use Rattle.std.proofs.Common.{◌≡◌, ℕ, ◌++◌, ◌-◌, ◌<◌, ◌⊎◌, inl, inr, ◌||◌, ◌&&◌, Bool, true, false, not, List, [], ◌∷◌, length, drop, map, nat_eq, Option, refl, sym, ap, ◌∙◌, subst, arith, append-nil, if◌then◌else◌}
 use Rattle.std.proofs.lemmas.List.{length-drop}
 use Rattle.gc_catalogue.specs.declared.asked.Asked.TheVariants.{Table}
@@ -22,7 +22,7 @@ use Rattle.gc_links.specs.Acts.{Act, Told}
 use Rattle.gc_station.specs.Deciding.{later, has_begun, is_up}
 use Rattle.gc_station.specs.EachOnce.{EachOnce, Parted, Request, still_waiting, sent_by, of_record, all_cycles, of_text}
 use Rattle.gc_station.specs.Marks.{commands_in}
-use Rattle.gc_station.specs.Progressing.{turned, moment_noted, skipped_at, reckoned_early, cycle_begun, skipped, attempts_left_out, cleared, asking, null_sent, renewed, sent, is_over, is_over_in, setup_sent}
+use Rattle.gc_station.specs.Progressing.{turned, moment_noted, skipped_at, reckoned_early, cycle_begun, skipped, attempts_left_out, cleared, request_noted, null_sent, renewed, sent, is_over, is_over_in, setup_sent}
 use Rattle.gc_station.specs.Reasons.{IsFor}
 use Rattle.gc_station.specs.Records.{Record}
 use Rattle.gc_station.specs.Runs.{state_after}
@@ -38,7 +38,7 @@ use Rattle.gc_station.proofs.Tasked.{at_place, unsent_end}
 use Rattle.gc_station.specs.Scopes.{Scope}
 use Rattle.gc_station.proofs.Ticking.{not_both}
 
--- no records after the others preserve the weaker record
+-- no records after the others preserve `Mid`
 mid_nothing : (plan : Plan) (commands : List Task) (s : Model) → Mid plan commands s → Mid plan commands (with_records [] s)
 mid_nothing plan commands s mid = subst (λ (rs : List Record). Mid plan commands (record s { records = rs })) (sym (append-nil s.records)) mid
 
@@ -46,7 +46,7 @@ mid_nothing plan commands s mid = subst (λ (rs : List Record). Mid plan command
 going_placed : (phase : Phase) (left unsent : ℕ) (rest : List ℕ) (marks : List (Option Mark)) → phase ≡ Ready → Placed phase left unsent rest marks
 going_placed phase left unsent rest marks is = record { empty = λ e. absurd (not_both (is_bare phase) e (ap is_bare is)); finished = λ e. absurd (not_both (says_done phase) e (ap says_done is)) }
 
--- the beginning of a cycle preserves the weaker record
+-- the beginning of a cycle preserves `Mid`
 mid_begun : (plan : Plan) (commands : List Task) (s : Model) (m : Moment) → s.progress.phase ≡ Ready → s.progress.unsent ≡ 0 → commands_in s.marks ≡ 0 → 0 < s.progress.left → Mid plan commands s
     → Mid plan commands (with_progress (cycle_begun plan (cycle_length plan commands) m) s)
 mid_begun plan commands s m is none settled some mid =
@@ -55,7 +55,7 @@ mid_begun plan commands s m is none settled some mid =
       going_placed p.phase (p.left - 1) (cycle_length plan commands) s.rest s.marks is,
     )
 
--- a line feed that was sent preserves the weaker record
+-- a line feed that was sent preserves `Mid`
 mid_cleared : (plan : Plan) (commands : List Task) (s : Model) → s.progress.phase ≡ Clearing → Mid plan commands s → Mid plan commands (with_progress cleared s)
 mid_cleared plan commands s is mid = (mid.0, by_word (has_begun s.progress)) where
   -- the lemma above, whether the station has synchronized (`true`) or is synchronizing
@@ -63,16 +63,16 @@ mid_cleared plan commands s is mid = (mid.0, by_word (has_begun s.progress)) whe
   by_word true = record { empty = λ e. mid.1.empty (ap is_bare is); finished = λ e. cc }
   by_word false = record { empty = λ e. cc; finished = λ e. cc }
 
--- a null procedure that is sent after commands preserves the weaker record
+-- a null procedure that is sent after commands preserves `Mid`
 mid_flushed : (plan : Plan) (commands : List Task) (s : Model) → s.progress.phase ≡ Ready → length s.client.waiting < 7 → Mid plan commands s
-    → Mid plan commands (with_progress asking (asks_null plan s))
+    → Mid plan commands (with_progress request_noted (asks_null plan s))
 mid_flushed plan commands s is room mid =
     let p = s.progress in (
       sound_null plan commands p.left p.unsent s.client s.marks s.records s.passes 0 (Table NullProc) (later p.moment.elapsed plan.deadline) room refl mid.0,
       going_placed p.phase p.left p.unsent s.rest (asks_null plan s).marks is,
     )
 
--- the first of these commands, if it is sent as the next one, preserves the weaker record
+-- the first of these commands, if it is sent as the next one, preserves `Mid`
 mid_first : (plan : Plan) (commands : List Task) (next_is_chained : Bool) (behind : ℕ) (s : Model) (left : List Task) → drop (place_next commands s.progress) commands ≡ left
     → s.progress.phase ≡ Ready → 0 < s.progress.unsent → length s.client.waiting < 7 → Mid plan commands s
     → Mid plan commands (with_progress (sent next_is_chained behind) (asks_first (mark_next plan commands s.progress) left s))
@@ -88,12 +88,12 @@ mid_first plan commands next_is_chained behind s (task ∷ others) at is some ro
       going_placed p.phase p.left (p.unsent - 1) s.rest t.marks is,
     )
 
--- the next command, if it is sent, preserves the weaker record
+-- the next command, if it is sent, preserves `Mid`
 mid_sent : (plan : Plan) (commands : List Task) (next_is_chained : Bool) (behind : ℕ) (s : Model) → s.progress.phase ≡ Ready → 0 < s.progress.unsent
     → length s.client.waiting < 7 → Mid plan commands s → Mid plan commands (with_progress (sent next_is_chained behind) (asks_next plan commands s))
 mid_sent plan commands next_is_chained behind s is some room mid = mid_first plan commands next_is_chained behind s (drop (place_next commands s.progress) commands) refl is some room mid
 
--- the first of these commands, if it is sent as the next one of the setup, preserves the weaker record
+-- the first of these commands, if it is sent as the next one of the setup, preserves `Mid`
 mid_prepares : (plan : Plan) (commands : List Task) (s : Model) (left : List Task) → drop s.progress.prepared commands ≡ left → s.progress.phase ≡ Ready
     → length s.client.waiting < 7 → Mid plan commands s
     → Mid plan commands (with_progress (setup_sent plan) (asks_or_null plan (mark_setup commands s.progress) left s))
@@ -110,7 +110,7 @@ mid_prepares plan commands s (task ∷ others) at is room mid =
       going_placed p.phase p.left p.unsent s.rest t.marks is,
     )
 
--- the first of these commands, if it is left out as the next one, preserves the weaker record
+-- the first of these commands, if it is left out as the next one, preserves `Mid`
 mid_skips : (plan : Plan) (commands : List Task) (next_is_chained : Bool) (behind : ℕ) (s : Model) (m : Moment) (left : List Task) → drop (place_next commands s.progress) commands ≡ left
     → s.progress.phase ≡ Ready → 0 < s.progress.unsent → commands_in s.marks ≡ 0 → Mid plan commands s
     → Mid plan commands (with_progress (λ p. reckoned_early plan (commands_in s.marks) (skipped next_is_chained behind m p))
@@ -126,16 +126,18 @@ mid_skips plan commands next_is_chained behind s m (task ∷ others) at is some 
       going_placed p.phase p.left (p.unsent - 1) s.rest s.marks is,
     )
 
--- the next command, if it isn't sent, preserves the weaker record
+-- the next command, if it isn't sent, preserves `Mid`
 mid_skip : (plan : Plan) (commands : List Task) (next_is_chained : Bool) (behind : ℕ) (s : Model) (act : Act) → s.progress.phase ≡ Ready → 0 < s.progress.unsent
     → commands_in s.marks ≡ 0 → Mid plan commands s
-    → Mid plan commands (after_clock (λ m p. reckoned_early plan (commands_in s.marks) (skipped next_is_chained behind m p)) (with_listed (skip_listed plan commands s act) (with_records (skips plan commands s.progress act) s)) act)
+    → Mid plan commands (after_clock (λ m p. reckoned_early plan (commands_in s.marks) (skipped next_is_chained behind m p))
+    (with_listed (skip_listed plan commands s act) (with_records (skips plan commands s.progress act) s)) act)
 mid_skip plan commands next_is_chained behind s (Told m) is some none mid =
-    mid_moment plan commands (with_progress (λ p. reckoned_early plan (commands_in s.marks) (skipped next_is_chained behind m p)) (with_listed (skip_listed plan commands s (Told m)) (with_records (skips plan commands s.progress (Told m)) s))) m
+    mid_moment plan commands (with_progress (λ p. reckoned_early plan (commands_in s.marks) (skipped next_is_chained behind m p))
+    (with_listed (skip_listed plan commands s (Told m)) (with_records (skips plan commands s.progress (Told m)) s))) m
     (mid_skips plan commands next_is_chained behind s m (drop (place_next commands s.progress) commands) refl is some none mid)
 mid_skip plan commands next_is_chained behind s act is some none mid = mid_fail plan commands (with_records [] s) cause.Clock refl (mid_nothing plan commands s mid)
 
--- the attempts of a chain that are left out preserve the weaker record
+-- the attempts of a chain that are left out preserve `Mid`
 mid_pass : (plan : Plan) (commands : List Task) (s : Model) (act : Act) → s.progress.phase ≡ Ready → 0 < s.progress.unsent → Mid plan commands s → Mid plan commands (after_pass plan commands s act)
 mid_pass plan commands s (Told m) is some mid =
     let p = s.progress in
@@ -154,7 +156,7 @@ close_done plan commands s w cause.Done fine (up, inl phase) is = let it = fine.
 close_done plan commands s w cause.Done fine (up, inr end) is = (end.0, end.1)
 close_done plan commands s w why fine for_it is = cc
 
--- each act preserves the weaker record, before what is outstanding is lost
+-- each act preserves `Mid`, before what is outstanding is lost
 pub mid_moved : (plan : Plan) (commands : List Task) (s : Model) (action : Action) (act : Act) → Invariant plan commands s → IsFor plan s.progress (waiting_of s) action
     → Mid plan commands (moved plan commands action (with_progress turned s) act)
 mid_moved plan commands s action.ReadClock act fine is =
@@ -186,7 +188,7 @@ mid_moved plan commands s action.Skip act fine is =
 mid_moved plan commands s action.Pass act fine is = mid_pass plan commands (with_progress turned s) act is.0 is.2 (mid_of plan commands s fine)
 mid_moved plan commands s action.Flush act fine is =
     let t = with_progress turned s in
-    mid_put plan commands _ (λ (x : Model). with_progress asking (asks_null plan x)) t act (mid_flushed plan commands t is.0 is.4.1 (mid_of plan commands s fine))
+    mid_put plan commands _ (λ (x : Model). with_progress request_noted (asks_null plan x)) t act (mid_flushed plan commands t is.0 is.4.1 (mid_of plan commands s fine))
 mid_moved plan commands s (action.Read until) act fine is = mid_read plan commands until (with_progress turned s) act (mid_of plan commands s fine)
 mid_moved plan commands s (action.Close why) act fine is = mid_close plan commands (with_progress turned s) why (close_done plan commands s (waiting_of s) why fine is) (mid_of plan commands s fine)
 mid_moved plan commands s (action.Stop why) act fine is = mid_of plan commands s fine

@@ -14,9 +14,10 @@ use Rattle.gc_station.specs.declared.progress.Action.TheVariants as action
 use Rattle.gc_station.specs.declared.progress.Progress.{Progress}
 use Rattle.gc_station.specs.declared.progress.Until.TheVariants.{Limit, Due}
 use Rattle.gc_station.specs.declared.progress.Waiting.{Waiting}
-use Rattle.gc_station.specs.Reasons.{IsFor, IsHeld, HasRoom, MayGo, MayRetry, NothingMayGo, IsResting, StaysInItsChain, HasOneFor, MayPrepare}
-use Rattle.gc_station.specs.Deciding.{width_of, has_begun, is_up, is_dead, is_due, is_idle, is_finished, has_room, action_of, action_in, action_on, action_told, may_go, waits_for_all, action_again, action_ready, action_begun, action_beginning, action_sent, action_settled, action_done, action_next, action_room, action_waiting, action_up, is_stale, is_between, is_resting, is_stopping, is_held_back, action_cycle, action_prepare, action_turn, action_preparing, is_preparing}
+use Rattle.gc_station.specs.Reasons.{IsFor, IsHeld, HasRoom, MayGo, MayRetry, NothingMayGo, IsResting, StaysInItsChain, HasConnectionFor, MayPrepare}
+use Rattle.gc_station.specs.Deciding.{width_of, has_begun, is_up, is_dead, is_due, is_idle, is_finished, has_room, action_of, action_in, action_on, action_of_phase, may_go, waits_for_all, action_again, action_ready, action_begun, action_beginning, action_sent, action_settled, action_done, action_next, action_room, action_waiting, action_without_turns, is_stale, is_between, is_resting, is_stopping, is_held_back, action_cycle, action_prepare, action_turn, action_preparing, is_preparing}
 use Rattle.gc_station.specs.Stations.{IsFitting}
+use Rattle.gc_station.proofs.Ticking.{not_true}
 
 -- what holds of x if a test holds, and of y if it doesn't, holds of the one that the test chooses
 pub either : {A : Type 0} (P : A → Type 0) (x y : A) (t : Bool) → (t ≡ true → P x) → (t ≡ false → P y) → P (if t then x else y)
@@ -62,27 +63,22 @@ negated : (b : Bool) → not b ≡ false → b ≡ true
 negated true e = refl
 negated false e = cc
 
--- if the negation of a test holds, the test doesn't
-free_so : (b : Bool) → not b ≡ true → b ≡ false
-free_so true e = cc
-free_so false e = refl
-
 -- if there is no room, no command may be sent
 no_room : (plan : Plan) (p : Progress) (w : Waiting) → (nat_lt w.current (width_of plan) ≡ false) ⊎ (nat_lt w.all WINDOW ≡ false) → NothingMayGo plan p w
 no_room plan p w (inl e) = inr (inl (ltb-false w.current (width_of plan) e))
 no_room plan p w (inr e) = inr (inr (inl (ltb-false w.all WINDOW e)))
 
--- The moment is read again after each act that makes it out of date (`stale`); and nothing is read before a new connection was
+-- The moment is read again after each act that makes it out of date (`clock_due`); and nothing is read before a new connection was
 -- cleared.
 
 -- a read may be made: the moment was read, and the connection isn't to be cleared
 abbrev pub Reads : Progress → Type 0
-Reads p = (p.stale ≡ false) × (p.phase ≡ Clearing → ⊥)
+Reads p = (p.clock_due ≡ false) × (p.phase ≡ Clearing → ⊥)
 
 -- if this action reads the clock alone, the moment is out of date; if it connects or reads, it isn't
 abbrev pub Timely : Progress → Action → Type 0
-Timely p action.ReadClock = p.stale ≡ true
-Timely p action.Open = p.stale ≡ false
+Timely p action.ReadClock = p.clock_due ≡ true
+Timely p action.Open = p.clock_due ≡ false
 Timely p (action.Read until) = Reads p
 Timely p _ = Unit {0}
 
@@ -91,7 +87,7 @@ Timely p _ = Unit {0}
 
 -- the phase is `Ready`, in which requests may be sent, and the moment was read
 abbrev pub Awake : Progress → Type 0
-Awake p = (p.stale ≡ false) × (p.phase ≡ Ready)
+Awake p = (p.clock_due ≡ false) × (p.phase ≡ Ready)
 
 -- if this action sends a request, resynchronizes, or closes a dead line, `Awake` holds; or the phase has said already that the
 -- line is to be closed
@@ -184,7 +180,7 @@ not_between true true false none true some u b e f g is = cc
 not_between true false begun none true some u b e f g is = cc
 not_between false up begun none true some u b e f g is = cc
 
--- a number that isn't 0, by its test, is above 0, by its test
+-- where the test for 0 fails, the test for more than 0 holds
 above_none : (n : ℕ) → nat_eq n 0 ≡ false → nat_lt 0 n ≡ true
 above_none n e = grind (arith, nat_tests, e)
 
@@ -227,7 +223,7 @@ resting_so p w e = by_tests (is_up p.phase) (has_begun p) (nat_eq w.current 0) (
   by_tests true true false between u b n t f = cc
 
 -- if there is a connection, there is one to be closed for any cause
-has_one : (why : Cause) (p : Progress) → is_up p.phase ≡ true → HasOneFor why p
+has_one : (why : Cause) (p : Progress) → is_up p.phase ≡ true → HasConnectionFor why p
 has_one cause.Stale p up = tt
 has_one cause.Stopped p up = tt
 has_one why p up = up
@@ -261,7 +257,7 @@ again_for : (plan : Plan) (p : Progress) (w : Waiting) → Awake p → has_begun
 again_for plan p w awake begun some settled more stays ready =
     either (Holds plan p w) _ action.Pass (w.listed && not p.next_is_chained)
     (λ e. let it = both_true w.listed (not p.next_is_chained) e in
-    next_for plan p w awake begun some (inl (free_so p.next_is_chained it.1)) (inr (settled, it.0)) stays ready)
+    next_for plan p w awake begun some (inl (not_true p.next_is_chained it.1)) (inr (settled, it.0)) stays ready)
     (λ e. ((awake.1, begun, some, settled, more, by_test (one_false w.listed (not p.next_is_chained) e), ready), tt, tt)) where
       -- why the attempt is left out, by which of the two tests fails
       by_test : ((w.listed ≡ false) ⊎ (not p.next_is_chained ≡ false)) → (w.listed ≡ false) ⊎ (p.next_is_chained ≡ true)
@@ -391,7 +387,7 @@ closing_wakes p cause.Dead is = inl is
 closing_wakes p why is = tt
 
 -- `Holds` is true in each phase, where turns are left and the moment was read
-told_for : (plan : Plan) (phase : Phase) (p : Progress) (w : Waiting) → p.phase ≡ phase → p.stale ≡ false → is_stopping p w ≡ false → Holds plan p w (action_told plan phase p w)
+told_for : (plan : Plan) (phase : Phase) (p : Progress) (w : Waiting) → p.phase ≡ phase → p.clock_due ≡ false → is_stopping p w ≡ false → Holds plan p w (action_of_phase plan phase p w)
 told_for plan Down p w is now goes = (is, now, tt)
 told_for plan Pausing p w is now goes = (tt, (now, λ c. let other : Pausing ≡ Clearing = sym is ∙ c in cc), tt)
 told_for plan Clearing p w is now goes = (is, tt, tt)
@@ -401,7 +397,7 @@ told_for plan (Closing why) p w is now goes = ((has_one why p (ap is_up is), inl
 told_for plan (Over why) p w is now goes = ((ap is_up is, inl is), tt, tt)
 
 -- `Holds` is true if all turns are used up
-up_for : (plan : Plan) (p : Progress) (w : Waiting) (up : Bool) → is_up p.phase ≡ up → p.turns ≡ 0 → Holds plan p w (action_up up)
+up_for : (plan : Plan) (p : Progress) (w : Waiting) (up : Bool) → is_up p.phase ≡ up → p.turns ≡ 0 → Holds plan p w (action_without_turns up)
 up_for plan p w true is none = ((is, inr none), tt, tt)
 up_for plan p w false is none = ((is, inr (refl, none)), tt, tt)
 
@@ -413,7 +409,7 @@ on_for plan p w =
     (λ e. either P (action.Close cause.Stale) _ (is_stale plan p w) (λ old. ((tt, inr old), tt, tt))
     (λ some. either P (action.Close cause.Stopped) _ (is_stopping p w)
     (λ asked. let it = both_true p.stops (is_resting p w) asked in ((tt, inr (it.0, resting_so p w it.1)), tt, tt))
-    (λ goes. either P action.ReadClock _ p.stale (λ old. (tt, old, tt)) (λ now. told_for plan p.phase p w refl now goes))))
+    (λ goes. either P action.ReadClock _ p.clock_due (λ old. (tt, old, tt)) (λ now. told_for plan p.phase p w refl now goes))))
 
 -- `Holds` is true in each phase
 in_for : (plan : Plan) (phase : Phase) (p : Progress) (w : Waiting) → p.phase ≡ phase → Holds plan p w (action_in phase plan p w)

@@ -35,7 +35,7 @@ BooksInParts reads commands c ms rs (p ∷ q ∷ ps) end =
     (records : List Record) × Books reads commands c ms rs (joined p restarting) fresh [] records × BooksInParts reads commands fresh [] records (q ∷ ps) end
 
 -- three parts joined are the same, whether the first two are joined first or the last two
-joined_assoc : (p q r : Part) → joined (joined p q) r ≡ joined p (joined q r)
+pub joined_assoc : (p q r : Part) → joined (joined p q) r ≡ joined p (joined q r)
 joined_assoc p q r =
     ap (λ (turns : List Turn). record { turns = turns; steps = (p.steps ++ q.steps) ++ r.steps; marks = (p.marks ++ q.marks) ++ r.marks }) (append_assoc p.turns q.turns r.turns)
     ∙ ap (λ (steps : List (Step Asked)). record { turns = p.turns ++ (q.turns ++ r.turns); steps = steps; marks = (p.marks ++ q.marks) ++ r.marks }) (append_assoc p.steps q.steps r.steps)

@@ -39,7 +39,7 @@ counts_on plan count w action.Pass p t q left unsent needs (inl k) = kept_there 
 counts_on plan count w action.Pass p t q left unsent needs (inr k) = inr (k.left ∙ left, omega (arith, k.unsent, unsent))
 counts_on plan count w o p t q left unsent needs k = kept_there p t q left unsent k
 
--- no act goes back
+-- no act takes the progress back
 after_on : (plan : Plan) (commands : List Task) (s : Model) (act : Act) → NotBack s.progress (after plan commands s act).progress
 after_on plan commands s act =
     let done = moved plan commands (action_at plan s) (with_progress turned s) act in
@@ -54,7 +54,7 @@ on_again p q r (inl a) (inr b) = inl (omega (arith, a, b.0))
 on_again p q r (inr a) (inl b) = inl (omega (arith, a.0, b))
 on_again p q r (inr a) (inr b) = inr (b.0 ∙ a.0, omega (arith, a.1, b.1))
 
--- no acts go back
+-- acts don't take the progress back
 all_on : (plan : Plan) (commands : List Task) (s : Model) (acts : List Act) → NotBack s.progress (after_all plan commands s acts).progress
 all_on plan commands s [] = inr (refl, omega arith)
 all_on plan commands s (act ∷ acts) = on_again s.progress (after plan commands s act).progress (after_all plan commands s (act ∷ acts)).progress

@@ -2,7 +2,7 @@
 -- reply ended is what the client's steps of its part do (`counted`); so it is that of the course since the synchronization, and
 -- a command is sent only if it is below seven. A course is what a client has sent and settled so far, and the client after
 -- that; a part reaches from one synchronization to the next. An act is one call on the link, with its result.
-use Rattle.std.proofs.Common.{◌≡◌, ◌⊎◌, inl, inr, ℕ, zero, suc, ◌+◌, ◌-◌, ◌<◌, ◌&&◌, ◌||◌, Bool, true, false, List, [], ◌∷◌, ◌++◌, length, map, drop, Option, Some, None, refl, sym, ap, ◌∙◌, subst, arith, append_assoc, append-nil, if◌then◌else◌, length-drop}
+use Rattle.std.proofs.Common.{◌≡◌, ◌⊎◌, inl, inr, ℕ, ◌+◌, ◌-◌, ◌<◌, ◌&&◌, ◌||◌, Bool, true, false, List, [], ◌∷◌, ◌++◌, length, map, drop, Option, Some, None, refl, sym, ap, ◌∙◌, subst, arith, append_assoc, append-nil, if◌then◌else◌, length-drop}
 use Rattle.std.specs.Prelude.{slice_get, not}
 use Rattle.std.specs.List.{AllByRecursion}
 use Rattle.std.proofs.lemmas.List.{length-append}
@@ -32,6 +32,8 @@ use Rattle.gc_station.proofs.Invariant.{Invariant}
 use Rattle.gc_station.proofs.Parting.{Leads, leads, keeps_action}
 use Rattle.gc_station.proofs.Walk.{quieted_along, closed_along, walk}
 use Rattle.gc_station.proofs.Ticking.{not_both}
+use Rattle.gc_station.proofs.Lists.{all_at}
+use Rattle.gc_station.proofs.Asked.{steps_none}
 
 -- What an act does.
 
@@ -193,12 +195,6 @@ split (x ∷ xs) ys (f ∷ front) a later e =
       more (inl (mid, is)) head = inl (mid, ap (λ y. y ∷ xs) head ∙ ap (λ l. f ∷ l) is)
       more (inr (rest, is, others)) head = inr (rest, ap (λ l. f ∷ l) is ∙ ap (λ y. y ∷ (xs ++ rest)) (sym head), others)
 
--- what holds of each element of a list holds of the one at a place
-all_at : {A : Type 0} (P : A → Type 0) (xs : List A) (i : ℕ) (x : A) → AllByRecursion P xs → slice_get xs i ≡ Some x → P x
-all_at P [] i x all e = cc
-all_at P (y ∷ xs) zero x all e = let same : y ≡ x = cc in subst P same all.0
-all_at P (y ∷ xs) (suc i) x all e = all_at P xs i x all.1 e
-
 -- Runs.
 
 -- wherever a command is sent in a part, after the steps `done` of the same part, a call of the table is near that a reply ended
@@ -236,7 +232,7 @@ module _ (plan : Plan) (commands : List Task) (s : Model) (o : Action) (act : Ac
       let near = by_action so.1 in
       subst (λ (l : List (Step Asked)). IsNearTheTable (reached l)) (sym (ap (λ l. done ++ l) so.0 ∙ append-nil done))
       (near_so (reached done) s.progress.behind counts near) where
-        -- fewer than seven are after, if a command is sent
+        -- if a command is sent next, fewer than seven requests were sent after the last call of the table that was answered
         by_action : (o ≡ action.Send) ⊎ (o ≡ action.Prepare) → s.progress.behind < 7
         by_action (inl sends) = (subst (λ (x : Action). IsFor plan s.progress (waiting_of s) x) sends is).5
         by_action (inr prepares) = (subst (λ (x : Action). IsFor plan s.progress (waiting_of s) x) prepares is).4
@@ -280,15 +276,6 @@ not_lost p e = by_test (has_begun p) _ e where
   by_test : (b over : Bool) → (not b || over) ≡ false → b ≡ true
   by_test true over e = refl
   by_test false over e = cc
-
--- while the station synchronizes, the client takes no step
-no_steps : (s : Model) (o : Action) (act : Act) → (beginning s o act).steps ≡ []
-no_steps s action.Ask (Put bytes) = refl
-no_steps s action.Ask (Cut bytes count) = refl
-no_steps s action.Ask act = refl
-no_steps s (action.Read until) (Gave piece m) = refl
-no_steps s (action.Read until) act = refl
-no_steps s o act = refl
 
 -- a new client has sent nothing, so that none of its requests is after
 none_sent : (b : ℕ) → Counts (reached []) b
@@ -354,7 +341,7 @@ module _ (plan : Plan) (commands : List Task) (s : Model) (act : Act) (done : Li
       (subst (λ (n : ℕ). Counts (reached (done ++ part.steps)) n) (sym (part_counted w still)) (counts_steps done part.steps s.progress.behind counts))))
   by_case false all w l next =
       let kept = keeps_action plan commands s o act its obeys w (fine.begins w) in
-      let steps : part.steps ≡ [] = part_is false w ∙ no_steps s o act in
+      let steps : part.steps ≡ [] = part_is false w ∙ steps_none plan commands s o act in
       let none_done : done ++ part.steps ≡ [] = ap (λ l. l ++ part.steps) (new w) ∙ steps in
       front_near plan commands s o act done fine its obeys client counts ps
       (subst (λ (l : List (Step Asked)). AreNear l ps) (sym none_done)

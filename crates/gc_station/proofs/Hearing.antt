@@ -35,9 +35,9 @@ use Rattle.gc_station.specs.declared.station.Station.{Station}
 use Rattle.gc_station.specs.Attempts.{listed_by}
 use Rattle.gc_station.specs.Marks.{commands_in, records_of, last_well, fresh_after}
 use Rattle.gc_station.specs.Deciding.{is_none_left}
-use Rattle.gc_station.specs.Progressing.{caught_up, line_noted, bytes_noted, reckoned_early, after_failure, closed, lines_asked, line_asked}
+use Rattle.gc_station.specs.Progressing.{caught_up, line_noted, bytes_noted, reckoned_early, after_failure, closed, lines_synchronizing, line_synchronizing}
 use Rattle.gc_station.specs.Records.{Record, texts_of, WritesPart, WritesAll}
-use Rattle.gc_station.specs.Model.{Model, line_came, lines_came, lines_completed, with_rest, with_progress, with_moment, waiting_of, settles, piece_came, piece_asked, after_piece}
+use Rattle.gc_station.specs.Model.{Model, line_came, lines_came, lines_completed, with_rest, with_progress, with_moment, waiting_of, settles, piece_came, piece_synchronizing, after_piece}
 use Rattle.gc_station.specs.Stations.{waiting_in, Refines, Took, TookPart, ComesTo}
 use Rattle.gc_station.specs.Scopes.{AreReadings}
 use Rattle.gc_station.specs.Tallies.{nothing_yet, tallied}
@@ -308,7 +308,7 @@ with_caught mid p t t' n n' s stands e f is = record {
   fresh = stands.fresh;
 }
 
--- a station that gave up requests at a moment is as the model at that moment
+-- a station whose requests timed out at a moment is as the model at that moment
 pub stands_expired : (station : Station) (p q : Progress) (client : Windowed Asked) (fresh : ℕ) (m : Moment) (s : Model) → Refines station s → p ≡ q
     → client ≡ record station.client { ids = expires station.client.ids m.elapsed }
     → fresh ≡ min station.fresh m.elapsed
@@ -359,27 +359,27 @@ closed_same plan w w' why p p' ec ep = kept why ∙ ap (closed plan w' why) ep w
 -- While the station synchronizes.
 
 -- the progress after two lists of lines is the one after the second, from the one after the first on
-pub lines_asked-append : (p : Progress) (xs ys : List (List ℕ)) → lines_asked p (xs ++ ys) ≡ lines_asked (lines_asked p xs) ys
-lines_asked-append p [] ys = refl
-lines_asked-append p (x ∷ xs) ys = lines_asked-append (line_asked p x) xs ys
+pub lines_synchronizing-append : (p : Progress) (xs ys : List (List ℕ)) → lines_synchronizing p (xs ++ ys) ≡ lines_synchronizing (lines_synchronizing p xs) ys
+lines_synchronizing-append p [] ys = refl
+lines_synchronizing-append p (x ∷ xs) ys = lines_synchronizing-append (line_synchronizing p x) xs ys
 
 -- a station that has heard a piece but for `left` while it synchronizes, and is as the model `now`: hearing what is left comes
 -- to what hearing the whole piece from the model s comes to
 pub record Asking (station : Station) (s : Model) (piece left : List ℕ) : Type 0 where
   pub now : Model
   pub stands : Refines station now
-  pub goes : piece_asked left now ≡ piece_asked piece s
+  pub goes : piece_synchronizing left now ≡ piece_synchronizing piece s
 
 -- hearing what is left of a piece while the station synchronizes is hearing its first frame's line, and then the rest
 pub asked_first : (s : Model) (left later rest : List ℕ) (frame : Frame)
     → frames_behind s.rest left ≡ completed frame ++ frames_behind rest later → rest_behind s.rest left ≡ rest_behind rest later
-    → piece_asked left s ≡ piece_asked later (with_progress (λ p. lines_asked p (option_to_list (line_in frame))) (with_rest rest s))
+    → piece_synchronizing left s ≡ piece_synchronizing later (with_progress (λ p. lines_synchronizing p (option_to_list (line_in frame))) (with_rest rest s))
 asked_first s left later rest frame seen rests =
     let line = option_to_list (line_in frame) in
     let lines : lines_completed s.rest left ≡ line ++ lines_completed rest later = ap (filter_map line_in) seen ∙ lines_split frame (frames_behind rest later) in
-    ap (λ r. shown r (lines_asked s.progress (lines_completed s.rest left))) rests
-    ∙ ap (λ xs. shown (rest_behind rest later) (lines_asked s.progress xs)) lines
-    ∙ ap (shown (rest_behind rest later)) (lines_asked-append s.progress line (lines_completed rest later)) where
+    ap (λ r. shown r (lines_synchronizing s.progress (lines_completed s.rest left))) rests
+    ∙ ap (λ xs. shown (rest_behind rest later) (lines_synchronizing s.progress xs)) lines
+    ∙ ap (shown (rest_behind rest later)) (lines_synchronizing-append s.progress line (lines_completed rest later)) where
       -- the model s with these bytes kept of a line, and this progress
       shown : List ℕ → Progress → Model
       shown r p = record s { rest = r; progress = p }
@@ -387,7 +387,7 @@ asked_first s left later rest frame seen rests =
 -- `Asking` is preserved by one frame more
 pub asking_on : (station station' : Station) (s : Model) (piece left : List ℕ) (used : ℕ) (frame : Frame) (kept : Kept)
     → (h : Asking station s piece left) → (t : Takes h.now.rest left used frame kept)
-    → station' ≡ record station { assembler = kept; progress = lines_asked station.progress (option_to_list (line_in frame)) }
+    → station' ≡ record station { assembler = kept; progress = lines_synchronizing station.progress (option_to_list (line_in frame)) }
     → Asking station' s piece (drop used left)
 asking_on station station' s piece left used frame kept h t is =
     let line = option_to_list (line_in frame) in
@@ -395,9 +395,9 @@ asking_on station station' s piece left used frame kept h t is =
     let taken : Station = record station { assembler = kept } in
     let there = with_kept station kept t.now h.now h.stands t.stands in
     record {
-      now = with_progress (λ p. lines_asked p line) mid;
-      stands = subst (λ (x : Station). Refines x (with_progress (λ p. lines_asked p line) mid)) (sym is) (record {
-        progress = ap (λ p. lines_asked p line) there.progress;
+      now = with_progress (λ p. lines_synchronizing p line) mid;
+      stands = subst (λ (x : Station). Refines x (with_progress (λ p. lines_synchronizing p line) mid)) (sym is) (record {
+        progress = ap (λ p. lines_synchronizing p line) there.progress;
         ids = there.ids;
         width = there.width;
         marks = there.marks;
@@ -412,7 +412,7 @@ asking_on station station' s piece left used frame kept h t is =
     }
 
 -- where null procedures of the synchronization are left unanswered, the synchronization hears a piece that is heard
-pub came_asked : (word piece : List ℕ) (s : Model) → is_none_left word ≡ false → after_piece true word piece s ≡ piece_asked piece s
+pub came_asked : (word piece : List ℕ) (s : Model) → is_none_left word ≡ false → after_piece true word piece s ≡ piece_synchronizing piece s
 came_asked [] piece s e = cc
 came_asked (asked ∷ others) piece s e = refl
 

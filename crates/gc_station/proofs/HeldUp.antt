@@ -1,8 +1,8 @@
--- A text without procedures of one's own is never held up: if each command is a call of the table, as many requests are after
+-- A text without raw commands is never held up: if each command is a call of the table, as many requests are after
 -- the last call of the table that a reply ended as wait. An act is one call on the link, with its result; steps of the client
 -- are to send, to hear a line, to read the clock and to restart.
-use Rattle.std.proofs.Common.{◌≡◌, ℕ, zero, suc, ◌+◌, ◌-◌, ◌<◌, ◌≤◌, ◌&&◌, ◌||◌, Bool, true, false, List, [], ◌∷◌, ◌++◌, length, map, drop, Option, Some, None, refl, sym, ap, ◌∙◌, subst, arith, if◌then◌else◌, nat_lt, nat_eq, length-drop}
-use Rattle.std.specs.Prelude.{slice_get, not}
+use Rattle.std.proofs.Common.{◌≡◌, ℕ, zero, suc, ◌+◌, ◌-◌, ◌<◌, ◌≤◌, ◌&&◌, Bool, true, false, List, [], ◌∷◌, ◌++◌, length, map, drop, Option, Some, None, refl, sym, ap, ◌∙◌, subst, arith, if◌then◌else◌, nat_lt, nat_eq, length-drop}
+use Rattle.std.specs.Prelude.{slice_get}
 use Rattle.std.specs.List.{AllByRecursion}
 use Rattle.std.proofs.lemmas.Bool.{ltb-true, ltb-false, eqb-true}
 use Rattle.std.proofs.lemmas.Bool.Decides.{nat_tests}
@@ -32,7 +32,7 @@ use Rattle.gc_station.specs.Parts.{putting, asking_first, hearing, doing, beginn
 use Rattle.gc_station.specs.Progressing.{one_more, turned, moment_noted, time_passed, is_over, loses_all}
 use Rattle.gc_station.specs.Reasons.{IsFor}
 use Rattle.gc_station.specs.Runs.{state_after}
-use Rattle.gc_station.specs.Model.{Model, opening, action_at, waiting_of, place_next, mark_next, is_tables, ends_with_table, is_heard, with_progress, with_moment, with_rest, lines_completed, after_piece, moved, losing, after, Performs, mark_setup}
+use Rattle.gc_station.specs.Model.{Model, opening, action_at, waiting_of, place_next, mark_next, is_some_of_table, ends_with_table, is_heard, with_progress, with_moment, with_rest, lines_completed, after_piece, moved, losing, after, Performs, mark_setup}
 use Rattle.gc_station.proofs.Always.{always}
 use Rattle.gc_station.proofs.Behind.{behind_by, behind_step}
 use Rattle.gc_station.proofs.Booking.{stepped, client_after}
@@ -47,6 +47,7 @@ use Rattle.gc_station.proofs.Turns.{over_stays}
 use Rattle.gc_station.proofs.Walk.{asked_along, quieted_along, closed_along, walk}
 use Rattle.gc_station.proofs.Words.{renews_only}
 use Rattle.gc_station.proofs.Ticking.{not_both}
+use Rattle.gc_station.proofs.Losing.{neither}
 
 -- Lists.
 
@@ -64,34 +65,34 @@ all_more P (y ∷ xs) x all here = (all.0, all_more P xs x all.1 here)
 -- Steps of the client.
 
 -- an outstanding request is a call of the table
-abbrev IsTables : Pending Asked → Type 0
-IsTables p = is_of_table p.call ≡ true
+abbrev IsTableCall : Pending Asked → Type 0
+IsTableCall p = is_of_table p.call ≡ true
 
 -- a step sends calls of the table alone
-abbrev SendsTables : Step Asked → Type 0
-SendsTables (Send target call deadline) = is_of_table call ≡ true
-SendsTables (Hear line) = Unit {0}
-SendsTables (Expire now) = Unit {0}
-SendsTables Restart = ⊥
+abbrev SendsTableCalls : Step Asked → Type 0
+SendsTableCalls (Send target call deadline) = is_of_table call ≡ true
+SendsTableCalls (Hear line) = Unit {0}
+SendsTableCalls (Expire now) = Unit {0}
+SendsTableCalls Restart = ⊥
 
 -- only calls of the table wait at a client, seven at most, and as many as these
 record Level (c : ById Asked) (b : ℕ) : Type 0 where
-  tables : AllByRecursion IsTables c.waiting
+  tables : AllByRecursion IsTableCall c.waiting
   few : length c.waiting ≤ 7
   same : b ≡ length c.waiting
 
 -- a request that has timed out is for what it was for before
-expired_tables : (now : ℕ) (ps : List (Pending Asked)) → AllByRecursion IsTables ps → AllByRecursion IsTables (map (expired now) ps)
+expired_tables : (now : ℕ) (ps : List (Pending Asked)) → AllByRecursion IsTableCall ps → AllByRecursion IsTableCall (map (expired now) ps)
 expired_tables now [] all = tt
 expired_tables now (p ∷ ps) all = (all.0, expired_tables now ps all.1)
 
 -- the last request that a reply settles is a call of the table, if all are
-settle_tables : (k : ℕ) (line : List ℕ) (ps : List (Pending Asked)) → k < length ps → AllByRecursion IsTables ps → is_tables (slice_get (settle k line ps) k) ≡ true
+settle_tables : (k : ℕ) (line : List ℕ) (ps : List (Pending Asked)) → k < length ps → AllByRecursion IsTableCall ps → is_some_of_table (slice_get (settle k line ps) k) ≡ true
 settle_tables k line [] low all = absurd (omega (arith, low))
 settle_tables zero line (p ∷ ps) low all = all.0
 settle_tables (suc k) line (p ∷ ps) low all = settle_tables k line ps (omega (arith, low)) all.1
 
--- one more than fewer than seven is one more
+-- `one_more` of a number below seven is that number and 1
 more_is : (n : ℕ) → n < 7 → one_more n ≡ n + 1
 more_is n low = by_test (nat_lt n WINDOW) refl where
   -- the lemma above, by whether n is below the window
@@ -110,11 +111,11 @@ level_sent c b target call deadline table h false e =
     let low : length c.waiting < 7 = less (length c.waiting) h.few e in
     let more = length-append c.waiting (pending_of target call deadline ∷ []) in
     record {
-      tables = all_more IsTables c.waiting (pending_of target call deadline) h.tables table;
+      tables = all_more IsTableCall c.waiting (pending_of target call deadline) h.tables table;
       few = omega (arith, more, low);
       same = ap one_more h.same ∙ more_is (length c.waiting) low ∙ sym more;
     } where
-      -- at most seven that aren't seven are fewer
+      -- a number that is at most seven, and isn't seven, is below seven
       less : (n : ℕ) → n ≤ 7 → nat_eq n 7 ≡ false → n < 7
       less n few other = grind (arith, nat_tests, few, other)
 
@@ -131,17 +132,17 @@ level_heard c b line (Some id) h = by_test _ _ refl where
       let low = ltb-true k (length c.waiting) e in
       let many = settle_length k line c.waiting low in
       let at : length (settle k line c.waiting) - 1 ≡ k = omega (arith, many) in
-      let ends : ends_with_table (settle k line c.waiting) ≡ true = ap (λ n. is_tables (slice_get (settle k line c.waiting) n)) at ∙ settle_tables k line c.waiting low h.tables in
+      let ends : ends_with_table (settle k line c.waiting) ≡ true = ap (λ n. is_some_of_table (slice_get (settle k line c.waiting) n)) at ∙ settle_tables k line c.waiting low h.tables in
       let left = length-drop (k + 1) c.waiting in
       let few = h.few in
       record {
-        tables = all_drop IsTables (k + 1) c.waiting h.tables;
+        tables = all_drop IsTableCall (k + 1) c.waiting h.tables;
         few = omega (arith, left, few);
         same = ap (λ (t : Bool). if t then length (drop (k + 1) c.waiting) else b) ends;
       }
 
 -- a step that sends calls of the table alone preserves `Level`
-level_step : (c : ById Asked) (b : ℕ) (step : Step Asked) → SendsTables step → Level c b → Level (stepped c step) (behind_step c b step)
+level_step : (c : ById Asked) (b : ℕ) (step : Step Asked) → SendsTableCalls step → Level c b → Level (stepped c step) (behind_step c b step)
 level_step c b (Send target call deadline) table h = level_sent c b target call deadline table h (nat_eq (length c.waiting) 7) refl
 level_step c b (Hear line) table h = level_heard c b line (heard line) h
 level_step c b (Expire now) table h =
@@ -150,19 +151,19 @@ level_step c b (Expire now) table h =
 level_step c b Restart table h = absurd table
 
 -- steps that send calls of the table alone preserve `Level`
-level_steps : (c : ById Asked) (b : ℕ) (steps : List (Step Asked)) → AllByRecursion SendsTables steps → Level c b → Level (client_after c steps) (behind_by c b steps)
+level_steps : (c : ById Asked) (b : ℕ) (steps : List (Step Asked)) → AllByRecursion SendsTableCalls steps → Level c b → Level (client_after c steps) (behind_by c b steps)
 level_steps c b [] all h = h
 level_steps c b (step ∷ steps) all h = level_steps (stepped c step) (behind_step c b step) steps all.1 (level_step c b step all.0 h)
 
 -- Acts.
 
 -- steps that hear lines send nothing
-hears_tables : (lines : List (List ℕ)) → AllByRecursion SendsTables (map Hear lines)
+hears_tables : (lines : List (List ℕ)) → AllByRecursion SendsTableCalls (map Hear lines)
 hears_tables [] = tt
 hears_tables (line ∷ others) = (tt, hears_tables others)
 
 -- a piece that is heard, or discarded, sends nothing
-hearing_tables : (h : Bool) (rest piece : List ℕ) → AllByRecursion SendsTables (hearing h rest piece)
+hearing_tables : (h : Bool) (rest piece : List ℕ) → AllByRecursion SendsTableCalls (hearing h rest piece)
 hearing_tables true rest piece = hears_tables (lines_completed rest piece)
 hearing_tables false rest piece = tt
 
@@ -175,18 +176,18 @@ table_at task utc is = by_clock task.now where
   by_clock false = is
 
 -- the first of some calls of the table is one
-first_tables : (now : ℕ) (mark : Mark) (left : List Task) → AreOfTable left → AllByRecursion SendsTables (asking_first now mark left).steps
+first_tables : (now : ℕ) (mark : Mark) (left : List Task) → AreOfTable left → AllByRecursion SendsTableCalls (asking_first now mark left).steps
 first_tables now mark [] all = tt
 first_tables now mark (task ∷ others) all = (table_at task mark.sent all.0, tt)
 
 -- the first of some calls of the table, as a command of the setup, is one, and so is the null procedure in its place
-setup_tables : (plan : Plan) (now : ℕ) (mark : Mark) (left : List Task) → AreOfTable left → AllByRecursion SendsTables (asking_or_null plan now mark left).steps
+setup_tables : (plan : Plan) (now : ℕ) (mark : Mark) (left : List Task) → AreOfTable left → AllByRecursion SendsTableCalls (asking_or_null plan now mark left).steps
 setup_tables plan now mark [] all = (refl, tt)
 setup_tables plan now mark (task ∷ others) all = (table_at task mark.sent all.0, tt)
 
 module _ (plan : Plan) (commands : List Task) (all : AreOfTable commands) where
   -- an act that puts bytes sends calls of the table alone
-  put_tables : (s : Model) (o : Action) → AllByRecursion SendsTables (putting plan commands s o).steps
+  put_tables : (s : Model) (o : Action) → AllByRecursion SendsTableCalls (putting plan commands s o).steps
   put_tables s action.Flush = (refl, tt)
   put_tables s action.Prepare =
       setup_tables plan s.progress.moment.elapsed (mark_setup commands s.progress) (drop s.progress.prepared commands)
@@ -197,7 +198,7 @@ module _ (plan : Plan) (commands : List Task) (all : AreOfTable commands) where
   put_tables s o = tt
 
   -- an act sends calls of the table alone
-  do_tables : (s : Model) (o : Action) (act : Act) → AllByRecursion SendsTables (doing plan commands s o act).steps
+  do_tables : (s : Model) (o : Action) (act : Act) → AllByRecursion SendsTableCalls (doing plan commands s o act).steps
   do_tables s o (Told m) = (tt, tt)
   do_tables s o (Silent m) = (tt, tt)
   do_tables s o (Gave piece m) = (tt, hearing_tables (is_heard s.progress.phase) s.rest piece)
@@ -253,11 +254,7 @@ module _ (plan : Plan) (commands : List Task) (all : AreOfTable commands) where
 
   -- where what is outstanding isn't lost, the client is as before
   kept_client : (t : Model) → has_begun t.progress ≡ true → is_over t.progress ≡ false → (losing (loses_all t.progress) t).client ≡ t.client
-  kept_client t begun going = ap (λ (b : Bool). (losing b t).client) (neither (has_begun t.progress) (is_over t.progress) begun going) where
-    -- if the station has synchronized and the run isn't over, nothing is lost
-    neither : (b over : Bool) → b ≡ true → over ≡ false → (not b || over) ≡ false
-    neither true over e f = f
-    neither false over e f = cc
+  kept_client t begun going = ap (λ (b : Bool). (losing b t).client) (neither (has_begun t.progress) (is_over t.progress) begun going)
 
   module _ (s : Model) (act : Act) (fine : Invariant plan commands s) (obeys : Performs commands s (action_at plan s) act) (h : Free s) where
     -- the action that the act performs
@@ -349,7 +346,7 @@ sends_on plan p w o e = by_test (nat_lt p.behind WINDOW) refl where
         either_way true f = f
         either_way false f = refl
 
--- the law: a text without procedures of one's own is never held up
+-- the law: a text without raw commands is never held up
 pub never_held_up : TheTableIsNeverHeldUp
 never_held_up plan commands scope acts runs all begun going =
     let s = state_after plan commands scope acts in

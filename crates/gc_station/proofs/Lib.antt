@@ -1,7 +1,7 @@
 pub mod Acting
 mod Always
 pub mod Answers
-mod Beginnings
+pub mod Beginnings
 pub mod Booking
 mod ChainSteps
 mod Chaining
@@ -21,7 +21,7 @@ mod Givens
 mod Going
 mod Growing
 pub mod Hearing
-mod Lists
+pub mod Lists
 mod Losing
 mod Making
 pub mod Meant
@@ -63,6 +63,7 @@ mod Ticking
 mod Timing
 mod Tasked
 mod Due
+mod Staying
 mod Cycles
 mod Unsent
 mod Pauses

@@ -2,7 +2,7 @@
 -- one has a later place or cycle; and the commands of a chain are requests of one part. An act is one call on the link, with
 -- its result. A mark says which command a request is of, or `None` of a null procedure. Places, parts and requests count from
 -- 0. `Back` says of an earlier command that it was sent, was answered well, and is of the part that still goes on.
-use Rattle.std.proofs.Common.{◌≡◌, ◌⊎◌, inl, inr, ℕ, zero, suc, ◌+◌, ◌-◌, ◌<◌, ◌≤◌, Bool, true, false, List, [], ◌∷◌, ◌++◌, length, drop, Option, Some, if◌then◌else◌, refl, sym, ◌∙◌, ap, subst, arith, append_assoc}
+use Rattle.std.proofs.Common.{◌≡◌, ◌⊎◌, inl, inr, ℕ, zero, suc, ◌+◌, ◌-◌, ◌<◌, ◌≤◌, Bool, true, false, List, [], ◌∷◌, ◌++◌, length, drop, Option, Some, if◌then◌else◌, refl, sym, ◌∙◌, ap, subst, arith, append_assoc, append-nil}
 use Rattle.std.specs.Prelude.{slice_get, unwrap_or}
 use Rattle.std.proofs.lemmas.List.{length-drop}
 use Rattle.gc_texts.specs.declared.tasks.Task.{Task}
@@ -34,6 +34,7 @@ use Rattle.gc_station.proofs.Going.{after_all-append, runs_behind}
 use Rattle.gc_station.proofs.SentAt.{some_is, none_is_not, get_behind, fronts, records_stay, SentAt, sent_at, act_head, act_tail}
 use Rattle.gc_station.proofs.OnePart.{runs_front, needs_send, puts_text, same_part}
 use Rattle.gc_station.proofs.PartFronts.{IsFront, front_parts, front_last}
+use Rattle.gc_station.proofs.Lists.{get_more}
 
 -- The commands go on.
 
@@ -58,15 +59,10 @@ module _ (plan : Plan) (commands : List Task) (scope : Scope) where
       → (y : SentAt plan commands (opening plan scope) acts j n b) → (more : List Act) × (y.before ≡ x.before ++ more) × (more ≡ [] → ⊥)
   goes_before acts i j m n a b l x y =
       elim (fronts x.before (x.act ∷ x.rest) y.before (y.act ∷ y.rest) (sym x.order ∙ y.order)) [
-        | inl h ↦ (h.0, h.1, λ none. behind [] (sym (h.1 ∙ ap (λ l. x.before ++ l) none ∙ nil x.before) ∙ sym (nil y.before)))
+        | inl h ↦ (h.0, h.1, λ none. behind [] (sym (h.1 ∙ ap (λ l. x.before ++ l) none ∙ append-nil x.before) ∙ sym (append-nil y.before)))
         | inr h ↦ absurd (behind h.0 h.1)
       ]
     where
-      -- nothing appended changes no list
-      nil : (xs : List Act) → xs ++ [] ≡ xs
-      nil [] = refl
-      nil (z ∷ xs) = ap (λ ys. z ∷ ys) (nil xs)
-
       -- the first command isn't sent after the second one
       behind : (more : List Act) → x.before ≡ y.before ++ more → ⊥
       behind more e =
@@ -121,17 +117,11 @@ put_asks plan commands s act bytes puts cycle_begun some = subst (λ (b : Bool).
 abbrev Has : List Part → ℕ → Mark → Type 0
 Has ps i mark = (part : Part) × (slice_get ps i ≡ Some part) × (m : ℕ) × (slice_get part.marks m ≡ Some (Some mark))
 
--- what a list has at a place, it has there with others after it
-in_more : {A : Type 0} (xs ys : List A) (i : ℕ) (x : A) → slice_get xs i ≡ Some x → slice_get (xs ++ ys) i ≡ Some x
-in_more [] ys i x e = absurd (none_is_not x e)
-in_more (y ∷ xs) ys zero x e = e
-in_more (y ∷ xs) ys (suc i) x e = in_more xs ys i x e
-
 -- if an act's part has a mark first, the first of the parts with the act before it has it
 first_has : (p : Part) (b : Bool) (ps : List Part) (mark : Mark) → slice_get p.marks 0 ≡ Some (Some mark) → Has (in_front p b ps) 0 mark
 first_has p true ps mark e = (p, refl, 0, e)
 first_has p false [] mark e = (p, refl, 0, e)
-first_has p false (q ∷ ps) mark e = (joined p q, refl, 0, in_more p.marks q.marks 0 (Some mark) e)
+first_has p false (q ∷ ps) mark e = (joined p q, refl, 0, get_more p.marks q.marks 0 (Some mark) e)
 
 -- where part i has a mark, it has it with a part joined to the front of the first one
 on_has : (p : Part) (qs : List Part) (i : ℕ) (mark : Mark) → Has qs i mark → Has (in_front p false qs) i mark
@@ -197,16 +187,11 @@ module _ (plan : Plan) (commands : List Task) (scope : Scope) where
         | inr h ↦ none h.0 ys xs h.1 go_y (sym cycle) (sym place)
       ]
     where
-      -- nothing appended changes no list
-      nil : (zs : List Act) → zs ++ [] ≡ zs
-      nil [] = refl
-      nil (z ∷ zs) = ap (λ l. z ∷ l) (nil zs)
-
       -- no acts lie between two fronts after which the same command is to be sent
       none : (more zs ws : List Act) → ws ≡ zs ++ more → action_at plan (at zs) ≡ Send
           → cycles_begun plan (at zs).progress ≡ cycles_begun plan (at ws).progress
           → place_next commands (at zs).progress ≡ place_next commands (at ws).progress → ws ≡ zs
-      none [] zs ws is go c p = is ∙ nil zs
+      none [] zs ws is go c p = is ∙ append-nil zs
       none (act ∷ more) zs ws is go c p =
           absurd (not_further (cycles_begun plan (at zs).progress) (place_next commands (at zs).progress) (cycles_begun plan (at ws).progress) (place_next commands (at ws).progress)
           (subst (λ l. IsFurther plan commands (at zs) (at l)) (sym is) (send_goes_on plan commands scope zs more act go)) c p)
@@ -257,11 +242,11 @@ module _ (plan : Plan) (commands : List Task) (scope : Scope) where
       let b = at l.before in
       let cycle_begun = (fine_stood plan commands scope l.before).begun (needs_send plan b l.sends).2 in
       let own : l.answer.cycle ≡ cycles_begun plan b.progress = l.own_cycle in
-      let its : l.answer.cycle ≡ cycle_out plan (at t.before) = t.cycle in
-      let sends = sends_of_cycle plan (at t.before) t.sends (omega (arith, own, its, cycle_begun)) in
+      let its : l.answer.cycle ≡ cycle_out plan (at t.before) = t.own.cycle in
+      let sends = sends_of_cycle plan (at t.before) t.own.sends (omega (arith, own, its, cycle_begun)) in
       let one : t.before ≡ l.before = same_send acts t.before _ l.before (l.request ∷ l.between) t.order l.order sends l.sends
-      (sym (send_cycle plan (at t.before) sends) ∙ sym t.cycle ∙ l.own_cycle) (sym (send_place plan commands (at t.before) sends) ∙ sym t.place ∙ l.own_place) in
-      let utc : l.answer.sent ≡ Some (at l.before).progress.moment.utc = t.sent ∙ ap (λ xs. Some (at xs).progress.moment.utc) one in
+      (sym (send_cycle plan (at t.before) sends) ∙ sym t.own.cycle ∙ l.own_cycle) (sym (send_place plan commands (at t.before) sends) ∙ sym t.own.place ∙ l.own_place) in
+      let utc : l.answer.sent ≡ Some (at l.before).progress.moment.utc = t.own.sent ∙ ap (λ xs. Some (at xs).progress.moment.utc) one in
       let before_place : place_next commands (at acts).progress ≡ place_next commands (at l.before).progress + 1 = l.place in
       let here : place_next commands (at l.before).progress ≡ a = omega (arith, before_place, place) in
       record {
@@ -301,7 +286,7 @@ module _ (plan : Plan) (commands : List Task) (scope : Scope) where
       record {
         k = h.k;
         answer = h.answer;
-        among = ap (λ xs. slice_get (at xs).records h.k) l.order ∙ ap (λ rs. slice_get rs h.k) grown.1 ∙ in_more (at l.before).records grown.0 h.k h.answer h.among;
+        among = ap (λ xs. slice_get (at xs).records h.k) l.order ∙ ap (λ rs. slice_get rs h.k) grown.1 ∙ get_more (at l.before).records grown.0 h.k h.answer h.among;
         own_cycle = h.own_cycle ∙ sym l.cycle;
         own_place = h.own_place;
         line = h.line;

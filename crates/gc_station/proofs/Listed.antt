@@ -37,7 +37,7 @@ code_there reads expected call (Rule.Answered line) q said l e = ap (λ k. code_
 code_there reads expected call Rule.Late q said l e = cc
 code_there reads expected call Rule.Lost q said l e = cc
 
--- whether an end is named hangs on its code only if it is answered
+-- whether an end is named depends on its code only if it is answered
 pub named_by : (reads : Asked → List ℕ → Reading) (again : Again) (call : Asked) (code : Option ℕ) (end : End)
     → ((q : Quality) (said : Option Answer) (l : List ℕ) → end ≡ Answered q said l → code ≡ code_in (reads call l)) → is_named again code end ≡ is_named again (code_said reads call end) end
 named_by reads again call code (Answered q said l) is = ap (has_code again.codes) (is q said l refl)

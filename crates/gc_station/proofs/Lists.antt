@@ -1,6 +1,7 @@
 -- Lists: facts of each element alone (`AllByRecursion`), by its place and the element beside it in another list (`AllAt`), or
 -- with a rising number besides (`Rows`); and lists cut at an element.
-use Rattle.std.proofs.Common.{◌≡◌, ℕ, zero, suc, ◌+◌, ◌<◌, ◌≤◌, List, [], ◌∷◌, ◌++◌, length, drop, map, refl, sym, ap, ◌∙◌, subst, arith, append_assoc}
+use Rattle.std.proofs.Common.{◌≡◌, ℕ, zero, suc, ◌+◌, ◌<◌, ◌≤◌, List, [], ◌∷◌, ◌++◌, length, drop, map, Some, refl, sym, ap, ◌∙◌, subst, arith, append_assoc}
+use Rattle.std.specs.Prelude.{slice_get}
 use Rattle.std.specs.List.{AllByRecursion}
 
 -- what holds of the elements of two lists holds of those of both, one after the other
@@ -12,6 +13,18 @@ all_append P (x ∷ xs) ys p q = (p.0, all_append P xs ys p.1 q)
 pub all_on : {A : Type 0} (P Q : A → Type 0) (xs : List A) → ((x : A) → P x → Q x) → AllByRecursion P xs → AllByRecursion Q xs
 all_on P Q [] step p = tt
 all_on P Q (x ∷ xs) step p = (step x p.0, all_on P Q xs step p.1)
+
+-- what holds of each element of a list holds of the one at a place
+pub all_at : {A : Type 0} (P : A → Type 0) (xs : List A) (i : ℕ) (x : A) → AllByRecursion P xs → slice_get xs i ≡ Some x → P x
+all_at P [] i x all e = cc
+all_at P (y ∷ xs) zero x all e = let same : y ≡ x = cc in subst P same all.0
+all_at P (y ∷ xs) (suc i) x all e = all_at P xs i x all.1 e
+
+-- a list with more after it has the same element at a place of its own
+pub get_more : {A : Type 0} (xs ys : List A) (i : ℕ) (x : A) → slice_get xs i ≡ Some x → slice_get (xs ++ ys) i ≡ Some x
+get_more [] ys i x e = cc
+get_more (y ∷ xs) ys zero x e = e
+get_more (y ∷ xs) ys (suc i) x e = get_more xs ys i x e
 
 -- if one fact follows from another for an element with what comes before and after it, it holds of all elements if the other
 -- does

@@ -21,8 +21,9 @@ use Rattle.gc_station.specs.declared.progress.Action.TheVariants as actions
 use Rattle.gc_station.specs.declared.progress.Progress.{Progress}
 use Rattle.gc_station.specs.declared.progress.Waiting.{Waiting}
 use Rattle.gc_links.specs.Acts.{Act, Cut}
-use Rattle.gc_station.specs.Deciding.{has_begun, is_up, action_of, action_in, action_up}
-use Rattle.gc_station.specs.Ends.{IsWrittenAt, Resynchronizes, IsLast, IsLostIn}
+use Rattle.gc_station.specs.Deciding.{has_begun, is_up, action_of, action_in, action_without_turns}
+use Rattle.gc_station.specs.Answers.{IsWrittenAt}
+use Rattle.gc_station.specs.Ends.{Resynchronizes, IsLast, IsLostIn}
 use Rattle.gc_station.specs.Marks.{records_of}
 use Rattle.gc_station.specs.Progressing.{turned, sent, failing, is_over, is_over_in, loses_all, setup_sent}
 use Rattle.gc_station.specs.Reasons.{IsFor}
@@ -56,8 +57,9 @@ over_stops : (plan : Plan) (p : Progress) (w : Waiting) → is_over p ≡ true �
 over_stops plan p w over = by_phase p.phase refl over where
   -- without a connection and a turn, a run stops because its turns are used up
   no_turn : (phase : Phase) (other : Action) → p.phase ≡ phase → is_up phase ≡ false → nat_eq p.turns 0 ≡ true
-      → (if nat_eq p.turns 0 then action_up (is_up p.phase) else other) ≡ actions.Stop cause.Turns
-  no_turn phase other is down none = ap (λ (b : Bool). if b then action_up (is_up p.phase) else other) none ∙ ap (λ (x : Phase). action_up (is_up x)) is ∙ ap action_up down
+      → (if nat_eq p.turns 0 then action_without_turns (is_up p.phase) else other) ≡ actions.Stop cause.Turns
+  no_turn phase other is down none = ap (λ (b : Bool). if b then action_without_turns (is_up p.phase) else other) none ∙ ap
+      (λ (x : Phase). action_without_turns (is_up x)) is ∙ ap action_without_turns down
 
   -- the lemma above, by the phase: the run is over, or there is no connection and no turn is left
   by_phase : (phase : Phase) → p.phase ≡ phase → (is_over_in phase || (not (is_up phase) && nat_eq p.turns 0)) ≡ true → (why : Cause) × (action_in phase plan p w ≡ actions.Stop why)
@@ -128,7 +130,7 @@ put_goes requests f s (Cut bytes n) is = failing_goes (cause.Write requests n) (
 put_goes requests f s act is = going_on (f s).progress is
 
 -- if the station has synchronized (a), and the run isn't over (b), nothing is lost
-neither : (a b : Bool) → a ≡ true → b ≡ false → (not a || b) ≡ false
+pub neither : (a b : Bool) → a ≡ true → b ≡ false → (not a || b) ≡ false
 neither true b x y = y
 neither false b x y = cc
 

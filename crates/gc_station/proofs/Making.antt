@@ -8,7 +8,7 @@ use Rattle.std.proofs.lemmas.List.{length-append}
 use Rattle.gc_lines.specs.Assembler.{StandsFor}
 use Rattle.gc_catalogue.specs.declared.asked.Asked.{Asked}
 use Rattle.gc_client.specs.declared.window.TheConstants.{WINDOW}
-use Rattle.gc_client.specs.Rule.{ById, sends, id_send}
+use Rattle.gc_client.specs.Rule.{ById, id_send}
 use Rattle.gc_texts.specs.Endings.{End, Skipped, Missed}
 use Rattle.gc_texts.specs.declared.wish.Wish.{Wish}
 use Rattle.gc_texts.specs.Tasks.{call_at}
@@ -26,7 +26,7 @@ use Rattle.gc_station.specs.Deciding.{later}
 use Rattle.gc_station.specs.Marks.{is_well, last_well}
 use Rattle.gc_station.specs.Progressing.{failing, skipped_at}
 use Rattle.gc_station.specs.Records.{Record}
-use Rattle.gc_station.specs.Model.{Model, Puts, IsReading, client_sent, asks, asks_first, skips_first, with_progress, with_listed, with_records, after_put, after_read, moved, asks_or_null, text_or_null, request_text}
+use Rattle.gc_station.specs.Model.{Model, Puts, IsReading, client_sent, sent_to, asks, asks_first, skips_first, with_progress, with_listed, with_records, after_put, after_read, moved, asks_or_null, text_or_null, request_text}
 use Rattle.gc_station.specs.Stations.{Refines, Took, Makes, Made, ComesTo, cut_progress, seen, setup_asked}
 use Rattle.gc_station.specs.Scopes.{AreReadings}
 use Rattle.gc_station.specs.Tallies.{nothing_yet, tallied}
@@ -72,11 +72,6 @@ put_took text start taken (Err n) bytes requests f s so = so
 
 -- Requests are sent.
 
--- the client after a send of this command at the moment `now`, which waits for `wait` milliseconds. The arguments are how many
--- requests may wait at once, the client before, the command, `now` and `wait`
-abbrev sent_to : ℕ → ById Asked → Wish → ℕ → ℕ → ById Asked
-sent_to width ids command now wait = client_sent ids (sends width ids command.target command.call (later now wait))
-
 -- one request more waits after a send
 sent_count : (c : ById Asked) (target : ℕ) (call : Asked) (deadline : ℕ) (b : Bool) → b ≡ false → length (client_sent c (id_send c target call deadline b)).waiting ≡ length c.waiting + 1
 sent_count c target call deadline true e = cc
@@ -85,7 +80,7 @@ sent_count c target call deadline false e = length-append c.waiting _
 -- a station that sent a request is as the model that sent it
 pub asks_stands : (old new : Station) (s : Model) (wait : ℕ) (command other : Wish) (mark : Option Mark) → Refines old s → length old.client.ids.waiting < WINDOW → command ≡ other
     → new ≡ record old {
-      client = record old.client { ids = client_sent old.client.ids (sends old.client.width old.client.ids command.target command.call (later old.progress.moment.elapsed wait)) };
+      client = record old.client { ids = sent_to old.client.width old.client.ids command old.progress.moment.elapsed wait };
       marks = record { items = old.marks.items ++ mark ∷ [] };
     }
     → Refines new (asks wait other.target other.call mark s)

@@ -1,6 +1,6 @@
--- What holds in the midst of an act, before what is outstanding is lost: `Mid`, the weaker record, which has the counts and the
--- records, and what the phase says. At the end of an act it gives the invariant of every run (`Invariant`).
-use Rattle.std.proofs.Common.{◌≡◌, ℕ, nat_lt, ltb-true, ltb-false, take, ◌+◌, ◌-◌, ◌%◌, ◌<◌, ◌≤◌, ◌⊎◌, inl, inr, ◌&&◌, ◌||◌, Bool, true, false, not, List, [], ◌∷◌, ◌++◌, length, drop, map, nat_eq, Option, Some, None, refl, sym, ap, ◌∙◌, subst, arith, length-append}
+-- What holds in the midst of an act, before what is outstanding is lost: `Mid`, which has the counts and the records, and what
+-- the phase says. At the end of an act it gives the invariant of every run (`Invariant`).
+use Rattle.std.proofs.Common.{◌≡◌, ℕ, nat_lt, ltb-true, ltb-false, take, ◌+◌, ◌-◌, ◌%◌, ◌<◌, ◌≤◌, ◌⊎◌, inl, inr, ◌&&◌, ◌||◌, Bool, true, false, not, List, [], ◌∷◌, ◌++◌, length, drop, map, nat_eq, Option, Some, None, refl, sym, ap, ◌∙◌, subst, arith, length-append, append-nil}
 use Rattle.std.specs.Prelude.{slice_get}
 use Rattle.std.specs.List.{AllByRecursion}
 use Rattle.std.proofs.Math.Nat.{mod-lt}
@@ -64,11 +64,11 @@ SoundAt plan commands p client marks records passes = Sound plan commands p.left
 abbrev pub PlacedAt : Progress → List ℕ → List (Option Mark) → Type 0
 PlacedAt p rest marks = Placed p.phase p.left p.unsent rest marks
 
--- the weaker record of a model: `Sound` of its counts, and `Placed` of its phase
+-- what holds of a model in the midst of an act: `Sound` of its counts, and `Placed` of its phase
 abbrev pub Mid : Plan → List Task → Model → Type 0
 Mid plan commands s = SoundAt plan commands s.progress s.client s.marks s.records s.passes × PlacedAt s.progress s.rest s.marks
 
--- what every run keeps gives the weaker record
+-- what every run keeps gives `Mid`
 pub mid_of : (plan : Plan) (commands : List Task) (s : Model) → Invariant plan commands s → Mid plan commands s
 mid_of plan commands s fine = (
   record {
@@ -132,7 +132,8 @@ sound_settles reads plan commands left unsent client next marks records passes u
       paired = omega (arith, ends, behind, count, fewer, sound.paired);
       window = omega (arith, ends, behind, count, sound.window);
       digit = low;
-      each = as_kept _ _ _ _ (each_settles reads commands utc marks client.waiting next.waiting ss records (of_text commands (map of_record records ++ still_waiting marks client.waiting)) parts refl) sound.each;
+      each = as_kept _ _ _ _ (each_settles reads commands utc marks client.waiting next.waiting ss records
+          (of_text commands (map of_record records ++ still_waiting marks client.waiting)) parts refl) sound.each;
       own = own_settled commands marks ss waits all;
       told = all_append (IsOfItsTask commands) records _ sound.told (settled_told reads commands utc marks ss waits all);
     }
@@ -191,7 +192,8 @@ sound_sent plan commands left unsent client marks records passes utc deadline ex
     let each : Parted (of_text commands (map of_record records ++ still_waiting (marks ++ Some mark ∷ []) (client.waiting ++ p ∷ []))) passes (sent_by plan.setup commands begun (place + 1)) =
     subst (λ (xs : List Request). Parted (of_text commands (map of_record records ++ still_waiting (marks ++ Some mark ∷ []) (client.waiting ++ p ∷ []))) passes xs)
     (sent_next plan.setup commands begun place task others at within many)
-    (as_kept _ _ _ _ (each_sent commands begun place utc expected marks client.waiting p records task others sound.paired at refl many kept refl) (parted_more kept passes (sent_by plan.setup commands begun place) one sound.each)) in
+    (as_kept _ _ _ _ (each_sent commands begun place utc expected marks client.waiting p records task others sound.paired at refl many kept refl)
+    (parted_more kept passes (sent_by plan.setup commands begun place) one sound.each)) in
     subst (λ (c : ById Asked). Sound plan commands left (unsent - 1) c (marks ++ Some mark ∷ []) records passes)
     (sym (client_behind client task.command.target (call_at task utc) deadline room)) (record {
       unsents = omega (arith, sound.unsents);
@@ -200,7 +202,8 @@ sound_sent plan commands left unsent client marks records passes utc deadline ex
       paired = one_more marks client.waiting (Some mark) p sound.paired;
       window = omega (arith, more, room);
       digit = mod-lt (client.next + 1) (omega arith);
-      each = subst (λ (n : ℕ). Parted (of_text commands (map of_record records ++ still_waiting (marks ++ Some mark ∷ []) (client.waiting ++ p ∷ []))) passes (sent_by plan.setup commands begun n)) (sym place_is) each;
+      each = subst (λ (n : ℕ). Parted (of_text commands (map of_record records ++ still_waiting (marks ++ Some mark ∷ []) (client.waiting ++ p ∷ []))) passes
+          (sent_by plan.setup commands begun n)) (sym place_is) each;
       own = own_more commands marks client.waiting (Some mark) p sound.own (task, at_place place commands task others at, refl);
       told = sound.told;
     })
@@ -221,7 +224,8 @@ sound_prepared plan commands left unsent client marks records passes deadline ma
       paired = one_more marks client.waiting (Some mark) p sound.paired;
       window = omega (arith, more, room);
       digit = mod-lt (client.next + 1) (omega arith);
-      each = as_kept _ _ _ _ (each_prepared commands mark marks client.waiting p records (of_text commands (map of_record records ++ still_waiting marks client.waiting)) none sound.paired refl) sound.each;
+      each = as_kept _ _ _ _ (each_prepared commands mark marks client.waiting p records
+          (of_text commands (map of_record records ++ still_waiting marks client.waiting)) none sound.paired refl) sound.each;
       own = own_more commands marks client.waiting (Some mark) p sound.own (task, at, refl);
       told = sound.told;
     })
@@ -251,7 +255,8 @@ sound_skipped plan commands left unsent client marks records passes utc end turn
           let one = requests begun place (of_task task ∷ []) in
           subst (λ (xs : List Request). Parted (of_text commands (map of_record (records ++ r ∷ []) ++ still_waiting marks client.waiting)) passes xs)
           (sent_next plan.setup commands begun place task others at (omega (arith, some, sound.unsents)) many ∙ ap (λ (n : ℕ). sent_by plan.setup commands begun n) (sym place_is))
-          (as_kept _ _ _ _ (each_skipped commands begun place marks client.waiting records r task others none at refl many kept refl) (parted_more kept passes (sent_by plan.setup commands begun place) one sound.each));
+          (as_kept _ _ _ _ (each_skipped commands begun place marks client.waiting records r task others none at refl many kept refl)
+          (parted_more kept passes (sent_by plan.setup commands begun place) one sound.each));
       own = sound.own;
       told = all_append (IsOfItsTask commands) records _ sound.told (unsent_told commands utc begun place turn end task (at_place place commands task others at) out, tt);
     }
@@ -301,7 +306,8 @@ sound_begun plan commands left unsent client marks records passes none some soun
       digit = sound.digit;
       each = subst (λ (xs : List Request). Parted (of_text commands (map of_record records ++ still_waiting marks client.waiting)) passes xs)
           (sent_whole plan.setup commands (plan.cycles - left) (length commands - unsent) (omega (arith, none))
-          ∙ sym (sent_none plan.setup commands (plan.cycles - left) (plan.cycles - (left - 1)) (length commands - (length commands - plan.setup)) (omega (arith, some, lefts)) (omega arith))) sound.each;
+          ∙ sym (sent_none plan.setup commands (plan.cycles - left) (plan.cycles - (left - 1)) (length commands - (length commands - plan.setup))
+          (omega (arith, some, lefts)) (omega arith))) sound.each;
       own = sound.own;
       told = sound.told;
     }
@@ -319,13 +325,13 @@ still_finished : (p : Progress) (marks : List (Option Mark)) → is_over p ≡ f
 still_finished p marks not_over (left, unsent, inl over) = absurd (not_both (is_over p) (ap (λ b. b || (not (is_up p.phase) && nat_eq p.turns 0)) over) not_over)
 still_finished p marks not_over (left, unsent, inr none) = (left, unsent, none)
 
--- once all that is outstanding is lost where `loses_all` says so, the weaker record gives the invariant of every run
+-- once all that is outstanding is lost where `loses_all` says so, `Mid` gives the invariant of every run
 fine_losing : (plan : Plan) (commands : List Task) (s : Model) (b : Bool) → loses_all s.progress ≡ b → Mid plan commands s → Invariant plan commands (losing b s)
 fine_losing plan commands s true is (sound, placed) =
     let p = s.progress in
     let ss = map lost s.client.waiting in
     let x = sound_settles s.reads plan commands p.left p.unsent s.client fresh s.marks s.records s.passes p.moment.utc ss
-    (append_none (map of_settled ss) ∙ lost_parts s.client.waiting) (omega arith) sound in
+    (append-nil (map of_settled ss) ∙ lost_parts s.client.waiting) (omega arith) sound in
     let nothing : drop (length ss) s.marks ≡ [] = nil_from_length (drop (length ss) s.marks) x.paired in
     record {
       unsent = x.unsents;
@@ -341,11 +347,7 @@ fine_losing plan commands s true is (sound, placed) =
       each = x.each;
       own = x.own;
       told = x.told;
-    } where
-      -- an empty list after a list adds nothing
-      append_none : {A : Type 0} (xs : List A) → xs ++ [] ≡ xs
-      append_none [] = refl
-      append_none (x ∷ xs) = ap (λ ys. x ∷ ys) (append_none xs)
+    }
 fine_losing plan commands s false is (sound, placed) =
     let p = s.progress in
     let kept = kept_for (has_begun p) (is_over p) is in
@@ -365,6 +367,6 @@ fine_losing plan commands s false is (sound, placed) =
       told = sound.told;
     }
 
--- the weaker record gives the invariant of every run after the whole act
+-- `Mid` gives the invariant of every run after the whole act
 pub fine_ended : (plan : Plan) (commands : List Task) (s : Model) → Mid plan commands s → Invariant plan commands (ended s)
 fine_ended plan commands s mid = fine_losing plan commands s (loses_all s.progress) refl mid

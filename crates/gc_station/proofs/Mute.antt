@@ -22,8 +22,8 @@ use Rattle.gc_station.specs.declared.progress.Action.{Action}
 use Rattle.gc_station.specs.declared.progress.Action.TheVariants as actions
 use Rattle.gc_station.specs.declared.progress.Progress.{Progress}
 use Rattle.gc_links.specs.Acts.{Act, Told, Put, Gave, Silent}
-use Rattle.gc_station.specs.Deciding.{has_begun, is_none_left, goes_on, later, patience_of}
-use Rattle.gc_station.specs.Progressing.{turned, moment_noted, lines_asked}
+use Rattle.gc_station.specs.Deciding.{has_begun, is_none_left, goes_on, later, dead_after}
+use Rattle.gc_station.specs.Progressing.{turned, moment_noted, lines_synchronizing}
 use Rattle.gc_station.specs.Quiet.{TellsMoment, IsListening, StaysConnected}
 use Rattle.gc_station.specs.Reasons.{IsFor}
 use Rattle.gc_station.specs.Runs.{state_after}
@@ -36,12 +36,12 @@ use Rattle.gc_station.proofs.EachRun.{fine_stood}
 use Rattle.gc_station.proofs.Facts.{both_true, either_true, or_true, action_for, order_wakes, Awake, Wakes}
 use Rattle.gc_station.proofs.Going.{after_all-append}
 use Rattle.gc_station.proofs.Lists.{all_append}
-use Rattle.gc_station.proofs.Silences.{LastTells, latest_more, awake_last, not_closing, end_here, awake_here}
+use Rattle.gc_station.proofs.Silences.{LastTells, awake_last, not_closing, end_here, awake_here}
 use Rattle.gc_station.proofs.Invariant.{Invariant}
 use Rattle.gc_station.proofs.Walk.{asked_along, came_along}
 use Rattle.gc_station.specs.Scopes.{Scope}
 use Rattle.gc_station.proofs.ReplyLines.{lines_moment, Alive, lines_alive, AliveAsked, asked_alive}
-use Rattle.gc_station.proofs.Ticking.{not_both}
+use Rattle.gc_station.proofs.Ticking.{not_both, latest_more}
 
 -- whether a reply line is waited for on the connection: the station has synchronized (no id of `word` is left), or a null
 -- procedure was sent on it (`again`), or a request after the last reply line (`asked`)
@@ -61,7 +61,7 @@ sought_asked : (word : List ℕ) (again : ℕ) (asked : Bool) → asked ≡ true
 sought_asked word again asked e = ap (λ b. is_none_left word || (nat_lt 0 again || b)) e ∙ ap (λ b. is_none_left word || b) (or_true (nat_lt 0 again)) ∙ or_true (is_none_left word)
 
 -- which requests were sent in the acts `behind` (last), after a silence began at the moment `from`. If none is waited for
--- (`false`), none did; otherwise the first of these acts sent one, or the clock went back to `from` after the acts `before`
+-- (`false`), none was sent; otherwise the first of these acts sent one, or the clock went back to `from` after the acts `before`
 -- (the third argument)
 abbrev Asks : Bool → ℕ → List Act → List Act → Type 0
 Asks false from before behind = AllByRecursion IsListening behind
@@ -261,7 +261,7 @@ module _ (plan : Plan) (commands : List Task) (scope : Scope) where
 
         -- the progress after the lines
         q : Progress
-        q = lines_asked mid.progress lines
+        q = lines_synchronizing mid.progress lines
 
         -- none of these lines is a reply, and there was a silence before them; or one is, and the line was alive at their moment
         by_lines : AliveAsked mid.progress lines q
@@ -407,7 +407,7 @@ module _ (plan : Plan) (commands : List Task) (scope : Scope) where
 
   -- a connection is closed for a dead line only after a silence that was long enough
   pub mute_close : (acts : List Act) → Runs plan commands (opening plan scope) acts
-      → action_at plan (state_after plan commands scope acts) ≡ actions.Close cause.Dead → IsMuteFor (patience_of plan) plan commands scope acts
+      → action_at plan (state_after plan commands scope acts) ≡ actions.Close cause.Dead → IsMuteFor (dead_after plan) plan commands scope acts
   mute_close acts runs is = record {
     before = q.before;
     start = q.start;
@@ -418,7 +418,7 @@ module _ (plan : Plan) (commands : List Task) (scope : Scope) where
     stays = q.holds.1;
     mute = q.holds.2;
     asked = asks_any s.progress.asked s.progress.alive q.before q.behind q.holds.3;
-    long = subst (λ n. patience_of plan ≤ n - s.progress.alive) (sym q.holds.4) (leb-true (patience_of plan) (s.progress.moment.elapsed - s.progress.alive) dead.1);
+    long = subst (λ n. dead_after plan ≤ n - s.progress.alive) (sym q.holds.4) (leb-true (dead_after plan) (s.progress.moment.elapsed - s.progress.alive) dead.1);
   } where
     -- the model after the acts
     s : Model
@@ -433,9 +433,9 @@ module _ (plan : Plan) (commands : List Task) (scope : Scope) where
     awake = awake_here s.progress cause.Dead (subst (λ (next : Action). Wakes s.progress next) is (order_wakes plan s.progress (waiting_of s))) never
 
     -- a reply line is waited for, and for long enough none came
-    dead : ((nat_lt 0 (length s.client.waiting) || nat_lt 0 s.progress.again) ≡ true) × (nat_le (patience_of plan) (s.progress.moment.elapsed - s.progress.alive) ≡ true)
+    dead : ((nat_lt 0 (length s.client.waiting) || nat_lt 0 s.progress.again) ≡ true) × (nat_le (dead_after plan) (s.progress.moment.elapsed - s.progress.alive) ≡ true)
     dead = both_true (nat_lt 0 (length s.client.waiting) || nat_lt 0 s.progress.again)
-        (nat_le (patience_of plan) (s.progress.moment.elapsed - s.progress.alive)) (end_here plan s cause.Dead is never).1
+        (nat_le (dead_after plan) (s.progress.moment.elapsed - s.progress.alive)) (end_here plan s cause.Dead is never).1
 
     -- a silence has lasted since `alive`
     q : IsMuted s.progress.asked s.progress.alive s.progress.moment.elapsed acts

@@ -14,27 +14,23 @@ use Rattle.gc_links.specs.Acts.{Act, Closed, Unopened}
 use Rattle.gc_station.specs.Deciding.{has_begun, is_up}
 use Rattle.gc_station.specs.Marks.{commands_in}
 use Rattle.gc_station.specs.Progressing.{failing, turned, moment_noted, cleared, time_passed, closed}
-use Rattle.gc_station.specs.Reasons.{IsFor, HasOneFor}
+use Rattle.gc_station.specs.Reasons.{IsFor, HasConnectionFor}
 use Rattle.gc_station.specs.Model.{Model, requests_out, waiting_of, with_progress, with_moment, is_heard, after_open, Performs, moved}
-use Rattle.gc_station.specs.Tries.{ends_in, opens_in}
+use Rattle.gc_station.specs.Tries.{endings_in, openings_in}
 use Rattle.gc_station.proofs.Closings.{came_phase}
 use Rattle.gc_station.proofs.Silences.{quieted_up}
 use Rattle.gc_station.proofs.Walk.{walk}
 use Rattle.gc_station.proofs.Turns.{up_count, again_down, closed_down}
+use Rattle.gc_station.proofs.Unbroken.{cleared_up, fails}
 
 -- an act balances connections: those that it asks for, and 1 if there is one before it (`before`), are as many as those that it
 -- ends or can't make, and 1 if there is one after it (`behind`)
 abbrev pub Counted : Bool → Act → Bool → Type 0
-Counted before act behind = opens_in (act ∷ []) + up_count before ≡ ends_in (act ∷ []) + up_count behind
+Counted before act behind = openings_in (act ∷ []) + up_count before ≡ endings_in (act ∷ []) + up_count behind
 
 -- `Counted`, by the phases of models
 abbrev Counts : Model → Act → Model → Type 0
 Counts s act t = Counted (is_up s.progress.phase) act (is_up t.progress.phase)
-
--- a failure leaves a connection, or none, as it was
-fails : (up : Bool) (why : Cause) → is_up (if up then phase.Closing why else phase.Over why) ≡ up
-fails true why = refl
-fails false why = refl
 
 -- an act that asks for no connection and ends none is `Counted`, if there is one after it exactly if there was before
 calm : (before behind : Bool) → behind ≡ before → 0 + up_count before ≡ 0 + up_count behind
@@ -55,7 +51,7 @@ Quits (actions.Close cause.Stopped) = Unit {0}
 Quits next = ⊥
 
 -- if a connection is closed for a cause that doesn't end a run without one, there is one
-up_for : (why : Cause) (p : Progress) → HasOneFor why p → (Quits (actions.Close why) → ⊥) → is_up p.phase ≡ true
+up_for : (why : Cause) (p : Progress) → HasConnectionFor why p → (Quits (actions.Close why) → ⊥) → is_up p.phase ≡ true
 up_for cause.Stale p has never = absurd (never tt)
 up_for cause.Stopped p has never = absurd (never tt)
 up_for why p has never = has
@@ -71,11 +67,7 @@ counted_moved plan commands actions.Clear s act o needs never =
     let at = (cleared (turned s.progress)).phase in
     let up : is_up at ≡ is_up s.progress.phase = cleared_up (has_begun s.progress) ∙ sym (ap is_up needs) in
     walk plan commands (Counts s) actions.Clear (with_progress turned s) act o
-    (λ m. calm (is_up s.progress.phase) (is_up at) up, λ n. calm (is_up s.progress.phase) _ (fails (is_up at) (cause.Write (requests_out plan commands (turned s.progress)) n) ∙ up)) where
-      -- after a line feed that was sent there is a connection
-      cleared_up : (begun : Bool) → is_up (if begun then phase.Draining else phase.Ready) ≡ true
-      cleared_up true = refl
-      cleared_up false = refl
+    (λ m. calm (is_up s.progress.phase) (is_up at) up, λ n. calm (is_up s.progress.phase) _ (fails (is_up at) (cause.Write (requests_out plan commands (turned s.progress)) n) ∙ up))
 counted_moved plan commands actions.Ask s act o needs never =
     walk plan commands (Counts s) actions.Ask (with_progress turned s) act o (λ m. refl, λ n. failed s (cause.Write (requests_out plan commands (turned s.progress)) n))
 counted_moved plan commands actions.Prepare s act o needs never =
@@ -94,6 +86,7 @@ counted_moved plan commands (actions.Read until) s act o needs never =
     )
 counted_moved plan commands (actions.Close why) s act o needs never =
     walk plan commands (Counts s) (actions.Close why) (with_progress turned s) act o
-    (close_counted (is_up s.progress.phase) (is_up (closed plan (waiting_of s) why (turned s.progress)).phase) (up_for why s.progress needs.0 never) (closed_down plan (waiting_of s) why (turned s.progress)))
+    (close_counted (is_up s.progress.phase) (is_up (closed plan (waiting_of s) why (turned s.progress)).phase) (up_for why s.progress needs.0 never)
+    (closed_down plan (waiting_of s) why (turned s.progress)))
 counted_moved plan commands (actions.Stop why) s act o needs never = absurd o
 counted_moved plan commands next s act o needs never = walk plan commands (Counts s) next (with_progress turned s) act o (λ m. refl, λ n. failed s cause.Clock)

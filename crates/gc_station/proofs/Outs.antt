@@ -8,21 +8,16 @@ use Rattle.gc_station.specs.declared.progress.Action.{Action}
 use Rattle.gc_station.specs.declared.progress.Action.TheVariants.{Prepare, Send}
 use Rattle.gc_station.specs.Deciding.{is_preparing}
 use Rattle.gc_station.specs.Quiet.{IsAsking}
-use Rattle.gc_station.specs.Reasons.{IsFor}
 use Rattle.gc_station.specs.Model.{Model, IsSending, action_at, waiting_of, cycles_begun, place_next, cycle_out, place_out, mark_next, mark_setup}
-use Rattle.gc_station.proofs.Facts.{action_for}
-
--- the conditions of this action hold, if it is next
-needs_as : (plan : Plan) (s : Model) (o : Action) → action_at plan s ≡ o → IsFor plan s.progress (waiting_of s) o
-needs_as plan s o is = subst (λ (x : Action). IsFor plan s.progress (waiting_of s) x) is (action_for plan s.progress (waiting_of s))
+use Rattle.gc_station.proofs.Closings.{needs_of}
 
 -- if a command of a cycle is next, the setup is done
 pub send_done : (plan : Plan) (s : Model) → action_at plan s ≡ Send → is_preparing plan s.progress (waiting_of s) ≡ false
-send_done plan s is = (needs_as plan s Send is).8
+send_done plan s is = (needs_of plan s Send is).8
 
 -- if a command of the setup is next, that isn't done
 pub prepare_on : (plan : Plan) (s : Model) → action_at plan s ≡ Prepare → is_preparing plan s.progress (waiting_of s) ≡ true
-prepare_on plan s is = (needs_as plan s Prepare is).2.0
+prepare_on plan s is = (needs_of plan s Prepare is).2.0
 
 -- if a command of a cycle is next, the cycle and the place of what is sent are its own
 pub send_cycle : (plan : Plan) (s : Model) → action_at plan s ≡ Send → cycle_out plan s ≡ cycles_begun plan s.progress

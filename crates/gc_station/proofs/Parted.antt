@@ -9,6 +9,7 @@ use Rattle.gc_client.specs.OneForOne.{Wanted}
 use Rattle.gc_texts.specs.declared.tasks.Task.{Task}
 use Rattle.gc_station.specs.EachOnce.{Parted, Request, requests, of_task, all_cycles, sent_by}
 use Rattle.gc_station.proofs.Each.{drop_front, requests-append}
+use Rattle.gc_station.proofs.Lists.{all_append, all_on}
 
 -- a list is parted into itself and nothing
 parted_kept : {A : Type 0} (us : List A) → Parted us [] us
@@ -82,7 +83,8 @@ sent_past setup commands (suc n) place count place' low within some at =
     ∙ ap (λ b. cycles ++ (requests (suc n) setup taken ++ requests (suc n) b more)) (sym count_is)
     ∙ ap (λ xs. cycles ++ xs) (sym (requests-append (suc n) setup taken more))
     ∙ ap (λ xs. cycles ++ requests (suc n) setup xs) (sym (map-append of_task front (take count (drop place commands)))
-    ∙ ap (map of_task) (sym (drop_front setup (take place commands) (take count (drop place commands)) (omega (arith, many, low))) ∙ ap (drop setup) (take_more place count commands ∙ as_many at))) where
+    ∙ ap (map of_task) (sym (drop_front setup (take place commands) (take count (drop place commands)) (omega (arith, many, low))) ∙ ap
+    (drop setup) (take_more place count commands ∙ as_many at))) where
       -- the first ones of a list that has as many are so many
       length_take : (k : ℕ) (xs : List Task) → k ≤ length xs → length (take k xs) ≡ k
       length_take zero xs few = refl
@@ -122,23 +124,14 @@ requests_before cycle place (a ∷ others) =
 abbrev pub IsInFront : ℕ → ℕ → Request → Type 0
 IsInFront cycle place r = (r.cycle < cycle) ⊎ ((r.cycle ≡ cycle) × (r.place < place))
 
--- what holds of two lists holds of both together
-all_both : {A : Type 0} (P : A → Type 0) (xs ys : List A) → AllByRecursion P xs → AllByRecursion P ys → AllByRecursion P (xs ++ ys)
-all_both P [] ys a b = b
-all_both P (x ∷ xs) ys a b = (a.0, all_both P xs ys a.1 b)
-
--- what holds by another fact holds if that does
-all_for : {A : Type 0} (P Q : A → Type 0) (xs : List A) → ((x : A) → P x → Q x) → AllByRecursion P xs → AllByRecursion Q xs
-all_for P Q [] f all = tt
-all_for P Q (x ∷ xs) f all = (f x all.0, all_for P Q xs f all.1)
-
 -- the requests of the first cycles are before any place of a later one
 cycles_before : (setup : ℕ) (commands : List Task) (n place : ℕ) → AllByRecursion (IsInFront (suc n) place) (all_cycles setup commands n)
 cycles_before setup commands zero place = tt
 cycles_before setup commands (suc n) place =
-    all_both (IsInFront (suc (suc n)) place) (all_cycles setup commands n) (requests (suc n) setup (map of_task (drop setup commands)))
-    (all_for (IsInFront (suc n) place) (IsInFront (suc (suc n)) place) (all_cycles setup commands n) later (cycles_before setup commands n place))
-    (all_for _ (IsInFront (suc (suc n)) place) (requests (suc n) setup (map of_task (drop setup commands))) (λ r h. inl (omega (arith, h.0))) (requests_before (suc n) setup (map of_task (drop setup commands)))) where
+    all_append (IsInFront (suc (suc n)) place) (all_cycles setup commands n) (requests (suc n) setup (map of_task (drop setup commands)))
+    (all_on (IsInFront (suc n) place) (IsInFront (suc (suc n)) place) (all_cycles setup commands n) later (cycles_before setup commands n place))
+    (all_on _ (IsInFront (suc (suc n)) place) (requests (suc n) setup (map of_task (drop setup commands))) (λ r h. inl (omega (arith, h.0)))
+    (requests_before (suc n) setup (map of_task (drop setup commands)))) where
       -- what is before a cycle's place is before the next one's
       later : (r : Request) → IsInFront (suc n) place r → IsInFront (suc (suc n)) place r
       later r (inl less) = inl (omega (arith, less))
@@ -148,8 +141,8 @@ cycles_before setup commands (suc n) place =
 pub sent_before : (setup : ℕ) (commands : List Task) (cycle place : ℕ) → setup ≤ place → AllByRecursion (IsInFront cycle place) (sent_by setup commands cycle place)
 sent_before setup commands zero place low = tt
 sent_before setup commands (suc n) place low =
-    all_both (IsInFront (suc n) place) (all_cycles setup commands n) (requests (suc n) setup (map of_task (drop setup (take place commands)))) (cycles_before setup commands n place)
-    (all_for _ (IsInFront (suc n) place) (requests (suc n) setup (map of_task (drop setup (take place commands))))
+    all_append (IsInFront (suc n) place) (all_cycles setup commands n) (requests (suc n) setup (map of_task (drop setup (take place commands)))) (cycles_before setup commands n place)
+    (all_on _ (IsInFront (suc n) place) (requests (suc n) setup (map of_task (drop setup (take place commands))))
     (λ r h. inr (h.0, few r.place h.1)) (requests_before (suc n) setup (map of_task (drop setup (take place commands))))) where
       -- no more than so many are taken
       taken : (k : ℕ) (xs : List Task) → length (take k xs) ≤ k

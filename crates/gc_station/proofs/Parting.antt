@@ -117,7 +117,7 @@ module _ (plan : Plan) (commands : List Task) where
   skips_unsent : (s : Model) (m : Moment) → sent_of (skips plan commands s.progress (Told m)) ≡ []
   skips_unsent s m = skips_first_unsent s.progress m (mark_next plan commands s.progress) (drop (place_next commands s.progress) commands)
 
-  -- records of commands that weren't sent add none to those that did
+  -- records of commands that weren't sent add none to those of commands that were
   none_sent : (rs more : List Record) → sent_of more ≡ [] → sent_of (rs ++ more) ≡ sent_of rs
   none_sent rs more none = sent_both rs more ∙ ap (λ xs. sent_of rs ++ xs) none ∙ append-nil (sent_of rs)
 

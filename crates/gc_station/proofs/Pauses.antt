@@ -18,15 +18,8 @@ use Rattle.gc_station.specs.declared.progress.Phase.TheVariants as phase
 use Rattle.gc_station.specs.declared.progress.Progress.{Progress}
 use Rattle.gc_station.specs.declared.progress.Until.{Until}
 use Rattle.gc_station.specs.declared.progress.Waiting.{Waiting}
+use Rattle.gc_station.proofs.Ticking.{picks, picks_other}
 use Rattle.gc_station.proofs.Walk.{moved_changed}
-
--- if the test b holds, the first of two values is chosen
-takes_first : {A : Type 0} (b : Bool) (x y : A) → b ≡ true → (if b then x else y) ≡ x
-takes_first b x y e = ap (λ (c : Bool). if c then x else y) e
-
--- if the test b doesn't hold, the second of two values is chosen
-takes_second : {A : Type 0} (b : Bool) (x y : A) → b ≡ false → (if b then x else y) ≡ y
-takes_second b x y e = ap (λ (c : Bool). if c then x else y) e
 
 -- twice a pause of 0, bounded to a minute and to at least the quiet time, is the pause after a first failure
 twice_none : (quiet : ℕ) → max (min (min (0 + 0) 18446744073709551615) 60000) quiet ≡ max (min quiet 60000) quiet
@@ -50,12 +43,12 @@ twice plan (suc n) = twice_more (doubled n plan.quiet) plan.quiet (doubled_least
 failed : (plan : Plan) (commands n : ℕ) (why : Cause) (p : Progress) → is_spared plan why p ≡ false → p.pause ≡ pause_after plan n
     → (after_failure plan commands why p).pause ≡ pause_after plan (suc n)
 failed plan commands n why p e is =
-    takes_second (is_spared plan why p) (max p.pause plan.quiet) (max (min (later p.pause p.pause) 60000) plan.quiet) e
+    picks_other (is_spared plan why p) (max p.pause plan.quiet) (max (min (later p.pause p.pause) 60000) plan.quiet) e
     ∙ ap (λ x. max (min (later x x) 60000) plan.quiet) is ∙ twice plan n
 
 -- a failure that isn't spared takes one try
 takes : (plan : Plan) (commands : ℕ) (why : Cause) (p : Progress) → is_spared plan why p ≡ false → 0 < p.tries → (after_failure plan commands why p).tries + 1 ≡ p.tries
-takes plan commands why p e some = let less = takes_second (is_spared plan why p) p.tries (p.tries - 1) e in omega (arith, less, some)
+takes plan commands why p e some = let less = picks_other (is_spared plan why p) p.tries (p.tries - 1) e in omega (arith, less, some)
 
 -- a failure that isn't spared, without a try left (`some`), ends the run: as done, if all is done, or for its cause
 over_by : (done spared some : Bool) (why : Cause) → spared ≡ false → some ≡ false
@@ -79,9 +72,9 @@ spared_stays d quiet = omega arith
 spared : (plan : Plan) (commands n : ℕ) (why : Cause) (p : Progress) → is_spared plan why p ≡ true → p.pause ≡ pause_after plan (suc n)
     → ((after_failure plan commands why p).pause ≡ pause_after plan (suc n)) × ((after_failure plan commands why p).tries ≡ p.tries)
 spared plan commands n why p e is = (
-  takes_first (is_spared plan why p) (max p.pause plan.quiet) (max (min (later p.pause p.pause) 60000) plan.quiet) e
+  picks (is_spared plan why p) (max p.pause plan.quiet) (max (min (later p.pause p.pause) 60000) plan.quiet) e
       ∙ ap (λ x. max x plan.quiet) is ∙ spared_stays (doubled n plan.quiet) plan.quiet,
-  takes_first (is_spared plan why p) p.tries (p.tries - 1) e,
+  picks (is_spared plan why p) p.tries (p.tries - 1) e,
 )
 
 -- if there was no pause, the pause after a spared close is the quiet time
@@ -92,9 +85,9 @@ spared_none quiet = omega arith
 spared_first : (plan : Plan) (commands : ℕ) (why : Cause) (p : Progress) → is_spared plan why p ≡ true → p.pause ≡ pause_after plan 0
     → ((after_failure plan commands why p).pause ≡ pause_after plan 1) × ((after_failure plan commands why p).tries ≡ p.tries)
 spared_first plan commands why p e is = (
-  takes_first (is_spared plan why p) (max p.pause plan.quiet) (max (min (later p.pause p.pause) 60000) plan.quiet) e
+  picks (is_spared plan why p) (max p.pause plan.quiet) (max (min (later p.pause p.pause) 60000) plan.quiet) e
       ∙ ap (λ x. max x plan.quiet) is ∙ spared_none plan.quiet,
-  takes_first (is_spared plan why p) p.tries (p.tries - 1) e,
+  picks (is_spared plan why p) p.tries (p.tries - 1) e,
 )
 
 -- a read that settled a command gives all tries back, and makes the pause 0, once the setup is done
@@ -102,7 +95,7 @@ settled : (plan : Plan) (until : Until) (before : ℕ) (after : Waiting) (p : Pr
     → ((bytes_noted plan until before after p).tries ≡ plan.retries) × ((bytes_noted plan until before after p).pause ≡ pause_after plan 0)
 settled plan until before after p fewer done =
     let e = both_hold (nat_lt after.commands before) (p.preparing) (lt-ltb after.commands before fewer) done in
-    (takes_first (gives_back before after p) plan.retries p.tries e, takes_first (gives_back before after p) 0 p.pause e) where
+    (picks (gives_back before after p) plan.retries p.tries e, picks (gives_back before after p) 0 p.pause e) where
       -- the first test holds, and the second doesn't
       both_hold : (a b : Bool) → a ≡ true → b ≡ false → (a && not b) ≡ true
       both_hold true false x y = refl
@@ -114,7 +107,7 @@ unsettled : (plan : Plan) (until : Until) (before : ℕ) (after : Waiting) (p : 
     → ((bytes_noted plan until before after p).tries ≡ p.tries) × ((bytes_noted plan until before after p).pause ≡ p.pause)
 unsettled plan until before after p why =
     let e = by_cause (nat_lt after.commands before) (p.preparing) refl refl why in
-    (takes_second (gives_back before after p) plan.retries p.tries e, takes_second (gives_back before after p) 0 p.pause e) where
+    (picks_other (gives_back before after p) plan.retries p.tries e, picks_other (gives_back before after p) 0 p.pause e) where
       -- the first test doesn't hold, or the second does
       by_cause : (a b : Bool) → nat_lt after.commands before ≡ a → p.preparing ≡ b → (before ≤ after.commands) ⊎ (p.preparing ≡ true) → (a && not b) ≡ false
       by_cause false b x y w = refl

@@ -16,8 +16,8 @@ use Rattle.gc_station.specs.declared.mark.Mark.{Mark}
 use Rattle.gc_station.specs.declared.plan.Plan.{Plan}
 use Rattle.gc_links.specs.declared.link.Moment.{Moment}
 use Rattle.gc_links.specs.Acts.{Act, Gave}
-use Rattle.gc_station.specs.Answers.{ReadsBefore, IsAnsweredIn}
-use Rattle.gc_station.specs.Ends.{ReadsAtOrPast, OneReadsPast, IsOwnRequest, BringsLine, IsWrittenAt, IsLateIn, IsOvertaken}
+use Rattle.gc_station.specs.Answers.{ReadsBefore, IsAnsweredIn, IsOwnRequest, IsWrittenAt}
+use Rattle.gc_station.specs.Ends.{ReadsAtOrPast, OneReadsPast, BringsLine, IsLateIn, IsOvertaken}
 use Rattle.gc_station.specs.Marks.{records_of}
 use Rattle.gc_station.specs.Quiet.{IsAsking}
 use Rattle.gc_station.specs.Progressing.{turned, moment_noted}
@@ -142,20 +142,14 @@ answered plan commands scope acts piece m c front others line l number at p mark
       moment = m;
       behind = [];
       order = down.order;
-      sends = down.own.sends;
-      cycle = down.own.cycle;
-      place = down.own.place;
-      sent = down.own.sent;
-      put = down.own.put;
+      own = down.own;
       waits = subst (λ (d : ℕ). AllByRecursion (ReadsBefore d) s.between) (s.deadline mark refl) both.0;
       in_time = subst (λ (d : ℕ). m.elapsed < d) (s.deadline mark refl) both.1;
       front = front;
       others = others;
       came = sym (ap (λ (xs : List Act). lines_completed (state_after plan commands scope xs).rest piece) s.order) ∙ sym split ∙ ap (λ y. front ++ y ∷ others) (sym same);
       id = ap heard same ∙ id_heard c line at _ w has s.id;
-      earlier = down.written.earlier;
-      later = down.written.later;
-      written = ap (λ (xs : List Act). (state_after plan commands scope xs).records) (sym (append_assoc s.before (s.request ∷ s.between) (Gave piece m ∷ []))) ∙ down.written.written;
+      written = down.written;
     }
 
 -- the record of a late reply, of the request with this mark, is as `IsLateIn` says

@@ -306,7 +306,8 @@ module _ (plan : Plan) (commands : List Task) (scope : Scope) where
     fits_once_done o is obeys other keeps b done h =
         let it = prepared_if_done some s.progress.preparing s.progress.prepared acts h done in
         let on = begins o is obeys other it.0 in
-        inr (subst (λ (c : Bool). SetupFits c (at (acts ++ act ∷ [])).progress.prepared (acts ++ act ∷ [])) (sym (ap (λ (p : Progress). p.preparing) (progress_after o is) ∙ b)) (on, prepared_more plan.setup acts act keeps on it.1))
+        inr (subst (λ (c : Bool). SetupFits c (at (acts ++ act ∷ [])).progress.prepared (acts ++ act ∷ []))
+        (sym (ap (λ (p : Progress). p.preparing) (progress_after o is) ∙ b)) (on, prepared_more plan.setup acts act keeps on it.1))
 
     -- after an act that sends a command of the setup, `SetupFitsNow` holds
     fits_sent : action_at plan s ≡ action.Prepare → Performs commands s action.Prepare act → IsFor plan s.progress (waiting_of s) action.Prepare
@@ -328,7 +329,8 @@ module _ (plan : Plan) (commands : List Task) (scope : Scope) where
         let same : (at (acts ++ act ∷ [])).progress.preparing ≡ true =
         ap (λ (p : Progress). p.preparing) (progress_after action.Prepare is) ∙ ap (λ (x : Model). x.progress.preparing)
         (moved_changed plan commands action.Prepare (with_progress turned s) act) ∙ preparing in
-        inr (subst (λ (n : ℕ). SetupFits (at (acts ++ act ∷ [])).progress.preparing n (acts ++ act ∷ [])) (sym next) (subst (λ (c : Bool). SetupFits c (suc k) (acts ++ act ∷ [])) (sym same) (on, part)))
+        inr (subst (λ (n : ℕ). SetupFits (at (acts ++ act ∷ [])).progress.preparing n (acts ++ act ∷ [])) (sym next)
+        (subst (λ (c : Bool). SetupFits c (suc k) (acts ++ act ∷ [])) (sym same) (on, part)))
 
   -- a command of a cycle that is sent ends the setup's turn
   sent_preparing : (s : Model) (act : Act) → (moved plan commands action.Send s act).progress.preparing ≡ false

@@ -150,14 +150,14 @@ module _ (plan : Plan) (commands : List Task) (scope : Scope) where
   -- it was cleared. The other arguments are whether the station has synchronized, whether the moment read last is out of date,
   -- the moment since which nothing came, and the acts
   abbrev pub Stage : Bool → Bool → ℕ → Phase → List Act → Type 0
-  Stage begun stale since phase.Clearing acts = (stale ≡ false) × IsOpenedSo begun acts
-  Stage begun stale since phase.Draining acts = IsDraining stale since acts
-  Stage begun stale since phase.Ready acts = WasCleared acts
-  Stage begun stale since _ acts = Unit {0}
+  Stage begun due since phase.Clearing acts = (due ≡ false) × IsOpenedSo begun acts
+  Stage begun due since phase.Draining acts = IsDraining due since acts
+  Stage begun due since phase.Ready acts = WasCleared acts
+  Stage begun due since _ acts = Unit {0}
 
   -- `Stage`, by the fields of a progress
   abbrev pub StageAt : Progress → List Act → Type 0
-  StageAt p acts = Stage (has_begun p) p.stale p.since p.phase acts
+  StageAt p acts = Stage (has_begun p) p.clock_due p.since p.phase acts
 
 -- One act more.
 
@@ -183,12 +183,12 @@ quiet_now quiet since acts m long d = since_now (Quiets quiet) acts (Silent m) (
 -- What each act leaves.
 
 -- the quiet time begins with the moment read after the line feed
-draining_told : (stale : Bool) (since : ℕ) (m : Moment) (acts : List Act) → stale ≡ true → IsDraining stale since acts → IsDrained m.elapsed (acts ++ Told m ∷ [])
+draining_told : (due : Bool) (since : ℕ) (m : Moment) (acts : List Act) → due ≡ true → IsDraining due since acts → IsDrained m.elapsed (acts ++ Told m ∷ [])
 draining_told true since m acts old d = since_now (Drains m.elapsed) acts (Told m) (d, refl, tt)
 draining_told false since m acts old d = cc
 
 -- if the moment was read, the quiet time goes on
-draining_read : (stale : Bool) (since : ℕ) (acts : List Act) → stale ≡ false → IsDraining stale since acts → IsDrained since acts
+draining_read : (due : Bool) (since : ℕ) (acts : List Act) → due ≡ false → IsDraining due since acts → IsDrained since acts
 draining_read true since acts now d = cc
 draining_read false since acts now d = d
 
@@ -218,11 +218,11 @@ module _ (plan : Plan) (commands : List Task) (scope : Scope) where
   HereAt = StageAt plan commands scope
 
   -- if no connection is in use, `Stage` says nothing
-  stage_none : (begun stale : Bool) (since : ℕ) (at : Phase) (acts : List Act) → is_in_use at ≡ false → Here begun stale since at acts
-  stage_none begun stale since phase.Clearing acts none = cc
-  stage_none begun stale since phase.Draining acts none = cc
-  stage_none begun stale since phase.Ready acts none = cc
-  stage_none begun stale since at acts none = tt
+  stage_none : (begun due : Bool) (since : ℕ) (at : Phase) (acts : List Act) → is_in_use at ≡ false → Here begun due since at acts
+  stage_none begun due since phase.Clearing acts none = cc
+  stage_none begun due since phase.Draining acts none = cc
+  stage_none begun due since phase.Ready acts none = cc
+  stage_none begun due since at acts none = tt
 
   -- a connection on which requests may be sent (`WasCleared`) stays so, if the act keeps it
   more : (acts : List Act) (act : Act) → StaysConnected act → WasCleared plan commands scope acts → WasCleared plan commands scope (acts ++ act ∷ [])
@@ -232,19 +232,19 @@ module _ (plan : Plan) (commands : List Task) (scope : Scope) where
       inr (since_on (Begins plan commands scope) (Begins plan commands scope) acts (act ∷ []) (λ before start behind order h. (h.0, h.1, all_append StaysConnected behind (act ∷ []) h.2 (on, tt))) b)
 
   -- `Stage` is preserved by an act that reads a moment
-  stage_on : (begun begun' stale : Bool) (since now : ℕ) (at : Phase) (acts : List Act) (act : Act) → StaysConnected act
-      → (at ≡ phase.Clearing → stale ≡ false → ⊥) → (IsDraining stale since acts → IsDrained now (acts ++ act ∷ []))
-      → Here begun stale since at acts → Here begun' false now at (acts ++ act ∷ [])
-  stage_on begun begun' stale since now phase.Clearing acts act calm never drains st = absurd (never refl st.0)
-  stage_on begun begun' stale since now phase.Draining acts act calm never drains st = drains st
-  stage_on begun begun' stale since now phase.Ready acts act calm never drains st = more acts act calm st
-  stage_on begun begun' stale since now at acts act calm never drains st = tt
+  stage_on : (begun begun' due : Bool) (since now : ℕ) (at : Phase) (acts : List Act) (act : Act) → StaysConnected act
+      → (at ≡ phase.Clearing → due ≡ false → ⊥) → (IsDraining due since acts → IsDrained now (acts ++ act ∷ []))
+      → Here begun due since at acts → Here begun' false now at (acts ++ act ∷ [])
+  stage_on begun begun' due since now phase.Clearing acts act calm never drains st = absurd (never refl st.0)
+  stage_on begun begun' due since now phase.Draining acts act calm never drains st = drains st
+  stage_on begun begun' due since now phase.Ready acts act calm never drains st = more acts act calm st
+  stage_on begun begun' due since now at acts act calm never drains st = tt
 
   -- `Stage` lasts in the phase `Ready`, if the act keeps the connection
-  stage_ready : (begun begun' stale stale' : Bool) (since since' : ℕ) (at : Phase) (acts : List Act) (act : Act) → StaysConnected act → at ≡ phase.Ready
-      → Here begun stale since at acts → Here begun' stale' since' at (acts ++ act ∷ [])
-  stage_ready begun begun' stale stale' since since' at acts act stays is st =
-      subst (λ (x : Phase). Here begun' stale' since' x (acts ++ act ∷ [])) (sym is) (more acts act stays (subst (λ (x : Phase). Here begun stale since x acts) is st))
+  stage_ready : (begun begun' due due' : Bool) (since since' : ℕ) (at : Phase) (acts : List Act) (act : Act) → StaysConnected act → at ≡ phase.Ready
+      → Here begun due since at acts → Here begun' due' since' at (acts ++ act ∷ [])
+  stage_ready begun begun' due due' since since' at acts act stays is st =
+      subst (λ (x : Phase). Here begun' due' since' x (acts ++ act ∷ [])) (sym is) (more acts act stays (subst (λ (x : Phase). Here begun due since x acts) is st))
 
   -- `Stage` holds if a drain was long enough
   stage_drained : (until : Until) (m : Moment) (p : Progress) (acts : List Act) → is_quiet plan (time_passed until m p) ≡ true → IsDrained p.since acts
@@ -262,48 +262,48 @@ module _ (plan : Plan) (commands : List Task) (scope : Scope) where
   stage_cleared false since acts o = inr (since_now (Begins plan commands scope) acts (Put (10 ∷ [])) (o, refl, tt))
 
   -- what `HereAt` says in this phase
-  stage_in : (p : Progress) (at : Phase) (acts : List Act) → p.phase ≡ at → HereAt p acts → Here (has_begun p) p.stale p.since at acts
-  stage_in p at acts is st = subst (λ (x : Phase). Here (has_begun p) p.stale p.since x acts) is st
+  stage_in : (p : Progress) (at : Phase) (acts : List Act) → p.phase ≡ at → HereAt p acts → Here (has_begun p) p.clock_due p.since at acts
+  stage_in p at acts is st = subst (λ (x : Phase). Here (has_begun p) p.clock_due p.since x acts) is st
 
   -- what `Stage` says holds on after an act of any action that leaves a connection in use
   stage_line : (next : Action) (s : Model) (acts : List Act) → has_begun (state_after plan commands scope acts).progress ≡ has_begun s.progress
       → IsFor plan s.progress (waiting_of s) next → Timely s.progress next → HereAt s.progress acts → OnLine plan commands HereAt next (with_progress turned s) acts
   stage_line actions.ReadClock s acts there needs time st =
       let p = s.progress in
-      λ m. stage_on (has_begun p) (has_begun p) p.stale p.since m.elapsed p.phase acts (Told m) tt (λ is now. not_both p.stale time now) (draining_told p.stale p.since m acts time) st
+      λ m. stage_on (has_begun p) (has_begun p) p.clock_due p.since m.elapsed p.phase acts (Told m) tt (λ is now. not_both p.clock_due time now) (draining_told p.clock_due p.since m acts time) st
   stage_line actions.Open s acts there needs time st = λ m. (time, (acts, refl, there))
   stage_line actions.Clear s acts there needs time st = λ m. stage_cleared (has_begun s.progress) s.progress.since acts (stage_in s.progress phase.Clearing acts needs st).1
   stage_line (actions.Read until) s acts there needs time st =
       let p = s.progress in
       let begun = has_begun p in
-      let heard = λ (later : Bool) (bytes : List ℕ) (m : Moment). stage_on begun later p.stale p.since m.elapsed p.phase acts (Gave bytes m) tt (λ is now. time.1 is)
-      (λ d. drained_anew p.since m.elapsed acts (Gave bytes m) refl (draining_read p.stale p.since acts time.0 d)) st in (
+      let heard = λ (later : Bool) (bytes : List ℕ) (m : Moment). stage_on begun later p.clock_due p.since m.elapsed p.phase acts (Gave bytes m) tt (λ is now. time.1 is)
+      (λ d. drained_anew p.since m.elapsed acts (Gave bytes m) refl (draining_read p.clock_due p.since acts time.0 d)) st in (
         λ bytes m.
             let mid = with_moment m (with_progress (moment_noted m) (with_progress turned s)) in
             let always = λ (later : Bool). heard later bytes m in
             came_along (λ (t : Model). HereAt t.progress (acts ++ Gave bytes m ∷ [])) (λ t line on. on) (is_heard p.phase) p.word bytes mid (always begun)
-            ((asked_along (λ (q : Progress). (later : Bool) → Here later q.stale q.since q.phase (acts ++ Gave bytes m ∷ [])) (λ q line on. on) mid.progress
+            ((asked_along (λ (q : Progress). (later : Bool) → Here later q.clock_due q.since q.phase (acts ++ Gave bytes m ∷ [])) (λ q line on. on) mid.progress
             (lines_completed s.rest bytes) always) _) (always begun),
         λ m. (
-          stage_on begun begun p.stale p.since (min p.since m.elapsed) p.phase acts (Silent m) tt (λ is now. time.1 is)
-              (λ d. silent_on p.since m acts (nat_le p.since m.elapsed) refl (draining_read p.stale p.since acts time.0 d)) st,
-          λ is past. stage_drained until m (turned p) acts past (draining_read p.stale p.since acts time.0 (stage_in p phase.Draining acts is st)),
+          stage_on begun begun p.clock_due p.since (min p.since m.elapsed) p.phase acts (Silent m) tt (λ is now. time.1 is)
+              (λ d. silent_on p.since m acts (nat_le p.since m.elapsed) refl (draining_read p.clock_due p.since acts time.0 d)) st,
+          λ is past. stage_drained until m (turned p) acts past (draining_read p.clock_due p.since acts time.0 (stage_in p phase.Draining acts is st)),
         ),
       )
   stage_line (actions.Close why) s acts there needs time st = tt
   stage_line (actions.Stop why) s acts there needs time st = tt
   stage_line actions.Ask s acts there needs time st = let p = s.progress in
-      λ m. stage_ready (has_begun p) (has_begun p) p.stale true p.since p.since p.phase acts (Put (null_text p.word)) tt needs.0 st
+      λ m. stage_ready (has_begun p) (has_begun p) p.clock_due true p.since p.since p.phase acts (Put (null_text p.word)) tt needs.0 st
   stage_line actions.Prepare s acts there needs time st =
-      let p = s.progress in λ m. stage_ready (has_begun p) (has_begun p) p.stale true p.since p.since p.phase acts
+      let p = s.progress in λ m. stage_ready (has_begun p) (has_begun p) p.clock_due true p.since p.since p.phase acts
       (Put (text_or_null s.progress.moment.utc s.client (drop p.prepared commands))) tt needs.0 st
   stage_line actions.Send s acts there needs time st =
-      let p = s.progress in λ m. stage_ready (has_begun p) (has_begun p) p.stale true p.since p.since p.phase acts
+      let p = s.progress in λ m. stage_ready (has_begun p) (has_begun p) p.clock_due true p.since p.since p.phase acts
       (Put (first_text s.progress.moment.utc s.client (drop (place_next commands p) commands))) tt needs.0 st
   stage_line actions.Flush s acts there needs time st = let p = s.progress in
-      λ m. stage_ready (has_begun p) (has_begun p) p.stale true p.since p.since p.phase acts (Put (request_text s.client (Table NullProc))) tt needs.0 st
-  stage_line actions.Renew s acts there needs time st = let p = s.progress in λ m. stage_ready (has_begun p) false p.stale false p.since m.elapsed p.phase acts (Told m) tt needs.0 st
-  stage_line next s acts there needs time st = let p = s.progress in λ m. stage_ready (has_begun p) (has_begun p) p.stale false p.since m.elapsed p.phase acts (Told m) tt needs.0 st
+      λ m. stage_ready (has_begun p) (has_begun p) p.clock_due true p.since p.since p.phase acts (Put (request_text s.client (Table NullProc))) tt needs.0 st
+  stage_line actions.Renew s acts there needs time st = let p = s.progress in λ m. stage_ready (has_begun p) false p.clock_due false p.since m.elapsed p.phase acts (Told m) tt needs.0 st
+  stage_line next s acts there needs time st = let p = s.progress in λ m. stage_ready (has_begun p) (has_begun p) p.clock_due false p.since m.elapsed p.phase acts (Told m) tt needs.0 st
 
   -- Whole runs.
 
@@ -318,7 +318,7 @@ module _ (plan : Plan) (commands : List Task) (scope : Scope) where
     step done act runs o st =
         let s = state_after plan commands scope done in
         let p = s.progress in
-        on_line plan commands HereAt (λ q acts none. stage_none (has_begun q) q.stale q.since q.phase acts none) (action_at plan s) s act done o
+        on_line plan commands HereAt (λ q acts none. stage_none (has_begun q) q.clock_due q.since q.phase acts none) (action_at plan s) s act done o
         (stage_line (action_at plan s) s done refl (action_for plan p (waiting_of s)) (order_timely plan p (waiting_of s)) st)
 
 -- Requests are sent only in the phase for requests.

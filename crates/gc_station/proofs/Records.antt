@@ -108,13 +108,13 @@ pub listed-none : (reads : Asked → List ℕ → Reading) (b : Bool) (marks : L
 listed-none reads b [] = refl
 listed-none reads b (mark ∷ marks) = refl
 
--- what one settlement of the oldest request lists hangs on the first mark alone
+-- what one settlement of the oldest request lists depends on the first mark alone
 listed_here : (reads : Asked → List ℕ → Reading) (b : Bool) (mark : Option Mark) (marks : List (Option Mark)) (x : Rule.Settlement Asked)
     → listed_by reads b (mark ∷ marks) (x ∷ []) ≡ listed_by reads b (mark ∷ []) (x ∷ [])
 listed_here reads b None marks x = listed-none reads b marks
 listed_here reads b (Some mark) marks x = listed-none reads _ marks
 
--- what one settlement of the oldest request lists hangs on the first mark alone, if that mark is given by its place, 0
+-- what one settlement of the oldest request lists depends on the first mark alone, if that mark is given by its place, 0
 pub listed_first : (reads : Asked → List ℕ → Reading) (b : Bool) (marks : List (Option Mark)) (mark : Option Mark) (x : Rule.Settlement Asked)
     → Some mark ≡ slice_get marks 0 → listed_by reads b marks (x ∷ []) ≡ listed_by reads b (mark ∷ []) (x ∷ [])
 listed_first reads b [] mark x e = cc

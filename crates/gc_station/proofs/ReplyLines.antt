@@ -8,7 +8,7 @@ use Rattle.gc_lines.specs.Readers.{reply_at}
 use Rattle.gc_client.specs.Beginning.{is_answered, left_by}
 use Rattle.gc_client.specs.Rule.{heard, id_in}
 use Rattle.gc_station.specs.declared.progress.Progress.{Progress}
-use Rattle.gc_station.specs.Progressing.{line_asked, lines_asked}
+use Rattle.gc_station.specs.Progressing.{line_synchronizing, lines_synchronizing}
 use Rattle.gc_station.specs.Silences.{IsNoReply}
 use Rattle.gc_station.specs.Model.{Model, line_came, lines_came, is_ok, is_reply}
 use Rattle.gc_station.proofs.Walk.{lines_along}
@@ -67,23 +67,23 @@ AliveAsked p lines q =
     (AllByRecursion IsNoReply lines × (q.alive ≡ p.alive) × (q.asked ≡ p.asked) × (q.word ≡ p.word) × (q.again ≡ p.again)) ⊎ ((q.alive ≡ p.moment.elapsed) × (q.asked ≡ false))
 
 -- `AliveAsked` holds after lines that the synchronization hears
-pub asked_alive : (p : Progress) (lines : List (List ℕ)) → AliveAsked p lines (lines_asked p lines)
+pub asked_alive : (p : Progress) (lines : List (List ℕ)) → AliveAsked p lines (lines_synchronizing p lines)
 asked_alive p [] = inl (tt, refl, refl, refl, refl)
-asked_alive p (line ∷ others) = on (is_reply line) refl (asked_alive (line_asked p line) others) where
+asked_alive p (line ∷ others) = on (is_reply line) refl (asked_alive (line_synchronizing p line) others) where
   -- the progress after all lines
   q : Progress
-  q = lines_asked (line_asked p line) others
+  q = lines_synchronizing (line_synchronizing p line) others
 
   -- where the line is a reply (`true`), the line was alive at this moment; otherwise `alive` stays
-  here : (b : Bool) → is_reply line ≡ b → (line_asked p line).alive ≡ (if b then p.moment.elapsed else p.alive)
+  here : (b : Bool) → is_reply line ≡ b → (line_synchronizing p line).alive ≡ (if b then p.moment.elapsed else p.alive)
   here b e = ap (λ (x : Bool). if x then p.moment.elapsed else p.alive) e
 
   -- where the line is a reply (`true`), no request was sent since; otherwise `asked` stays
-  asks : (b : Bool) → is_reply line ≡ b → (line_asked p line).asked ≡ (if b then false else p.asked)
+  asks : (b : Bool) → is_reply line ≡ b → (line_synchronizing p line).asked ≡ (if b then false else p.asked)
   asks b e = ap (λ (x : Bool). if x then false else p.asked) e
 
   -- `AliveAsked` holds with one line more before it
-  on : (b : Bool) → is_reply line ≡ b → AliveAsked (line_asked p line) others q → AliveAsked p (line ∷ others) q
+  on : (b : Bool) → is_reply line ≡ b → AliveAsked (line_synchronizing p line) others q → AliveAsked p (line ∷ others) q
   on b e (inr now) = inr now
   on true e (inl none) = inr (none.1 ∙ here true e, none.2 ∙ asks true e)
   on false e (inl none) =

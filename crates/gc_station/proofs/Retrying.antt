@@ -3,7 +3,6 @@
 use Rattle.std.proofs.Common.{◌≡◌, ◌⊎◌, inl, inr, ℕ, zero, suc, ◌+◌, ◌-◌, ◌<◌, ◌≤◌, ◌||◌, Bool, true, false, List, [], ◌∷◌, ◌++◌, length, drop, Option, Some, None, if◌then◌else◌, nat_eq, nat_lt, refl, sym, ap, ◌∙◌, subst, arith, append-nil}
 use Rattle.std.specs.List.{AllByRecursion}
 use Rattle.std.proofs.lemmas.Bool.{ltb-true, ltb-false}
-use Rattle.std.proofs.lemmas.Bool.Decides.{nat_tests}
 use Rattle.std.proofs.lemmas.List.{length-drop}
 use Rattle.gc_lines.specs.Frames.{rest_behind}
 use Rattle.gc_catalogue.specs.declared.answer.Reading.{Reading}
@@ -45,6 +44,7 @@ use Rattle.gc_station.proofs.Invariant.{Invariant}
 use Rattle.gc_station.proofs.Lists.{all_append}
 use Rattle.gc_station.proofs.Walk.{lines_along, moved_changed, sending, is_sent}
 use Rattle.gc_station.proofs.Listed.{code_there, named_by, any_listed, any_append, listed_has, has_listed, expected_as, turn_expected, rule_expected}
+use Rattle.gc_station.proofs.Ticking.{not_none, not_both}
 
 module _ (plan : Plan) (commands : List Task) (scope : Scope) where
   -- a mark has what is expected of its command's answer
@@ -68,10 +68,7 @@ module _ (plan : Plan) (commands : List Task) (scope : Scope) where
   next_placed : (p : Progress) → 0 < cycles_begun plan p → IsPlaced (Some (mark_next plan commands p))
   next_placed p many =
       let expected = expected_first (drop (place_next commands p) commands) in
-      ap (λ (b : Bool). expected_as b expected.turn.attempt expected) (sym (not_none (cycles_begun plan p) many)) where
-        -- a number above 0 isn't 0
-        not_none : (n : ℕ) → 0 < n → nat_eq n 0 ≡ false
-        not_none n some = grind (arith, nat_tests, some)
+      ap (λ (b : Bool). expected_as b expected.turn.attempt expected) (sym (not_none (cycles_begun plan p) many))
 
   -- settlements list what their records do, whose marks are `IsPlaced`
   lists_so : (utc : ℕ) (marks : List (Option Mark)) (xs : List (Rule.Settlement Asked)) (b : Bool) → AllByRecursion IsPlaced marks
@@ -335,10 +332,6 @@ module _ (plan : Plan) (commands : List Task) (scope : Scope) where
     by_may : ((s.progress.next_others ≡ 0) ⊎ ((commands_in s.marks ≡ 0) × (s.listed ≡ true))) → (commands_in s.marks ≡ 0) × HasListed scope.reads commands s.records
     by_may (inl none) = let others = (follows_stood acts runs).0 further.0 in let more = further.1 in absurd (omega (arith, none, others, more))
     by_may (inr may) = (may.0, listed_has scope.reads commands s.records (sym (kept_all acts).listed ∙ may.1))
-
-  -- a test isn't true and false
-  not_both : (b : Bool) → b ≡ true → b ≡ false → ⊥
-  not_both b e g = cc
 
   -- the law of further attempts that are left out
   passes_over : (acts : List Act) → Runs plan commands (opening plan scope) acts → action_at plan (state_after plan commands scope acts) ≡ actions.Pass

@@ -1,8 +1,7 @@
 -- The row of a station: the requests of its records, and after them those of the outstanding commands. An act leaves it, or
 -- adds the request of the command that is sent or is left out. If a chain is unbroken, the last request is of a cycle, not of
 -- the setup.
-use Rattle.std.proofs.Common.{◌≡◌, ℕ, ◌-◌, ◌<◌, Bool, true, false, List, [], ◌∷◌, ◌++◌, length, drop, map, Some, None, refl, sym, ap, ◌∙◌, subst, arith, append_assoc, append-nil, nat_eq}
-use Rattle.std.proofs.lemmas.Bool.Decides.{nat_tests}
+use Rattle.std.proofs.Common.{◌≡◌, ℕ, ◌-◌, ◌<◌, Bool, true, false, List, [], ◌∷◌, ◌++◌, length, drop, map, Some, None, refl, sym, ap, ◌∙◌, subst, arith, append_assoc, append-nil}
 use Rattle.std.proofs.lemmas.List.{length-drop, map-append}
 use Rattle.gc_catalogue.specs.declared.asked.Asked.TheVariants.{Table}
 use Rattle.gc_catalogue.specs.declared.call.Call.TheVariants.{NullProc}
@@ -34,7 +33,7 @@ use Rattle.gc_station.proofs.Facts.{action_for}
 use Rattle.gc_station.proofs.Invariant.{Invariant}
 use Rattle.gc_station.proofs.Midway.{client_behind}
 use Rattle.gc_station.proofs.Walk.{came_along, closed_along, moved_changed, walk}
-use Rattle.gc_station.proofs.Ticking.{not_both}
+use Rattle.gc_station.proofs.Ticking.{not_both, not_none}
 
 -- the row of a model
 abbrev pub row_of : Model → List Request
@@ -58,10 +57,7 @@ row_gave plan until s bytes m =
 -- the loss of what is outstanding leaves the row
 pub row_losing : (b : Bool) (s : Model) → row_of (losing b s) ≡ row_of s
 row_losing true s =
-    row_settles s.reads s.progress.moment.utc s.marks s.client.waiting [] (map lost s.client.waiting) s.records (none (map of_settled (map lost s.client.waiting)) ∙ lost_parts s.client.waiting) where
-      -- a list with nothing appended is itself
-      none : {A : Type 0} (xs : List A) → xs ++ [] ≡ xs
-      none xs = append-nil xs
+    row_settles s.reads s.progress.moment.utc s.marks s.client.waiting [] (map lost s.client.waiting) s.records (append-nil (map of_settled (map lost s.client.waiting)) ∙ lost_parts s.client.waiting)
 row_losing false s = refl
 
 -- an act of a read that gave bytes leaves the row
@@ -191,10 +187,7 @@ last_of_cycle plan commands scope acts runs none whole xs x is =
 
 -- of requests, the last of which is of a cycle, those that are of a cycle have it last
 cycles_last : (xs : List Request) (x : Request) → 0 < x.cycle → of_cycles (xs ++ x ∷ []) ≡ of_cycles xs ++ x ∷ []
-cycles_last xs x many = cycles_append xs (x ∷ []) ∙ ap (λ b. of_cycles xs ++ cycle_with b x []) (not_none x.cycle many) where
-  -- a number above 0 isn't 0
-  not_none : (n : ℕ) → 0 < n → nat_eq n 0 ≡ false
-  not_none n some = grind (arith, nat_tests, some)
+cycles_last xs x many = cycles_append xs (x ∷ []) ∙ ap (λ b. of_cycles xs ++ cycle_with b x []) (not_none x.cycle many)
 
 -- of requests, the last of which is of a cycle, those that are of a cycle have it last, as the text has them
 pub listed_last : (commands : List Task) (xs : List Request) (x : Request) → 0 < x.cycle → of_text commands (xs ++ x ∷ []) ≡ of_text commands xs ++ in_text commands x ∷ []

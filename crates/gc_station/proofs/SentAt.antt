@@ -29,7 +29,7 @@ use Rattle.gc_station.proofs.Records.{Grew, grew_none, grew_then}
 pub some_is : {A : Type 0} (a b : A) → Some a ≡ Some b → a ≡ b
 some_is a b e = cc
 
--- no element isn't one
+-- `None` isn't `Some`
 pub none_is_not : {A : Type 0} (a : A) → None ≡ Some a → ⊥
 none_is_not a e = cc
 

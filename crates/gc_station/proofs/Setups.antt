@@ -2,7 +2,6 @@
 -- station has its records and, after them, the outstanding commands. An act leaves the row, or adds the command that is sent or
 -- isn't sent.
 use Rattle.std.proofs.Common.{◌≡◌, ◌⊎◌, inl, inr, ℕ, ◌+◌, ◌-◌, ◌<◌, ◌≤◌, Bool, true, false, if◌then◌else◌, nat_eq, min, List, [], ◌∷◌, ◌++◌, length, drop, map, Option, Some, None, refl, sym, ap, ◌∙◌, subst, arith, append_assoc, append-nil}
-use Rattle.std.proofs.lemmas.Bool.Decides.{nat_tests}
 use Rattle.std.proofs.lemmas.List.{length-drop, map-append}
 use Rattle.gc_catalogue.specs.declared.answer.Reading.{Reading}
 use Rattle.gc_catalogue.specs.declared.asked.Asked.{Asked}
@@ -30,6 +29,7 @@ use Rattle.gc_station.proofs.EachRun.{fine_all, fine_opening, fine_stood, stoppe
 use Rattle.gc_station.proofs.Facts.{action_for}
 use Rattle.gc_station.proofs.Invariant.{Invariant}
 use Rattle.gc_station.proofs.Walk.{came_along, closed_along, is_prepared, moved_changed}
+use Rattle.gc_station.proofs.Ticking.{not_none}
 
 -- The row.
 
@@ -135,10 +135,7 @@ setup_append (x ∷ xs) ys = by_cycle (nat_eq x.cycle 0) (setup_append xs ys) wh
 
 -- a command of a cycle isn't one of the setup
 none_one : (x : Dispatch) → 0 < x.cycle → of_setup (x ∷ []) ≡ []
-none_one x many = ap (λ b. setup_with b x []) (not_none x.cycle many) where
-  -- a number above 0 isn't 0
-  not_none : (n : ℕ) → 0 < n → nat_eq n 0 ≡ false
-  not_none n some = grind (arith, nat_tests, some)
+none_one x many = ap (λ b. setup_with b x []) (not_none x.cycle many)
 
 -- a command of a cycle that is sent isn't one of the setup
 none_sent : (mark : Mark) (left : List Task) → 0 < mark.cycle → of_setup (sent_first mark left) ≡ []
@@ -267,10 +264,11 @@ IsNext x p = ((p.attempt ≡ x.attempt) × (p.prepared ≡ x.place + 1)) ⊎ ((p
 
 -- if the setup starts again, its first command is next
 restarted_next : (x : Dispatch) (p q : Progress) → q.attempt ≡ next_attempt p → q.prepared ≡ 0 → IsNext x p → IsNext x q
-restarted_next x p q a k (inl is) = inr (a ∙ ap (λ (b : Bool). if b then p.attempt else later p.attempt 1) (not_none p.prepared (let at : p.prepared ≡ x.place + 1 = is.1 in omega (arith, at))) ∙ ap (λ n. later n 1) is.0, k) where
-  -- a number above 0 isn't 0
-  not_none : (n : ℕ) → 0 < n → nat_eq n 0 ≡ false
-  not_none n some = grind (arith, nat_tests, some)
+restarted_next x p q a k (inl is) = inr (
+  a ∙ ap (λ (b : Bool). if b then p.attempt else later p.attempt 1)
+      (not_none p.prepared (let at : p.prepared ≡ x.place + 1 = is.1 in omega (arith, at))) ∙ ap (λ n. later n 1) is.0,
+  k,
+)
 restarted_next x p q a k (inr is) = inr (a ∙ ap (λ (n : ℕ). if nat_eq n 0 then p.attempt else later p.attempt 1) is.1 ∙ is.0, k)
 
 -- an act that sends no command of the setup leaves the next one after x
@@ -370,7 +368,8 @@ module _ (plan : Plan) (commands : List Task) (within : plan.setup ≤ length co
         | inl sends ↦ subst (λ xs. AreInOrder (xs ++ rest)) (sym (sends_it s sends)) (is.0, is.1, go_on_from (next_dispatch s) u acts (next_sent s act sends))
         | inr other ↦
             subst (λ xs. AreInOrder (xs ++ rest)) (sym (others_send_none (action_at plan s) commands s other))
-            (in_order_from u acts (subst (λ (q : Progress). IsFresh q) (sym (ended_progress t)) (fresh_kept (turned s.progress) t.progress (resets plan commands (action_at plan s) (with_progress turned s) act other) is)))
+            (in_order_from u acts (subst (λ (q : Progress). IsFresh q) (sym (ended_progress t))
+            (fresh_kept (turned s.progress) t.progress (resets plan commands (action_at plan s) (with_progress turned s) act other) is)))
       ]
 
 -- the law: attempts of the setup count over the run, and each goes from the first command on, one by one

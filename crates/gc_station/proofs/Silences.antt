@@ -17,23 +17,12 @@ use Rattle.gc_station.specs.Quiet.{TellsMoment}
 use Rattle.gc_station.specs.Reasons.{IsAtItsEnd}
 use Rattle.gc_station.specs.Runs.{state_after}
 use Rattle.gc_station.specs.Scopes.{Scope}
-use Rattle.gc_station.specs.Silences.{latest}
 use Rattle.gc_station.specs.Model.{Model, opening, action_at, waiting_of, with_progress, with_moment, lines_completed, is_heard, Performs, moved, Runs}
 use Rattle.gc_station.proofs.Closings.{closing_shown, needs_of}
 use Rattle.gc_station.proofs.Always.{always_far}
 use Rattle.gc_station.proofs.Connected.{is_in_use, OnLine, on_line}
 use Rattle.gc_station.proofs.Facts.{Awake}
 use Rattle.gc_station.proofs.Walk.{asked_along, came_along}
-
--- The moment that was read last, after one act more.
-
--- with one act more, the moment read last is the act's or, if it reads none, the one read last before it
-pub latest_more : (now : ℕ) (acts : List Act) (act : Act) → latest now (acts ++ act ∷ []) ≡ latest (latest now acts) (act ∷ [])
-latest_more now [] act = refl
-latest_more now (Told m ∷ acts) act = latest_more m.elapsed acts act
-latest_more now (Gave bytes m ∷ acts) act = latest_more m.elapsed acts act
-latest_more now (Silent m ∷ acts) act = latest_more m.elapsed acts act
-latest_more now (x ∷ acts) act = latest_more now acts act
 
 -- if a drain ends or goes on, there is a connection
 drained_up : (b : Bool) (p : Progress) → p.phase ≡ phase.Draining → is_up (if b then drained p else p).phase ≡ true
@@ -58,43 +47,43 @@ abbrev pub LastTells : ℕ → List Act → Type 0
 LastTells now acts = (front : List Act) × (last : Act) × (acts ≡ front ++ last ∷ []) × TellsMoment now last
 
 -- while a connection is drained, and where requests may be sent: the last act read the moment `now`, if the moment read last
--- isn't out of date (the first argument, `stale`)
+-- isn't out of date (the first argument, `clock_due`)
 abbrev Fresh : Bool → ℕ → Phase → List Act → Type 0
-Fresh stale now phase.Draining acts = stale ≡ false → LastTells now acts
-Fresh stale now phase.Ready acts = stale ≡ false → LastTells now acts
-Fresh stale now at acts = Unit {0}
+Fresh due now phase.Draining acts = due ≡ false → LastTells now acts
+Fresh due now phase.Ready acts = due ≡ false → LastTells now acts
+Fresh due now at acts = Unit {0}
 
 -- `Fresh`, by the fields of a progress
 abbrev FreshAt : Progress → List Act → Type 0
-FreshAt p acts = Fresh p.stale p.moment.elapsed p.phase acts
+FreshAt p acts = Fresh p.clock_due p.moment.elapsed p.phase acts
 
 -- if no connection is in use, `Fresh` says nothing
-fresh_none : (stale : Bool) (now : ℕ) (at : Phase) (acts : List Act) → is_in_use at ≡ false → Fresh stale now at acts
-fresh_none stale now phase.Draining acts none = cc
-fresh_none stale now phase.Ready acts none = cc
-fresh_none stale now at acts none = tt
+fresh_none : (due : Bool) (now : ℕ) (at : Phase) (acts : List Act) → is_in_use at ≡ false → Fresh due now at acts
+fresh_none due now phase.Draining acts none = cc
+fresh_none due now phase.Ready acts none = cc
+fresh_none due now at acts none = tt
 
 -- `Fresh` holds after an act that reads the moment
-fresh_told : (stale : Bool) (now : ℕ) (at : Phase) (acts : List Act) (act : Act) → TellsMoment now act → Fresh stale now at (acts ++ act ∷ [])
-fresh_told stale now phase.Draining acts act tells = λ e. (acts, act, refl, tells)
-fresh_told stale now phase.Ready acts act tells = λ e. (acts, act, refl, tells)
-fresh_told stale now at acts act tells = tt
+fresh_told : (due : Bool) (now : ℕ) (at : Phase) (acts : List Act) (act : Act) → TellsMoment now act → Fresh due now at (acts ++ act ∷ [])
+fresh_told due now phase.Draining acts act tells = λ e. (acts, act, refl, tells)
+fresh_told due now phase.Ready acts act tells = λ e. (acts, act, refl, tells)
+fresh_told due now at acts act tells = tt
 
 -- if the moment wasn't read, `Fresh` says nothing
-fresh_stale : (now : ℕ) (at : Phase) (acts : List Act) → Fresh true now at acts
-fresh_stale now phase.Draining acts = λ e. cc
-fresh_stale now phase.Ready acts = λ e. cc
-fresh_stale now at acts = tt
+fresh_due : (now : ℕ) (at : Phase) (acts : List Act) → Fresh true now at acts
+fresh_due now phase.Draining acts = λ e. cc
+fresh_due now phase.Ready acts = λ e. cc
+fresh_due now at acts = tt
 
 module _ (plan : Plan) (commands : List Task) where
   -- `Fresh` is preserved by an act of any action
   fresh_line : (next : Action) (s : Model) (acts : List Act) → OnLine plan commands FreshAt next (with_progress turned s) acts
   fresh_line actions.Open s acts = λ m. tt
-  fresh_line actions.Clear s acts = λ m. fresh_stale s.progress.moment.elapsed (cleared s.progress).phase _
-  fresh_line actions.Ask s acts = λ m. fresh_stale s.progress.moment.elapsed s.progress.phase _
-  fresh_line actions.Prepare s acts = λ m. fresh_stale s.progress.moment.elapsed s.progress.phase _
-  fresh_line actions.Send s acts = λ m. fresh_stale s.progress.moment.elapsed s.progress.phase _
-  fresh_line actions.Flush s acts = λ m. fresh_stale s.progress.moment.elapsed s.progress.phase _
+  fresh_line actions.Clear s acts = λ m. fresh_due s.progress.moment.elapsed (cleared s.progress).phase _
+  fresh_line actions.Ask s acts = λ m. fresh_due s.progress.moment.elapsed s.progress.phase _
+  fresh_line actions.Prepare s acts = λ m. fresh_due s.progress.moment.elapsed s.progress.phase _
+  fresh_line actions.Send s acts = λ m. fresh_due s.progress.moment.elapsed s.progress.phase _
+  fresh_line actions.Flush s acts = λ m. fresh_due s.progress.moment.elapsed s.progress.phase _
   fresh_line (actions.Read until) s acts =
       let at = s.progress.phase in (
         λ bytes m.
@@ -118,14 +107,14 @@ module _ (plan : Plan) (commands : List Task) where
         → FreshAt (moved plan commands (action_at plan (state_after plan commands scope done)) (with_progress turned (state_after plan commands scope done)) act).progress (done ++ act ∷ [])
     step done act runs o h =
         let s = state_after plan commands scope done in
-        on_line plan commands FreshAt (λ p acts none. fresh_none p.stale p.moment.elapsed p.phase acts none) (action_at plan s) s act done o (fresh_line (action_at plan s) s done)
+        on_line plan commands FreshAt (λ p acts none. fresh_none p.clock_due p.moment.elapsed p.phase acts none) (action_at plan s) s act done o (fresh_line (action_at plan s) s done)
 
   -- where requests may be sent, and the moment was read, the last act read it
   pub awake_last : (scope : Scope) (acts : List Act) → Runs plan commands (opening plan scope) acts → Awake (state_after plan commands scope acts).progress
       → LastTells (state_after plan commands scope acts).progress.moment.elapsed acts
   awake_last scope acts runs awake =
       let p = (state_after plan commands scope acts).progress in
-      (subst (λ (x : Phase). Fresh p.stale p.moment.elapsed x acts) awake.1 (fresh_stood scope acts runs)) awake.0
+      (subst (λ (x : Phase). Fresh p.clock_due p.moment.elapsed x acts) awake.1 (fresh_stood scope acts runs)) awake.0
 
 -- A close that no act shows is decided if it is made.
 

@@ -30,12 +30,13 @@ use Rattle.gc_station.specs.Progressing.{turned, moment_noted, quieted, time_pas
 use Rattle.gc_station.specs.Records.{Record}
 use Rattle.gc_station.specs.Runs.{state_after}
 use Rattle.gc_station.specs.Scopes.{Scope}
-use Rattle.gc_station.specs.Stopping.{IsTelling, least_told, asked_after, IsUnwell, UnwellSince, ClosesStale, StopsAtItsClose, EndsOnceStale, GoesOnInItsChain, ClosesBetweenChains}
+use Rattle.gc_station.specs.Stopping.{least_told, asked_after, IsNotWell, NoneWellSince, ClosesStale, StopsAtItsClose, EndsOnceStale, GoesOnInItsChain, ClosesBetweenChains}
+use Rattle.gc_station.specs.Quiet.{IsListening}
 use Rattle.gc_station.proofs.Always.{always, always_far}
 use Rattle.gc_station.proofs.Closings.{end_of, Decided, after_decided, runs_split, stopped_for, needs_of, done_sent}
 use Rattle.gc_station.proofs.Counts.{ended_progress}
 use Rattle.gc_station.proofs.Facts.{both_true}
-use Rattle.gc_station.proofs.Going.{after_all-append}
+use Rattle.gc_station.proofs.Going.{after_all-append, runs_behind}
 use Rattle.gc_station.proofs.Lists.{all_append}
 use Rattle.gc_station.proofs.Records.{fresh-append}
 use Rattle.gc_station.proofs.Silences.{end_here, not_closing}
@@ -51,45 +52,45 @@ abbrev HasWell : List Record → Type 0
 HasWell rs = (front : List Record) × (r : Record) × (later : List Record) × (rs ≡ front ++ r ∷ later) × (is_well r.end ≡ true)
 
 -- records of which none is of a command that was answered well leave the moment
-unwell_same : (now fresh : ℕ) (rs : List Record) → AllByRecursion IsUnwell rs → fresh_after now fresh rs ≡ fresh
+unwell_same : (now fresh : ℕ) (rs : List Record) → AllByRecursion IsNotWell rs → fresh_after now fresh rs ≡ fresh
 unwell_same now fresh [] all = refl
 unwell_same now fresh (r ∷ rs) all =
     ap (λ x. fresh_after now x rs) (picks_other (is_well r.end) now fresh all.0) ∙ unwell_same now fresh rs all.1
 
 -- of records that are recorded at one moment none is of a command that was answered well, and they leave the moment that was;
 -- or one is
-fresh_cases : (now fresh : ℕ) (rs : List Record) → (AllByRecursion IsUnwell rs × (fresh_after now fresh rs ≡ fresh)) ⊎ (HasWell rs × (fresh_after now fresh rs ≡ now))
+fresh_cases : (now fresh : ℕ) (rs : List Record) → (AllByRecursion IsNotWell rs × (fresh_after now fresh rs ≡ fresh)) ⊎ (HasWell rs × (fresh_after now fresh rs ≡ now))
 fresh_cases now fresh [] = inl (tt, refl)
 fresh_cases now fresh (r ∷ rs) = by_first (fresh_cases now now rs) (fresh_cases now fresh rs) (is_well r.end) refl where
   -- the lemma above, by whether the first record is of such a command
-  by_first : (AllByRecursion IsUnwell rs × (fresh_after now now rs ≡ now)) ⊎ (HasWell rs × (fresh_after now now rs ≡ now))
-      → (AllByRecursion IsUnwell rs × (fresh_after now fresh rs ≡ fresh)) ⊎ (HasWell rs × (fresh_after now fresh rs ≡ now)) → (b : Bool) → is_well r.end ≡ b
-      → (AllByRecursion IsUnwell (r ∷ rs) × (fresh_after now fresh (r ∷ rs) ≡ fresh)) ⊎ (HasWell (r ∷ rs) × (fresh_after now fresh (r ∷ rs) ≡ now))
+  by_first : (AllByRecursion IsNotWell rs × (fresh_after now now rs ≡ now)) ⊎ (HasWell rs × (fresh_after now now rs ≡ now))
+      → (AllByRecursion IsNotWell rs × (fresh_after now fresh rs ≡ fresh)) ⊎ (HasWell rs × (fresh_after now fresh rs ≡ now)) → (b : Bool) → is_well r.end ≡ b
+      → (AllByRecursion IsNotWell (r ∷ rs) × (fresh_after now fresh (r ∷ rs) ≡ fresh)) ⊎ (HasWell (r ∷ rs) × (fresh_after now fresh (r ∷ rs) ≡ now))
   by_first here there true well = on_well here where
     -- what is left of the records after one that is of such a command
-    on_well : ((AllByRecursion IsUnwell rs × (fresh_after now now rs ≡ now)) ⊎ (HasWell rs × (fresh_after now now rs ≡ now)))
-        → (AllByRecursion IsUnwell (r ∷ rs) × (fresh_after now fresh (r ∷ rs) ≡ fresh)) ⊎ (HasWell (r ∷ rs) × (fresh_after now fresh (r ∷ rs) ≡ now))
+    on_well : ((AllByRecursion IsNotWell rs × (fresh_after now now rs ≡ now)) ⊎ (HasWell rs × (fresh_after now now rs ≡ now)))
+        → (AllByRecursion IsNotWell (r ∷ rs) × (fresh_after now fresh (r ∷ rs) ≡ fresh)) ⊎ (HasWell (r ∷ rs) × (fresh_after now fresh (r ∷ rs) ≡ now))
     on_well (inl none) = inr (([], r, rs, refl, well), ap (λ x. fresh_after now x rs) (picks (is_well r.end) now fresh well) ∙ none.1)
     on_well (inr some) = inr (([], r, rs, refl, well), ap (λ x. fresh_after now x rs) (picks (is_well r.end) now fresh well) ∙ some.1)
   by_first here there false unwell = on_unwell there where
     -- what is left of the records after one that isn't of such a command
-    on_unwell : ((AllByRecursion IsUnwell rs × (fresh_after now fresh rs ≡ fresh)) ⊎ (HasWell rs × (fresh_after now fresh rs ≡ now)))
-        → (AllByRecursion IsUnwell (r ∷ rs) × (fresh_after now fresh (r ∷ rs) ≡ fresh)) ⊎ (HasWell (r ∷ rs) × (fresh_after now fresh (r ∷ rs) ≡ now))
+    on_unwell : ((AllByRecursion IsNotWell rs × (fresh_after now fresh rs ≡ fresh)) ⊎ (HasWell rs × (fresh_after now fresh rs ≡ now)))
+        → (AllByRecursion IsNotWell (r ∷ rs) × (fresh_after now fresh (r ∷ rs) ≡ fresh)) ⊎ (HasWell (r ∷ rs) × (fresh_after now fresh (r ∷ rs) ≡ now))
     on_unwell (inl none) = inl ((unwell, none.0), ap (λ x. fresh_after now x rs) (picks_other (is_well r.end) now fresh unwell) ∙ none.1)
     on_unwell (inr ((front, x, later, order, well), e)) =
         inr ((r ∷ front, x, later, ap (λ xs. r ∷ xs) order, well), ap (λ x. fresh_after now x rs) (picks_other (is_well r.end) now fresh unwell) ∙ e)
 
 -- a command that isn't sent wasn't answered well
-skips_unwell : (p : Progress) (m : Moment) (mark : Mark) (list : List Task) → AllByRecursion IsUnwell (skips_first p m mark list)
+skips_unwell : (p : Progress) (m : Moment) (mark : Mark) (list : List Task) → AllByRecursion IsNotWell (skips_first p m mark list)
 skips_unwell p m mark [] = tt
 skips_unwell p m mark (task ∷ others) = by_test p.missed where
   -- the lemma above, by whether the cycle is missed
-  by_test : (b : Bool) → AllByRecursion IsUnwell (skips_first (record p { missed = b }) m mark (task ∷ others))
+  by_test : (b : Bool) → AllByRecursion IsNotWell (skips_first (record p { missed = b }) m mark (task ∷ others))
   by_test true = (refl, tt)
   by_test false = (refl, tt)
 
 -- a command that is lost wasn't answered well
-lost_unwell : (reads : Asked → List ℕ → Reading) (utc : ℕ) (marks : List (Option Mark)) (ps : List (Pending Asked)) → AllByRecursion IsUnwell (records_of reads utc marks (map lost ps))
+lost_unwell : (reads : Asked → List ℕ → Reading) (utc : ℕ) (marks : List (Option Mark)) (ps : List (Pending Asked)) → AllByRecursion IsNotWell (records_of reads utc marks (map lost ps))
 lost_unwell reads utc [] ps = tt
 lost_unwell reads utc (mark ∷ marks) [] = tt
 lost_unwell reads utc (None ∷ marks) (p ∷ ps) = lost_unwell reads utc marks ps
@@ -99,7 +100,7 @@ lost_unwell reads utc (Some mark ∷ marks) (p ∷ ps) = (refl, lost_unwell read
 
 -- an act wrote records of which none is of a command that was answered well
 abbrev Plainly : Model → Act → Model → Type 0
-Plainly s act t = (rs : List Record) × (t.records ≡ s.records ++ rs) × AllByRecursion IsUnwell rs × (t.fresh ≡ least_told s.fresh (act ∷ []))
+Plainly s act t = (rs : List Record) × (t.records ≡ s.records ++ rs) × AllByRecursion IsNotWell rs × (t.fresh ≡ least_told s.fresh (act ∷ []))
 
 -- an act is a read that gave bytes, and wrote records of which one is of a command that was answered well
 abbrev Well : Model → Act → Model → Type 0
@@ -141,7 +142,7 @@ gave_fresh plan until s bytes m =
           → Freshly s (Gave bytes m) (piece_at plan until bytes m s)
       by_case (rs, order, fresh, at) = by_records (fresh_cases m.elapsed (min s.fresh m.elapsed) rs) where
         -- the lemma above, by whether one of them is of a command that was answered well
-        by_records : ((AllByRecursion IsUnwell rs × (fresh_after m.elapsed (min s.fresh m.elapsed) rs ≡ min s.fresh m.elapsed))
+        by_records : ((AllByRecursion IsNotWell rs × (fresh_after m.elapsed (min s.fresh m.elapsed) rs ≡ min s.fresh m.elapsed))
             ⊎ (HasWell rs × (fresh_after m.elapsed (min s.fresh m.elapsed) rs ≡ m.elapsed))) → Freshly s (Gave bytes m) (piece_at plan until bytes m s)
         by_records (inl none) = inl (rs, order, none.0, fresh ∙ none.1)
         by_records (inr some) = inr (rs, order, some.0, bytes, m, refl, fresh ∙ some.1)
@@ -176,7 +177,7 @@ losing_fresh s act true t (inl (rs, order, unwell, fresh)) =
     inl (
       rs ++ more,
       ap (λ xs. xs ++ more) order ∙ append_assoc s.records rs more,
-      all_append IsUnwell rs more unwell none,
+      all_append IsNotWell rs more unwell none,
       unwell_same t.progress.moment.elapsed t.fresh more none ∙ fresh,
     )
 losing_fresh s act true t (inr (rs, order, (front, r, later, split, well), bytes, m, is, fresh)) =
@@ -217,13 +218,13 @@ asked-append b (Silent m ∷ xs) ys = asked-append (b || m.stops) xs ys
 asked-append b (x ∷ xs) ys = asked-append b xs ys
 
 -- the model after one act more is the one after that act
-behind_one : (plan : Plan) (commands : List Task) (scope : Scope) (done : List Act) (act : Act)
+pub behind_one : (plan : Plan) (commands : List Task) (scope : Scope) (done : List Act) (act : Act)
     → state_after plan commands scope (done ++ act ∷ []) ≡ after plan commands (state_after plan commands scope done) act
 behind_one plan commands scope done act = after_all-append plan commands (opening plan scope) done (act ∷ [])
 
--- one act more preserves `UnwellSince`
-since_more : (plan : Plan) (commands : List Task) (scope : Scope) (done : List Act) (act : Act) → UnwellSince plan commands scope done
-    → Freshly (state_after plan commands scope done) act (state_after plan commands scope (done ++ act ∷ [])) → UnwellSince plan commands scope (done ++ act ∷ [])
+-- one act more preserves `NoneWellSince`
+since_more : (plan : Plan) (commands : List Task) (scope : Scope) (done : List Act) (act : Act) → NoneWellSince plan commands scope done
+    → Freshly (state_after plan commands scope done) act (state_after plan commands scope (done ++ act ∷ [])) → NoneWellSince plan commands scope (done ++ act ∷ [])
 since_more plan commands scope done act u (inl (rs, order, unwell, fresh)) = record {
   before = u.before;
   behind = u.behind ++ act ∷ [];
@@ -232,7 +233,7 @@ since_more plan commands scope done act u (inl (rs, order, unwell, fresh)) = rec
   start = u.start;
   records = u.records ++ rs;
   written = order ∙ ap (λ xs. xs ++ rs) u.written ∙ append_assoc (state_after plan commands scope u.before).records u.records rs;
-  unwell = all_append IsUnwell u.records rs u.unwell unwell;
+  unwell = all_append IsNotWell u.records rs u.unwell unwell;
   fresh = fresh ∙ ap (λ n. least_told n (act ∷ [])) u.fresh ∙ sym (least-append u.from u.behind (act ∷ []));
 }
 since_more plan commands scope done act u (inr (rs, order, (front, r, later, split, well), bytes, m, is, fresh)) =
@@ -260,10 +261,10 @@ since_more plan commands scope done act u (inr (rs, order, (front, r, later, spl
       fresh = fresh;
     }
 
--- `UnwellSince` holds after each run
-since_stood : (plan : Plan) (commands : List Task) (scope : Scope) (acts : List Act) → Runs plan commands (opening plan scope) acts → UnwellSince plan commands scope acts
+-- `NoneWellSince` holds after each run
+since_stood : (plan : Plan) (commands : List Task) (scope : Scope) (acts : List Act) → Runs plan commands (opening plan scope) acts → NoneWellSince plan commands scope acts
 since_stood plan commands scope acts runs =
-    always plan commands (opening plan scope) (λ (done : List Act) (t : Model). UnwellSince plan commands scope done) (λ done act runs' o u.
+    always plan commands (opening plan scope) (λ (done : List Act) (t : Model). NoneWellSince plan commands scope done) (λ done act runs' o u.
     since_more plan commands scope done act u (subst (λ (t : Model). Freshly (state_after plan commands scope done) act t) (sym (behind_one plan commands scope done act))
     (after_fresh plan commands (state_after plan commands scope done) act o)))
     (record { before = []; behind = []; order = refl; from = 0; start = inl (refl, refl); records = []; written = refl; unwell = tt; fresh = refl }) acts runs
@@ -343,18 +344,18 @@ stops_stopped = stops_at cause.Stopped (inr refl)
 -- What follows a moment at which the run is stale.
 
 -- an act that reads a moment shows no cause
-telling_shows : (act : Act) (why : Cause) → IsTelling act → Shows why act → ⊥
-telling_shows act cause.End o shows = subst IsTelling shows o
-telling_shows act cause.Read o shows = subst IsTelling shows o
-telling_shows act cause.Clock o shows = subst IsTelling shows o
-telling_shows act (cause.Write requests bytes) o shows = subst IsTelling shows.1 o
+telling_shows : (act : Act) (why : Cause) → IsListening act → Shows why act → ⊥
+telling_shows act cause.End o shows = subst IsListening shows o
+telling_shows act cause.Read o shows = subst IsListening shows o
+telling_shows act cause.Clock o shows = subst IsListening shows o
+telling_shows act (cause.Write requests bytes) o shows = subst IsListening shows.1 o
 telling_shows act why o shows = shows
 
 -- an act that reads a moment decides no end
-telling_not : (plan : Plan) (commands : List Task) (s : Model) (act : Act) (at : Phase) (why : Cause) → IsTelling act → Decided plan s at why act → ⊥
+telling_not : (plan : Plan) (commands : List Task) (s : Model) (act : Act) (at : Phase) (why : Cause) → IsListening act → Decided plan s at why act → ⊥
 telling_not plan commands s act at why o (inl failed) = telling_shows act why o failed.1
-telling_not plan commands s act at why o (inr (down, inl (other, is, next, ends))) = subst IsTelling is o
-telling_not plan commands s act at why o (inr (down, inr (is, ends))) = subst IsTelling is o
+telling_not plan commands s act at why o (inr (down, inl (other, is, next, ends))) = subst IsListening is o
+telling_not plan commands s act at why o (inr (down, inr (is, ends))) = subst IsListening is o
 
 -- if the end isn't decided, turns are left, and the run is stale, the next action closes for that
 stale_next : (plan : Plan) (p : Progress) (w : Waiting) (at : Phase) → p.phase ≡ at → end_of at ≡ None → 0 < p.turns → is_stale plan p w ≡ true → action_of plan p w ≡ actions.Close cause.Stale
@@ -396,11 +397,6 @@ nothing_behind plan commands t (act ∷ others) is runs = inr (by_rest others ru
   by_rest : (rest : List Act) → Runs plan commands (after plan commands t act) rest → act ∷ rest ≡ Closed ∷ []
   by_rest [] more = ap (λ a. a ∷ []) closes
   by_rest (x ∷ xs) more = absurd (over_stops plan commands (after plan commands t act) x more.0 cause.Stale over)
-
--- the acts of a run after a front of it are a run from there on
-runs_behind : (plan : Plan) (commands : List Task) (s : Model) (front later : List Act) → Runs plan commands s (front ++ later) → Runs plan commands (after_all plan commands s front) later
-runs_behind plan commands s [] later runs = runs
-runs_behind plan commands s (act ∷ front) later runs = runs_behind plan commands (after plan commands s act) front later runs.1
 
 -- the first moment read at which a run with turns left is stale ends it
 pub ends_once_stale : EndsOnceStale

@@ -66,7 +66,7 @@ settled_told reads commands utc (m ∷ ms) [] ys h = tt
 settled_told reads commands utc (None ∷ ms) (s ∷ ss) ys h = settled_told reads commands utc ms ss ys h.1
 settled_told reads commands utc (Some mark ∷ ms) (s ∷ ss) ys h = (record_told reads commands utc mark s h.0, settled_told reads commands utc ms ss ys h.1)
 
--- a command that isn't sent wasn't sent
+-- a command that is recorded as missed or skipped wasn't sent
 pub unsent_end : (b : Bool) → went_out (if b then Missed else Skipped) ≡ false
 unsent_end true = refl
 unsent_end false = refl

@@ -1,9 +1,10 @@
 -- Tests of numbers, and a clock that goes on from act to act. An act is one call on the link, with its result.
-use Rattle.std.proofs.Common.{◌≡◌, inl, inr, ℕ, ◌<◌, ◌≤◌, ◌&&◌, ◌||◌, Bool, true, false, List, [], ◌∷◌, ◌++◌, min, nat_le, if◌then◌else◌, refl, sym, ap, ◌∙◌, arith}
-use Rattle.std.proofs.lemmas.Bool.Decides.{leb_tells}
+use Rattle.std.proofs.Common.{◌≡◌, inl, inr, ℕ, ◌<◌, ◌≤◌, ◌&&◌, ◌||◌, Bool, true, false, not, List, [], ◌∷◌, ◌++◌, min, nat_eq, nat_le, if◌then◌else◌, refl, sym, ap, ◌∙◌, arith}
+use Rattle.std.proofs.lemmas.Bool.Decides.{leb_tells, nat_tests}
 use Rattle.gc_links.specs.Acts.{Act, Told, Gave, Silent}
 use Rattle.gc_links.specs.declared.link.Moment.{Moment}
 use Rattle.gc_station.specs.Cycles.{ClockRises}
+use Rattle.gc_station.specs.Silences.{latest}
 use Rattle.gc_station.specs.declared.progress.Progress.{Progress}
 
 -- Tests of numbers.
@@ -19,6 +20,10 @@ lt_of a b e = elim (leb_tells a b) as (λ _. b < a) [ inl is ↦ let bad : true 
 -- a cycle that isn't the first is due only by its moment
 pub due_since : (first due : Bool) → first ≡ false → (if first then true else due) ≡ true → due ≡ true
 due_since first due e d = sym (ap (λ (b : Bool). if b then true else due) e) ∙ d
+
+-- a number above 0 isn't 0
+pub not_none : (n : ℕ) → 0 < n → nat_eq n 0 ≡ false
+not_none n some = grind (arith, nat_tests, some)
 
 -- if the test b holds, the first of two values is chosen
 pub picks : {A : Type 0} (b : Bool) (x y : A) → b ≡ true → (if b then x else y) ≡ x
@@ -44,6 +49,11 @@ or_second false b e none = e
 -- if the first of two tests holds, both do exactly if the second does
 pub and_second : (a b : Bool) → a ≡ true → (a && b) ≡ b
 and_second a b e = ap (λ (c : Bool). c && b) e
+
+-- if the negation of a test holds, the test doesn't
+pub not_true : (b : Bool) → not b ≡ true → b ≡ false
+not_true true e = cc
+not_true false e = refl
 
 -- a test isn't true and false
 pub not_both : (b : Bool) → b ≡ true → b ≡ false → ⊥
@@ -89,16 +99,8 @@ rises_front now (Gave bytes m ∷ xs) act h = (h.0, h.1, rises_front m.elapsed x
 rises_front now (Silent m ∷ xs) act h = (h.0, h.1, rises_front m.elapsed xs act h.2)
 rises_front now (x ∷ xs) act h = rises_front now xs act h
 
--- the moment that these acts read last; if they read none, `now`
-abbrev pub last_of : ℕ → List Act → ℕ
-last_of now [] = now
-last_of now (Told m ∷ acts) = last_of m.elapsed acts
-last_of now (Gave bytes m ∷ acts) = last_of m.elapsed acts
-last_of now (Silent m ∷ acts) = last_of m.elapsed acts
-last_of now (act ∷ acts) = last_of now acts
-
 -- if the clock doesn't go back in acts, it doesn't at the last of them
-pub rises_last : (now : ℕ) (xs : List Act) (act : Act) → ClockRises now (xs ++ act ∷ []) → ClockRises (last_of now xs) (act ∷ [])
+pub rises_last : (now : ℕ) (xs : List Act) (act : Act) → ClockRises now (xs ++ act ∷ []) → ClockRises (latest now xs) (act ∷ [])
 rises_last now [] act h = h
 rises_last now (Told m ∷ xs) act h = rises_last m.elapsed xs act h.2
 rises_last now (Gave bytes m ∷ xs) act h = rises_last m.elapsed xs act h.2
@@ -106,15 +108,15 @@ rises_last now (Silent m ∷ xs) act h = rises_last m.elapsed xs act h.2
 rises_last now (x ∷ xs) act h = rises_last now xs act h
 
 -- with one act more, the moment read last is the act's or, if it reads none, the one read last before it
-pub last_more : (now : ℕ) (xs : List Act) (act : Act) → last_of now (xs ++ act ∷ []) ≡ last_of (last_of now xs) (act ∷ [])
-last_more now [] act = refl
-last_more now (Told m ∷ xs) act = last_more m.elapsed xs act
-last_more now (Gave bytes m ∷ xs) act = last_more m.elapsed xs act
-last_more now (Silent m ∷ xs) act = last_more m.elapsed xs act
-last_more now (x ∷ xs) act = last_more now xs act
+pub latest_more : (now : ℕ) (xs : List Act) (act : Act) → latest now (xs ++ act ∷ []) ≡ latest (latest now xs) (act ∷ [])
+latest_more now [] act = refl
+latest_more now (Told m ∷ xs) act = latest_more m.elapsed xs act
+latest_more now (Gave bytes m ∷ xs) act = latest_more m.elapsed xs act
+latest_more now (Silent m ∷ xs) act = latest_more m.elapsed xs act
+latest_more now (x ∷ xs) act = latest_more now xs act
 
 -- the moment after an act is the one read last
-pub last_ticks : (p q : Progress) (act : Act) → Ticks p act q → q.moment.elapsed ≡ last_of p.moment.elapsed (act ∷ [])
+pub last_ticks : (p q : Progress) (act : Act) → Ticks p act q → q.moment.elapsed ≡ latest p.moment.elapsed (act ∷ [])
 last_ticks p q (Told m) t = ap (λ (x : Moment). x.elapsed) t.0
 last_ticks p q (Gave bytes m) t = ap (λ (x : Moment). x.elapsed) t.0
 last_ticks p q (Silent m) t = ap (λ (x : Moment). x.elapsed) t.0

@@ -27,23 +27,24 @@ use Rattle.gc_station.specs.Progressing.{turned, is_over, loses_all}
 use Rattle.gc_station.specs.Records.{Record}
 use Rattle.gc_station.specs.Runs.{state_after}
 use Rattle.gc_station.specs.Model.{Model, opening, action_at, waiting_of, with_progress, Performs, moved, losing, after, after_all, Runs}
-use Rattle.gc_station.specs.Tries.{IsTried, IsEnding, ends_in, opens_in, SettlesNone, NoneSettled, EndsSettled, AllTried}
+use Rattle.gc_station.specs.Tries.{IsTried, IsEnding, endings_in, openings_in, SettlesNone, NoneSettled, EndsSettled, AllTried}
 use Rattle.gc_station.proofs.Closings.{runs_split, needs_of, end_of, Decided, after_decided, done_sent}
 use Rattle.gc_station.proofs.Counts.{ended_progress}
 use Rattle.gc_station.proofs.Always.{always}
 use Rattle.gc_station.proofs.EachRun.{fine_after, fine_stood}
-use Rattle.gc_station.proofs.Facts.{either_true, action_for}
+use Rattle.gc_station.proofs.Facts.{either_true, action_for, never_true}
 use Rattle.gc_station.proofs.Invariant.{Invariant}
 use Rattle.gc_station.proofs.Going.{after_all-append}
-use Rattle.gc_station.proofs.Growing.{losing_records, moved_grew}
 use Rattle.gc_station.proofs.Opens.{Counted, Quits, counted_moved}
-use Rattle.gc_station.proofs.Ticking.{not_both}
+use Rattle.gc_station.proofs.Ticking.{not_both, not_true}
 use Rattle.gc_station.proofs.Records.{Grew}
 use Rattle.gc_station.proofs.Row.{row_of, row_losing, row_read}
-use Rattle.gc_station.proofs.Turns.{over_stays, up_count}
+use Rattle.gc_station.proofs.Turns.{over_stays, up_count, up_least}
 use Rattle.gc_station.proofs.Walk.{moved_changed}
 use Rattle.gc_station.specs.Scopes.{Scope}
 use Rattle.gc_station.proofs.TriesTaken.{Hears, Took, took_moved, untook}
+use Rattle.gc_station.proofs.Stopping.{behind_one}
+use Rattle.gc_station.proofs.SentAt.{after_grew}
 
 -- A read gives tries back where, and only where, it settled a command.
 
@@ -107,13 +108,9 @@ kept_marks : (plan : Plan) (commands : List Task) (s t : Model) (b : Bool) → l
     → (commands_in (losing b t).marks ≡ commands_in t.marks) ⊎ (commands_in s.marks ≡ 0)
 kept_marks plan commands s t false e goes begins fine = inl refl
 kept_marks plan commands s t true e goes begins fine =
-    let new = fine.begins (begins (negated (has_begun t.progress) (either_true (not (has_begun t.progress)) (is_over t.progress) e goes))) in
+    let new = fine.begins (begins (not_true (has_begun t.progress) (either_true (not (has_begun t.progress)) (is_over t.progress) e goes))) in
     let none : length s.marks ≡ 0 = fine.paired ∙ ap (λ (c : ById Asked). length c.waiting) new in
-    inr (ap commands_in (nil_from_length s.marks none)) where
-      -- if the negation of a test holds, the test doesn't
-      negated : (b : Bool) → not b ≡ true → b ≡ false
-      negated true e = cc
-      negated false e = refl
+    inr (ap commands_in (nil_from_length s.marks none))
 
 -- a read that gave bytes does what `Settling` says
 gave_settles : (plan : Plan) (commands : List Task) (s t u : Model) → Invariant plan commands s → Invariant plan commands u → Hears plan s t → Grew s.records u.records
@@ -128,7 +125,7 @@ gave_settles plan commands s t u fine fine' h grew same row kept =
 
 -- the connections that ended, or couldn't be made, among acts and one more are those among the acts, and the one of the last act,
 -- if it has one
-ends_more : (xs : List Act) (act : Act) → ends_in (xs ++ act ∷ []) ≡ ends_in xs + ends_in (act ∷ [])
+ends_more : (xs : List Act) (act : Act) → endings_in (xs ++ act ∷ []) ≡ endings_in xs + endings_in (act ∷ [])
 ends_more [] act = omega arith
 ends_more (Closed ∷ xs) act = let e = ends_more xs act in omega (arith, e)
 ends_more (Unopened ∷ xs) act = let e = ends_more xs act in omega (arith, e)
@@ -136,7 +133,7 @@ ends_more (x ∷ xs) act = ends_more xs act
 
 -- the connections that were asked for among acts and one more are those among the acts, and the one of the last act, if it asks
 -- for one
-opens_more : (xs : List Act) (act : Act) → opens_in (xs ++ act ∷ []) ≡ opens_in xs + opens_in (act ∷ [])
+opens_more : (xs : List Act) (act : Act) → openings_in (xs ++ act ∷ []) ≡ openings_in xs + openings_in (act ∷ [])
 opens_more [] act = omega arith
 opens_more (Opened ∷ xs) act = let e = opens_more xs act in omega (arith, e)
 opens_more (Unopened ∷ xs) act = let e = opens_more xs act in omega (arith, e)
@@ -160,13 +157,13 @@ record Trying (plan : Plan) (commands : List Task) (scope : Scope) (tries : ℕ)
   order : acts ≡ before ++ behind
   since : (before ≡ []) ⊎ EndsSettled plan commands scope before
   none : NoneSettled plan commands (state_after plan commands scope before) behind
-  left : plan.retries ≤ tries + ends_in behind
+  left : plan.retries ≤ tries + endings_in behind
   most : held ≤ 1
   first : before ≡ [] → held ≡ 0
-  opens : opens_in behind + held ≡ ends_in behind + up_count up
+  opens : openings_in behind + held ≡ endings_in behind + up_count up
 
 -- `Trying` is preserved by an act at which no command was settled
-abbrev trying_on : (plan : Plan) (commands : List Task) (scope : Scope) (tries tries' : ℕ) (up up' : Bool) (acts : List Act) (act : Act) → tries ≤ tries' + ends_in (act ∷ []) → Counted up act up'
+abbrev trying_on : (plan : Plan) (commands : List Task) (scope : Scope) (tries tries' : ℕ) (up up' : Bool) (acts : List Act) (act : Act) → tries ≤ tries' + endings_in (act ∷ []) → Counted up act up'
     → SettlesNone (state_after plan commands scope acts) act (after plan commands (state_after plan commands scope acts) act)
     → Trying plan commands scope tries up acts → Trying plan commands scope tries' up' (acts ++ act ∷ [])
 trying_on plan commands scope tries tries' up up' acts act took counted settles t =
@@ -176,8 +173,8 @@ trying_on plan commands scope tries tries' up up' acts act took counted settles 
     ap (state_after plan commands scope) t.order ∙ after_all-append plan commands (opening plan scope) t.before t.behind in
     let enough = t.left in
     let even = t.opens in
-    let least : plan.retries ≤ tries' + ends_in (t.behind ++ act ∷ []) = omega (arith, ends, took, enough) in
-    let level : opens_in (t.behind ++ act ∷ []) + t.held ≡ ends_in (t.behind ++ act ∷ []) + up_count up' = omega (arith, ends, opens, counted, even) in
+    let least : plan.retries ≤ tries' + endings_in (t.behind ++ act ∷ []) = omega (arith, ends, took, enough) in
+    let level : openings_in (t.behind ++ act ∷ []) + t.held ≡ endings_in (t.behind ++ act ∷ []) + up_count up' = omega (arith, ends, opens, counted, even) in
     record {
       before = t.before;
       behind = t.behind ++ act ∷ [];
@@ -203,16 +200,11 @@ trying_anew plan commands scope tries up acts bytes m all done settled = record 
   since = inr (record { earlier = acts; piece = bytes; moment = m; order = refl; settled = settled; prepared = done });
   none = tt;
   left = omega (arith, all);
-  most = one up;
+  most = up_least up;
   first = λ e. absurd (some acts e);
   opens = refl;
 } where
-  -- there is at most one connection
-  one : (b : Bool) → up_count b ≤ 1
-  one true = omega arith
-  one false = omega arith
-
-  -- these acts aren't none
+  -- acts that end in a read are some
   some : (xs : List Act) → xs ++ Gave bytes m ∷ [] ≡ [] → ⊥
   some [] e = cc
   some (x ∷ xs) e = cc
@@ -220,19 +212,6 @@ trying_anew plan commands scope tries up acts bytes m all done settled = record 
 -- if the run isn't over, `Trying` holds of the model's tries and its connection
 abbrev Try : Plan → List Task → Scope → List Act → Model → Type 0
 Try plan commands scope acts s = is_over s.progress ≡ false → Trying plan commands scope s.progress.tries (is_up s.progress.phase) acts
-
--- what doesn't hold is false
-goes_on : (b : Bool) → (b ≡ true → ⊥) → b ≡ false
-goes_on true never = absurd (never refl)
-goes_on false never = refl
-
--- an act only adds records
-after_grew : (plan : Plan) (commands : List Task) (s : Model) (act : Act) → Grew s.records (after plan commands s act).records
-after_grew plan commands s act =
-    let t = moved plan commands (action_at plan s) (with_progress turned s) act in
-    let a = moved_grew plan commands (action_at plan s) (with_progress turned s) act in
-    let b = losing_records (loses_all t.progress) t in
-    (a.0 ++ b.0, b.1 ∙ ap (λ xs. xs ++ b.0) a.1 ∙ append_assoc s.records a.0 b.0)
 
 -- `Trying` is preserved by one act, from the model s to u; t is the model before what is outstanding is lost
 try_step : (plan : Plan) (commands : List Task) (scope : Scope) (acts : List Act) (act : Act) (s u : Model) (t : Model) → state_after plan commands scope acts ≡ s
@@ -256,21 +235,16 @@ try_step plan commands scope acts (Gave bytes m) s u t before behind does same t
       (subst (λ (x : Model). SettlesNone x (Gave bytes m) (after plan commands x (Gave bytes m))) (sym before) (subst (λ (x : Model). SettlesNone s (Gave bytes m) x) does none.0)) trying
 try_step plan commands scope acts act s u t before behind does same took counted settling trying =
     trying_on plan commands scope s.progress.tries u.progress.tries (is_up s.progress.phase) (is_up u.progress.phase) acts act
-    (subst (λ (p : Progress). s.progress.tries ≤ p.tries + ends_in (act ∷ [])) (sym same) took)
+    (subst (λ (p : Progress). s.progress.tries ≤ p.tries + endings_in (act ∷ [])) (sym same) took)
     (subst (λ (p : Progress). Counted (is_up s.progress.phase) act (is_up p.phase)) (sym same) counted) tt trying
 
--- a read that gave bytes passes nothing over
+-- a read that gave bytes leaves no command out
 gave_passes : (plan : Plan) (commands : List Task) (action : Action) (s : Model) (act : Act) → Performs commands s action act → ((bytes : List ℕ) × (m : Moment) × (act ≡ Gave bytes m))
     → (moved plan commands action s act).passes ≡ s.passes
 gave_passes plan commands actions.Pass s (Told m) o gave = let other = gave.2 in cc
 gave_passes plan commands actions.Pass s Untold o gave = refl
 gave_passes plan commands actions.Pass s act o gave = absurd o
 gave_passes plan commands action s act o gave = ap (λ (x : Model). x.passes) (moved_changed plan commands action s act)
-
--- the model after one act more is the one after that act
-behind_one : (plan : Plan) (commands : List Task) (scope : Scope) (done : List Act) (act : Act)
-    → state_after plan commands scope (done ++ act ∷ []) ≡ after plan commands (state_after plan commands scope done) act
-behind_one plan commands scope done act = after_all-append plan commands (opening plan scope) done (act ∷ [])
 
 -- after an act that ends a run whether there is a connection or not, the run is over
 quits_over : (plan : Plan) (commands : List Task) (next : Action) (s : Model) (act : Act) → Quits next → is_over (moved plan commands next (with_progress turned s) act).progress ≡ true
@@ -288,7 +262,7 @@ try_after plan commands scope done act o trying not_over =
     let u = after plan commands s act in
     let t = moved plan commands (action_at plan s) (with_progress turned s) act in
     let same = ended_progress t in
-    let goes = goes_on (is_over s.progress) (λ over. over_stays plan commands s act over o) in
+    let goes = never_true (is_over s.progress) (λ over. over_stays plan commands s act over o) in
     let fine = fine_stood plan commands scope done in
     let not_over_mid : is_over t.progress ≡ false = sym (ap is_over same) ∙ not_over in
     try_step plan commands scope done act s u t refl (behind_one plan commands scope done act) refl same (untook plan s t act (took_moved plan commands (action_at plan s) s act o))
@@ -359,7 +333,7 @@ settles_none s t Unopened o = tt
 settles_none s t act o = absurd o
 
 -- an act that ends a connection ends one
-one_end : (act : Act) → IsEnding act → ends_in (act ∷ []) ≡ 1
+one_end : (act : Act) → IsEnding act → endings_in (act ∷ []) ≡ 1
 one_end Closed o = refl
 one_end Unopened o = refl
 one_end act o = absurd o
@@ -370,14 +344,14 @@ all_tried : (plan : Plan) (commands : List Task) (scope : Scope) (acts : List Ac
 all_tried plan commands scope acts last ending counted t =
     let s = state_after plan commands scope acts in
     let one = one_end last ending in
-    let more : 0 ≤ 0 + ends_in (last ∷ []) = omega arith in
+    let more : 0 ≤ 0 + endings_in (last ∷ []) = omega arith in
     let u = trying_on plan commands scope 0 0 (is_up s.progress.phase) false acts last more counted (settles_none s (after plan commands s last) last ending) t in
     let ends = ends_more t.behind last in
-    let left : plan.retries ≤ 0 + ends_in t.behind = t.left in
-    let over : plan.retries < ends_in (t.behind ++ last ∷ []) = omega (arith, ends, one, left) in
-    let even : opens_in (t.behind ++ last ∷ []) + t.held ≡ ends_in (t.behind ++ last ∷ []) + 0 = u.opens in
+    let left : plan.retries ≤ 0 + endings_in t.behind = t.left in
+    let over : plan.retries < endings_in (t.behind ++ last ∷ []) = omega (arith, ends, one, left) in
+    let even : openings_in (t.behind ++ last ∷ []) + t.held ≡ endings_in (t.behind ++ last ∷ []) + 0 = u.opens in
     let most : t.held ≤ 1 = t.most in
-    let enough : plan.retries ≤ opens_in (t.behind ++ last ∷ []) = omega (arith, over, even, most) in
+    let enough : plan.retries ≤ openings_in (t.behind ++ last ∷ []) = omega (arith, over, even, most) in
     record {
       before = u.before;
       behind = u.behind;
@@ -386,7 +360,7 @@ all_tried plan commands scope acts last ending counted t =
       none = u.none;
       ended = over;
       opened = enough;
-      first = λ e. let start : t.held ≡ 0 = t.first e in let all : plan.retries < opens_in (t.behind ++ last ∷ []) = omega (arith, over, even, start) in all;
+      first = λ e. let start : t.held ≡ 0 = t.first e in let all : plan.retries < openings_in (t.behind ++ last ∷ []) = omega (arith, over, even, start) in all;
     }
 
 -- if a run stops for a cause that is one of `IsTried`, which needs all tries used up, at an act that ends a connection, all
@@ -430,7 +404,7 @@ stop_tried plan commands scope acts last why runs stop tried ending = by_decided
 
   -- before the last act the run wasn't over
   goes : is_over s.progress ≡ false
-  goes = goes_on (is_over s.progress) (λ gone. over_stays plan commands s last gone split.1)
+  goes = never_true (is_over s.progress) (λ gone. over_stays plan commands s last gone split.1)
 
   -- the connection that the last act ends, or couldn't make, is counted
   counted : (Quits (action_at plan s) → ⊥) → Counted (is_up s.progress.phase) last false

@@ -18,7 +18,7 @@ use Rattle.gc_station.specs.Deciding.{has_begun}
 use Rattle.gc_station.specs.Marks.{commands_in}
 use Rattle.gc_station.specs.Progressing.{is_spared, turned, moment_noted, time_passed, quieted, closed}
 use Rattle.gc_station.specs.Model.{Model, waiting_of, with_progress, with_moment, lines_completed, after_piece, is_heard, piece_at, Performs, moved, after}
-use Rattle.gc_station.specs.Tries.{ends_in}
+use Rattle.gc_station.specs.Tries.{endings_in}
 use Rattle.gc_station.proofs.Words.{begins_before}
 use Rattle.gc_station.proofs.Walk.{asked_along, came_along, closed_along, moved_changed, quieted_along, walk}
 
@@ -38,10 +38,10 @@ pub record Hears (plan : Plan) (s t : Model) : Type 0 where
 -- try for each connection that ends by it or couldn't be made
 abbrev pub Took : Plan → Model → Act → Model → Type 0
 Took plan s (Gave bytes m) t = Hears plan s t
-Took plan s act t = s.progress.tries ≤ t.progress.tries + ends_in (act ∷ [])
+Took plan s act t = s.progress.tries ≤ t.progress.tries + endings_in (act ∷ [])
 
 -- after a read either fewer commands are outstanding, the setup is done, and all tries are left; or as many or more are
--- outstanding (`b`: fewer do), or the setup isn't done (`on`), and the tries stay
+-- outstanding (`b`: fewer are), or the setup isn't done (`on`), and the tries stay
 given_back : (b on : Bool) (after before retries new old : ℕ) → nat_lt after before ≡ b → new ≡ old
     → ((after < before) × (on ≡ false) × ((if b && not on then retries else new) ≡ retries)) ⊎ (((before ≤ after) ⊎ (on ≡ true)) × ((if b && not on then retries else new) ≡ old))
 given_back true false after before retries new old e same = inl (ltb-true after before e, refl, refl)

@@ -12,7 +12,7 @@ use Rattle.gc_station.specs.declared.progress.Action.TheVariants as actions
 use Rattle.gc_station.specs.declared.progress.Progress.{Progress}
 use Rattle.gc_station.specs.declared.progress.Waiting.{Waiting}
 use Rattle.gc_links.specs.Acts.{Act}
-use Rattle.gc_station.specs.Deciding.{is_up, action_in, action_on, action_of, action_up}
+use Rattle.gc_station.specs.Deciding.{is_up, action_in, action_on, action_of, action_without_turns}
 use Rattle.gc_station.specs.Progressing.{turned, is_finished, is_spared, after_failure, closed, is_over_in, is_over}
 use Rattle.gc_station.specs.Model.{Model, waiting_of, action_at, Performs, moved, with_progress}
 use Rattle.gc_station.specs.Stations.{stepped}
@@ -29,7 +29,7 @@ abbrev pub left_to_do : Progress → ℕ
 left_to_do p = 2 * p.turns + up_count (is_up p.phase)
 
 -- there is at most one connection
-up_least : (b : Bool) → up_count b ≤ 1
+pub up_least : (b : Bool) → up_count b ≤ 1
 up_least true = omega arith
 up_least false = omega arith
 
@@ -48,15 +48,15 @@ pub closed_down : (plan : Plan) (w : Waiting) (why : Cause) (p : Progress) → i
 closed_down plan w why p = closed_along (λ (q : Progress). is_up q.phase ≡ false) plan w why p refl (again_down plan w.commands why p)
 
 -- once all turns are used up, an act closes the connection
-up_closes : (plan : Plan) (commands : List Task) (s t : Model) (up : Bool) (act : Act) → Performs commands t (action_up up) act
-    → (up ≡ true) × (is_up (moved plan commands (action_up up) s act).progress.phase ≡ false)
+up_closes : (plan : Plan) (commands : List Task) (s t : Model) (up : Bool) (act : Act) → Performs commands t (action_without_turns up) act
+    → (up ≡ true) × (is_up (moved plan commands (action_without_turns up) s act).progress.phase ≡ false)
 up_closes plan commands s t true act obeys = (refl, refl)
 up_closes plan commands s t false act obeys = absurd obeys
 
 -- once all turns are used up (z), an act closes the connection, if the end isn't decided yet
 on_closes : (plan : Plan) (commands : List Task) (s t : Model) (p : Progress) (z : Bool) (act : Act) (other : Action) → z ≡ true
-    → Performs commands t (if z then action_up (is_up p.phase) else other) act
-    → (is_up p.phase ≡ true) × (is_up (moved plan commands (if z then action_up (is_up p.phase) else other) s act).progress.phase ≡ false)
+    → Performs commands t (if z then action_without_turns (is_up p.phase) else other) act
+    → (is_up p.phase ≡ true) × (is_up (moved plan commands (if z then action_without_turns (is_up p.phase) else other) s act).progress.phase ≡ false)
 on_closes plan commands s t p true act other e obeys = up_closes plan commands s t (is_up p.phase) act obeys
 on_closes plan commands s t p false act other e obeys = cc
 

@@ -30,12 +30,12 @@ abbrev pub OnLine : Progress → Type 0
 OnLine p = p.chain_unbroken ≡ true → (is_up p.phase ≡ true) × (has_begun p ≡ true) × (p.preparing ≡ false)
 
 -- a failure leaves a connection, or none, as it was
-fails : (up : Bool) (why : Cause) → is_up (if up then phase.Closing why else phase.Over why) ≡ up
+pub fails : (up : Bool) (why : Cause) → is_up (if up then phase.Closing why else phase.Over why) ≡ up
 fails true why = refl
 fails false why = refl
 
 -- after a line feed that was sent there is a connection
-cleared_up : (begun : Bool) → is_up (if begun then phase.Draining else phase.Ready) ≡ true
+pub cleared_up : (begun : Bool) → is_up (if begun then phase.Draining else phase.Ready) ≡ true
 cleared_up true = refl
 cleared_up false = refl
 
@@ -72,7 +72,8 @@ module _ (plan : Plan) (commands : List Task) where
       ) c)
   unbroken_before s (actions.Close why) act obeys c =
       inr (walk plan commands (Was s) (actions.Close why) (with_progress turned s) act obeys
-      (closed_along (λ (q : Progress). q.chain_unbroken ≡ true → s.progress.chain_unbroken ≡ true) plan (waiting_of (with_rest [] (with_progress turned s))) why (turned s.progress) (λ d. cc) (λ d. cc)) c)
+      (closed_along (λ (q : Progress). q.chain_unbroken ≡ true → s.progress.chain_unbroken ≡ true) plan
+      (waiting_of (with_rest [] (with_progress turned s))) why (turned s.progress) (λ d. cc) (λ d. cc)) c)
   unbroken_before s (actions.Stop why) act obeys c = absurd obeys
   unbroken_before s next act obeys c = inr (walk plan commands (Was s) next (with_progress turned s) act obeys (λ m d. d, λ n d. d) c)
 
@@ -89,8 +90,11 @@ module _ (plan : Plan) (commands : List Task) where
       → (moved plan commands o (with_progress turned s) act).progress.chain_unbroken ≡ true → is_up (moved plan commands o (with_progress turned s) act).progress.phase ≡ true
   unbroken_up s actions.Open act obeys up = walk plan commands Up actions.Open (with_progress turned s) act obeys (λ m c. refl, λ n c. cc)
   unbroken_up s actions.Clear act obeys up =
-      walk plan commands Up actions.Clear (with_progress turned s) act obeys
-      (λ m c. cleared_up (has_begun s.progress), λ n c. fails (is_up (cleared (turned s.progress)).phase) (cause.Write (requests_out plan commands (turned s.progress)) n) ∙ cleared_up (has_begun s.progress))
+      walk plan commands Up actions.Clear (with_progress turned s) act obeys (
+        λ m c. cleared_up (has_begun s.progress),
+        λ n c. fails (is_up (cleared (turned s.progress)).phase)
+            (cause.Write (requests_out plan commands (turned s.progress)) n) ∙ cleared_up (has_begun s.progress),
+      )
   unbroken_up s (actions.Read until) act obeys up =
       walk plan commands Up (actions.Read until) (with_progress turned s) act obeys (
         λ bytes m c. ap is_up (came_phase (is_heard s.progress.phase) s.progress.word bytes (with_moment m (with_progress (moment_noted m) (with_progress turned s)))) ∙ up,

@@ -164,19 +164,13 @@ true_more plan commands scope acts act r obeys is = record { answered = answered
         moment = a.moment;
         behind = a.behind ++ act ∷ [];
         order = longer a.before a.request a.between (Gave a.piece a.moment) a.behind a.order;
-        sends = a.sends;
-        cycle = a.cycle;
-        place = a.place;
-        sent = a.sent;
-        put = a.put;
+        own = a.own;
         waits = a.waits;
         in_time = a.in_time;
         front = a.front;
         others = a.others;
         came = a.came;
         id = a.id;
-        earlier = a.earlier;
-        later = a.later;
         written = a.written;
       }
 
@@ -253,7 +247,7 @@ still plan commands scope acts act c marks rs on h = record {
   written = h.written;
 }
 
--- a moment gives a request up if its deadline has come: from `Stayed` to `StayedAt`
+-- a moment times a request out if its deadline has come: from `Stayed` to `StayedAt`
 stays_at : (now : ℕ) (b : Bool) (d : ℕ) (xs : List Act) → Stayed b d xs → StayedAt now (b || nat_le d now) d xs
 stays_at now true d xs told = inl told
 stays_at now false d xs all = by_test (nat_le d now) refl where
@@ -262,8 +256,8 @@ stays_at now false d xs all = by_test (nat_le d now) refl where
   by_test true e = let past : d ≤ now = grind (arith, nat_tests, e) in inr past
   by_test false e = let low : now < d = grind (arith, nat_tests, e) in (all, low)
 
--- a request that was put among acts, with `Stayed` since, was put with `StayedAt` since once the moment `now` has given it up
--- or not
+-- a request that was put among acts, with `Stayed` since, was put with `StayedAt` since once the moment `now` has timed it
+-- out or not
 pub at_moment : (plan : Plan) (commands : List Task) (scope : Scope) (acts : List Act) (now number at id : ℕ) (p : Pending Asked) (mark : Option Mark)
     → WasAsked plan commands scope acts Stayed number at id p mark
     → WasAsked plan commands scope acts (StayedAt now) number at id (expired now p) mark

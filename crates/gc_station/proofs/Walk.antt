@@ -21,8 +21,8 @@ use Rattle.gc_station.specs.declared.progress.Waiting.{Waiting}
 use Rattle.gc_links.specs.Acts.{Act, Told, Untold, Put, Cut, Gave, Silent, Ended, Broke, Closed, Opened, Unopened}
 use Rattle.gc_station.specs.Deciding.{is_quiet}
 use Rattle.gc_station.specs.Marks.{commands_in}
-use Rattle.gc_station.specs.Progressing.{moment_noted, cycle_begun, skipped, failing, opened, after_failure, cleared, asking, null_sent, renewed, sent, line_asked, lines_asked, pause_ended, drained, quieted, time_passed, reckoned_early, ended_for, closed, setup_sent}
-use Rattle.gc_station.specs.Model.{Model, waiting_of, place_next, mark_next, requests_out, request_text, null_text, first_text, is_chained_after_next, others_after_next, skip_listed, with_listed, after_pass, Puts, Performs, is_heard, with_progress, with_moment, with_rest, with_records, asks_null, asks_first, asks_next, skips, line_came, lines_came, lines_completed, piece_asked, after_piece, reckoned, piece_at, after_read, after_put, after_close, moved, cycle_length, mark_setup, text_or_null, asks_or_null, asks_setup}
+use Rattle.gc_station.specs.Progressing.{moment_noted, cycle_begun, skipped, failing, opened, after_failure, cleared, request_noted, null_sent, renewed, sent, line_synchronizing, lines_synchronizing, pause_ended, drained, quieted, time_passed, reckoned_early, ended_for, closed, setup_sent}
+use Rattle.gc_station.specs.Model.{Model, waiting_of, place_next, mark_next, requests_out, request_text, null_text, first_text, is_chained_after_next, others_after_next, skip_listed, with_listed, after_pass, Puts, Performs, is_heard, with_progress, with_moment, with_rest, with_records, asks_null, asks_first, asks_next, skips, line_came, lines_came, lines_completed, piece_synchronizing, after_piece, reckoned, piece_at, after_read, after_put, after_close, moved, cycle_length, mark_setup, text_or_null, asks_or_null, asks_setup}
 
 -- Parts of an act.
 
@@ -32,14 +32,14 @@ lines_along P step s [] p = p
 lines_along P step s (line ∷ others) p = lines_along P step (line_came s line) others (step s line p)
 
 -- a fact of progresses that each line heard while a station synchronizes keeps is kept by all of them
-pub asked_along : (P : Progress → Type 0) → ((q : Progress) (line : List ℕ) → P q → P (line_asked q line)) → (p : Progress) (lines : List (List ℕ)) → P p → P (lines_asked p lines)
+pub asked_along : (P : Progress → Type 0) → ((q : Progress) (line : List ℕ) → P q → P (line_synchronizing q line)) → (p : Progress) (lines : List (List ℕ)) → P p → P (lines_synchronizing p lines)
 asked_along P step p [] h = h
-asked_along P step p (line ∷ others) h = asked_along P step (line_asked p line) others (step p line h)
+asked_along P step p (line ∷ others) h = asked_along P step (line_synchronizing p line) others (step p line h)
 
 -- a fact of models that each line keeps is kept by a piece, if it is also if the piece is heard while the station synchronizes,
 -- or discarded
 pub came_along : (P : Model → Type 0) → ((t : Model) (line : List ℕ) → P t → P (line_came t line)) → (heard : Bool) (word piece : List ℕ) (s : Model)
-    → P (with_rest (rest_behind s.rest piece) s) → P (piece_asked piece s) → P s → P (after_piece heard word piece s)
+    → P (with_rest (rest_behind s.rest piece) s) → P (piece_synchronizing piece s) → P s → P (after_piece heard word piece s)
 came_along P step true [] piece s hears begins drops = lines_along P step (with_rest (rest_behind s.rest piece) s) (lines_completed s.rest piece) hears
 came_along P step true (asked ∷ others) piece s hears begins drops = begins
 came_along P step false word piece s hears begins drops = drops
@@ -67,7 +67,12 @@ closed_along P plan w why p ends on = on
 
 -- the model that sent the next command, by its fields
 abbrev pub sending : Plan → List Task → Model → Model
-sending plan commands s = record s { progress = sent (is_chained_after_next commands s.progress) (others_after_next commands s.progress) s.progress; client = (asks_next plan commands s).client; marks = (asks_next plan commands s).marks }
+sending plan commands s = record s {
+  progress = sent (is_chained_after_next commands s.progress) (others_after_next commands s.progress) s.progress;
+  client =
+      (asks_next plan commands s).client;
+  marks = (asks_next plan commands s).marks;
+}
 
 -- the model that sent the first of these commands, by its fields, is that after the send
 first_sent : (next_is_chained : Bool) (behind : ℕ) (mark : Mark) (left : List Task) (s : Model)
@@ -101,19 +106,46 @@ is_prepared plan commands s = first_prepared plan (mark_setup commands s.progres
 
 -- the progress p with those fields of q that a moment changes
 abbrev told_of : Progress → Progress → Progress
-told_of p q = record p { phase = q.phase; moment = q.moment; since = q.since; alive = q.alive; began = q.began; stale = q.stale; stops = q.stops; early = q.early }
+told_of p q = record p { phase = q.phase; moment = q.moment; since = q.since; alive = q.alive; began = q.began; clock_due = q.clock_due; stops = q.stops; early = q.early }
 
 -- the progress p with those fields of q that a request changes
 abbrev asking_of : Progress → Progress → Progress
-asking_of p q = record p { phase = q.phase; alive = q.alive; asked = q.asked; stale = q.stale; behind = q.behind }
+asking_of p q = record p { phase = q.phase; alive = q.alive; asked = q.asked; clock_due = q.clock_due; behind = q.behind }
 
 -- the progress p with those fields of q that an act of this action changes
 abbrev progress_of : Action → Progress → Progress → Progress
 progress_of ReadClock p q = told_of p q
-progress_of Renew p q = record (told_of p q) { word = q.word; again = q.again; asked = q.asked; chain_unbroken = q.chain_unbroken; behind = q.behind; preparing = q.preparing; prepared = q.prepared; attempt = q.attempt }
-progress_of Begin p q = record (told_of p q) { due = q.due; missed = q.missed; left = q.left; unsent = q.unsent; next_is_chained = q.next_is_chained; next_others = q.next_others; chain_unbroken = q.chain_unbroken; preparing = q.preparing }
-progress_of Open p q = record p { phase = q.phase; stale = q.stale; tries = q.tries; pause = q.pause; chain_unbroken = q.chain_unbroken; preparing = q.preparing; prepared = q.prepared; attempt = q.attempt }
-progress_of Clear p q = record p { phase = q.phase; again = q.again; asked = q.asked; stale = q.stale }
+progress_of Renew p q = record (told_of p q) {
+  word = q.word;
+  again = q.again;
+  asked = q.asked;
+  chain_unbroken = q.chain_unbroken;
+  behind = q.behind;
+  preparing = q.preparing;
+  prepared = q.prepared;
+  attempt = q.attempt;
+}
+progress_of Begin p q = record (told_of p q) {
+  due = q.due;
+  missed = q.missed;
+  left = q.left;
+  unsent = q.unsent;
+  next_is_chained = q.next_is_chained;
+  next_others = q.next_others;
+  chain_unbroken = q.chain_unbroken;
+  preparing = q.preparing;
+}
+progress_of Open p q = record p {
+  phase = q.phase;
+  clock_due = q.clock_due;
+  tries = q.tries;
+  pause = q.pause;
+  chain_unbroken = q.chain_unbroken;
+  preparing = q.preparing;
+  prepared = q.prepared;
+  attempt = q.attempt;
+}
+progress_of Clear p q = record p { phase = q.phase; again = q.again; asked = q.asked; clock_due = q.clock_due }
 progress_of Ask p q = record (asking_of p q) { again = q.again }
 progress_of Prepare p q = record (asking_of p q) { prepared = q.prepared; chain_unbroken = q.chain_unbroken }
 progress_of Send p q = record (asking_of p q) { unsent = q.unsent; next_is_chained = q.next_is_chained; next_others = q.next_others; chain_unbroken = q.chain_unbroken; preparing = q.preparing }
@@ -121,7 +153,16 @@ progress_of Skip p q = record (told_of p q) { unsent = q.unsent; next_is_chained
 progress_of Pass p q = record (told_of p q) { unsent = q.unsent; next_is_chained = q.next_is_chained; next_others = q.next_others; chain_unbroken = q.chain_unbroken; preparing = q.preparing }
 progress_of Flush p q = asking_of p q
 progress_of (Read until) p q = record (told_of p q) { word = q.word; again = q.again; asked = q.asked; tries = q.tries; pause = q.pause; behind = q.behind }
-progress_of (Close why) p q = record p { phase = q.phase; stale = q.stale; tries = q.tries; pause = q.pause; chain_unbroken = q.chain_unbroken; preparing = q.preparing; prepared = q.prepared; attempt = q.attempt }
+progress_of (Close why) p q = record p {
+  phase = q.phase;
+  clock_due = q.clock_due;
+  tries = q.tries;
+  pause = q.pause;
+  chain_unbroken = q.chain_unbroken;
+  preparing = q.preparing;
+  prepared = q.prepared;
+  attempt = q.attempt;
+}
 progress_of (Stop why) p q = p
 
 -- the model s with those fields of t that an act of this action changes, but for the progress
@@ -151,8 +192,9 @@ abbrev asked_of : Progress → Progress → Progress
 asked_of p q = record p { word = q.word; again = q.again; alive = q.alive; asked = q.asked; behind = q.behind }
 
 -- lines that are heard while the station synchronizes change what `asked_of` says
-lines_changed : (p : Progress) (lines : List (List ℕ)) → lines_asked p lines ≡ asked_of p (lines_asked p lines)
-lines_changed p lines = asked_along (λ (q : Progress). q ≡ asked_of p q) (λ q line e. subst (λ (r : Progress). line_asked r line ≡ asked_of p (line_asked r line)) (sym e) refl) p lines refl
+lines_changed : (p : Progress) (lines : List (List ℕ)) → lines_synchronizing p lines ≡ asked_of p (lines_synchronizing p lines)
+lines_changed p lines = asked_along (λ (q : Progress). q ≡ asked_of p q)
+    (λ q line e. subst (λ (r : Progress). line_synchronizing r line ≡ asked_of p (line_synchronizing r line)) (sym e) refl) p lines refl
 
 -- the model s with those fields of t that a piece changes
 abbrev piece_of : Model → Model → Model
@@ -168,8 +210,8 @@ gave_changed plan until s bytes m =
     (sym e) refl) heard s.progress.word bytes mid refl (begins mid (lines_completed s.rest bytes) (rest_behind s.rest bytes)) refl in
     subst (λ (u : Model). reckoned plan until n u ≡ changed (Read until) s (reckoned plan until n u)) (sym is) refl where
       -- the lemma above for a piece that is heard while the station synchronizes
-      begins : (t : Model) (lines : List (List ℕ)) (rest : List ℕ) → record t { progress = lines_asked t.progress lines; rest = rest } ≡ piece_of t
-          (record t { progress = lines_asked t.progress lines; rest = rest })
+      begins : (t : Model) (lines : List (List ℕ)) (rest : List ℕ) → record t { progress = lines_synchronizing t.progress lines; rest = rest } ≡ piece_of t
+          (record t { progress = lines_synchronizing t.progress lines; rest = rest })
       begins t lines rest = subst (λ (q : Progress). record t { progress = q; rest = rest } ≡ piece_of t (record t { progress = q; rest = rest })) (sym (lines_changed t.progress lines)) refl
 
 -- a read that gave nothing changes what `changed` says
@@ -244,7 +286,7 @@ Behind plan commands P Skip s =
     (with_records (skips plan commands s.progress (Told m)) s)))))
     × ((n : ℕ) → P Untold (with_progress (failing cause.Clock) (with_records [] s)))
 Behind plan commands P Pass s = ((m : Moment) → P (Told m) (after_pass plan commands s (Told m))) × ((n : ℕ) → P Untold (with_progress (failing cause.Clock) s))
-Behind plan commands P Flush s = Putting P (requests_out plan commands s.progress) (request_text s.client (Table NullProc)) (with_progress asking (asks_null plan s))
+Behind plan commands P Flush s = Putting P (requests_out plan commands s.progress) (request_text s.client (Table NullProc)) (with_progress request_noted (asks_null plan s))
 Behind plan commands P (Read until) s =
     ((bytes : List ℕ) (m : Moment) → P (Gave bytes m) (piece_at plan until bytes m s)) × ((m : Moment) → P (Silent m) (after_read plan until s (Silent m)))
     × P Ended (with_progress (failing cause.End) s) × P Broke (with_progress (failing cause.Read) s) × P Untold (with_progress (failing cause.Clock) s)
@@ -289,7 +331,8 @@ walk plan commands P Skip s act o h = absurd o
 walk plan commands P Pass s (Told m) o h = h.0 m
 walk plan commands P Pass s Untold o h = h.1 0
 walk plan commands P Pass s act o h = absurd o
-walk plan commands P Flush s act o h = put_walk P (requests_out plan commands s.progress) (request_text s.client (Table NullProc)) (λ (x : Model). with_progress asking (asks_null plan x)) s act o h
+walk plan commands P Flush s act o h = put_walk P (requests_out plan commands s.progress) (request_text s.client (Table NullProc))
+    (λ (x : Model). with_progress request_noted (asks_null plan x)) s act o h
 walk plan commands P (Read until) s (Gave bytes m) o h = h.0 bytes m
 walk plan commands P (Read until) s (Silent m) o h = h.1 m
 walk plan commands P (Read until) s Ended o h = h.2

@@ -15,7 +15,7 @@ use Rattle.gc_station.specs.declared.progress.Action.TheVariants as actions
 use Rattle.gc_station.specs.declared.progress.Progress.{Progress}
 use Rattle.gc_station.specs.Beginnings.{lines_heard_at, unanswered_after}
 use Rattle.gc_station.specs.Deciding.{has_begun, is_none_left}
-use Rattle.gc_station.specs.Progressing.{turned, moment_noted, line_asked, lines_asked, time_passed}
+use Rattle.gc_station.specs.Progressing.{turned, moment_noted, line_synchronizing, lines_synchronizing, time_passed}
 use Rattle.gc_station.specs.Reasons.{IsFor}
 use Rattle.gc_station.specs.Model.{Model, waiting_of, with_progress, with_moment, with_rest, lines_completed, is_heard, after_piece, Performs, moved}
 use Rattle.gc_station.proofs.Invariant.{Invariant}
@@ -28,9 +28,9 @@ left_none [] = refl
 left_none (line ∷ others) = left_none others
 
 -- lines that are heard while the station synchronizes leave of the ids what `unanswered_after` says
-word_asked : (p : Progress) (lines : List (List ℕ)) → (lines_asked p lines).word ≡ unanswered_after p.word lines
+word_asked : (p : Progress) (lines : List (List ℕ)) → (lines_synchronizing p lines).word ≡ unanswered_after p.word lines
 word_asked p [] = refl
-word_asked p (line ∷ others) = word_asked (line_asked p line) others
+word_asked p (line ∷ others) = word_asked (line_synchronizing p line) others
 
 -- a piece leaves of the ids what its lines leave, if they are heard
 word_came : (h : Bool) (word piece : List ℕ) (s : Model) → s.progress.word ≡ word → (after_piece h word piece s).progress.word ≡ unanswered_after word (if h then lines_completed s.rest piece else [])

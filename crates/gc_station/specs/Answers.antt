@@ -32,6 +32,22 @@ deadline_after plan commands scope acts =
     let s = state_after plan commands scope acts in
     later s.progress.moment.elapsed (first_deadline (drop (place_out plan commands s) commands))
 
+-- after these acts, this act puts the very request of record `r`: the station's next action is a send; the cycle and the place
+-- are the record's; the moment read last is the one that the record has as `sent`; and what is put is the request line of the
+-- record's call
+pub record IsOwnRequest (plan : Plan) (commands : List Task) (scope : Scope) (acts : List Act) (act : Act) (r : Record) : Type 0 where
+  pub sends : IsSending plan (state_after plan commands scope acts)
+  pub cycle : r.cycle ≡ cycle_out plan (state_after plan commands scope acts)
+  pub place : r.place ≡ place_out plan commands (state_after plan commands scope acts)
+  pub sent : r.sent ≡ Some (state_after plan commands scope acts).progress.moment.utc
+  pub put : Puts (request_text (state_after plan commands scope acts).client r.command.call) act
+
+-- after these acts, this act writes a record
+pub record IsWrittenAt (plan : Plan) (commands : List Task) (scope : Scope) (acts : List Act) (act : Act) (r : Record) : Type 0 where
+  pub earlier : List Record
+  pub later : List Record
+  pub written : (state_after plan commands scope (acts ++ act ∷ [])).records ≡ (state_after plan commands scope acts).records ++ (earlier ++ r ∷ later)
+
 -- the acts are, in this order: `before`; `request`, which puts the request of the record r, of its cycle and place, where the
 -- moment read last is the one that the record has for it; `between`, in which no moment at or past the request's deadline is
 -- read; a read before that deadline, whose piece completes `line`, with the request's id; and `behind`. At that read r is
@@ -44,21 +60,14 @@ pub record IsAnsweredIn (plan : Plan) (commands : List Task) (scope : Scope) (ac
   pub moment : Moment
   pub behind : List Act
   pub order : acts ≡ before ++ request ∷ (between ++ Gave piece moment ∷ behind)
-  pub sends : IsSending plan (state_after plan commands scope before)
-  pub cycle : r.cycle ≡ cycle_out plan (state_after plan commands scope before)
-  pub place : r.place ≡ place_out plan commands (state_after plan commands scope before)
-  pub sent : r.sent ≡ Some (state_after plan commands scope before).progress.moment.utc
-  pub put : Puts (request_text (state_after plan commands scope before).client r.command.call) request
+  pub own : IsOwnRequest plan commands scope before request r
   pub waits : AllByRecursion (ReadsBefore (deadline_after plan commands scope before)) between
   pub in_time : moment.elapsed < deadline_after plan commands scope before
   pub front : List (List ℕ)
   pub others : List (List ℕ)
   pub came : lines_completed (state_after plan commands scope (before ++ request ∷ between)).rest piece ≡ front ++ line ∷ others
   pub id : heard line ≡ Some (state_after plan commands scope before).client.next
-  pub earlier : List Record
-  pub later : List Record
-  pub written : (state_after plan commands scope (before ++ request ∷ (between ++ Gave piece moment ∷ []))).records
-      ≡ (state_after plan commands scope (before ++ request ∷ between)).records ++ (earlier ++ r ∷ later)
+  pub written : IsWrittenAt plan commands scope (before ++ request ∷ between) (Gave piece moment) r
 
 -- the line of the reply, for a command that a reply in time ended: as answered, unreadable or elsewhere. None for any other
 -- ending

@@ -22,8 +22,8 @@ code_of reads call (Answered line) = code_in (reads call line)
 code_of reads call Late = None
 code_of reads call Lost = None
 
--- whether a command of an attempt ended as its rule names, if this is the one that ended last: it did, or one before it, unless
--- the attempt begins with it
+-- whether a command of the current attempt has ended as its rule names, after one more has ended: this one, or, unless the
+-- attempt begins with it, one before it (`listed`)
 abbrev pub listed_after : Bool → Expected → Option ℕ → End → Bool
 listed_after listed expected code end = (if nat_eq expected.turn.link 0 then false else listed) || is_named expected.again code end
 

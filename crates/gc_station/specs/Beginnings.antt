@@ -3,17 +3,15 @@
 -- line feed; if the station had synchronized before it was made, the connection is drained, too, until it is quiet. The `word`
 -- of a station is the list of the ids of the null procedures that aren't answered yet, in order. An act is one call on the
 -- link, with its result.
-use Rattle.std.specs.Prelude.{◌≡◌, ℕ, true, false, List, [], ◌∷◌, ◌++◌, length, if◌then◌else◌}
+use Rattle.std.specs.Prelude.{◌≡◌, ℕ, true, false, List, [], ◌∷◌, ◌++◌, if◌then◌else◌}
 use Rattle.std.specs.List.{AllByRecursion, filter_map}
 use Rattle.gc_client.specs.Beginning.{IsSubsequence, the_word, left_by}
-use Rattle.gc_client.specs.Rule.{deadlines, fresh, heard}
-use Rattle.gc_client.specs.declared.window.TheConstants.{WINDOW}
+use Rattle.gc_client.specs.Rule.{fresh, heard}
 use Rattle.gc_texts.specs.declared.tasks.Task.{Task}
 use Rattle.gc_station.specs.declared.plan.Plan.{Plan}
-use Rattle.gc_station.specs.declared.progress.Action.TheVariants.{Renew}
-use Rattle.gc_links.specs.declared.link.Moment.{Moment}
-use Rattle.gc_links.specs.Acts.{Act, Told, Put, Gave, Opened}
+use Rattle.gc_links.specs.Acts.{Act, Put, Gave, Opened}
 use Rattle.gc_station.specs.Deciding.{has_begun}
+use Rattle.gc_station.specs.Ends.{Resynchronizes}
 use Rattle.gc_station.specs.Quiet.{IsAsking, IsRequest, IsQuietFirst, StaysConnected}
 use Rattle.gc_station.specs.Runs.{state_after}
 use Rattle.gc_station.specs.Scopes.{Scope}
@@ -37,7 +35,7 @@ unanswered_after word (line ∷ others) = unanswered_after (left_by word (heard 
 
 -- where, after the acts `earlier` and then `between`, a command is sent, or the null procedure that follows commands which have
 -- all timed out: the ids that weren't answered after `earlier` are, in order, among the ids of the lines that were heard in
--- `between`. So where `earlier` ends at the start of a run, or if the station resynchronizes, all eight ids were heard in
+-- `between`. So if `earlier` ends at the start of a run, or where the station resynchronizes, all eight ids were heard in
 -- `between`
 abbrev pub NoneBeforeTheLastAnswer : Type 0
 NoneBeforeTheLastAnswer =
@@ -55,14 +53,9 @@ pub record IsSynchronizing (plan : Plan) (commands : List Task) (scope : Scope) 
   pub left : (state_after plan commands scope (acts ++ act ∷ [])).progress.word
       ≡ unanswered_after (state_after plan commands scope acts).progress.word (lines_heard_at (state_after plan commands scope acts) act)
 
--- at an act a station resynchronizes: it reads the clock where seven are outstanding, all of them timed out; then nothing is
--- outstanding, and no null procedure is answered
+-- at an act a station resynchronizes, as `Resynchronizes` says; then nothing is outstanding, and no null procedure is answered
 pub record IsResynchronizing (plan : Plan) (commands : List Task) (scope : Scope) (acts : List Act) (act : Act) : Type 0 where
-  pub renews : action_at plan (state_after plan commands scope acts) ≡ Renew
-  pub moment : Moment
-  pub told : act ≡ Told moment
-  pub seven : length (state_after plan commands scope acts).client.waiting ≡ WINDOW
-  pub given_up : deadlines (state_after plan commands scope acts).client.waiting ≡ []
+  pub resynchronizes : Resynchronizes plan commands scope acts act
   pub word : (state_after plan commands scope (acts ++ act ∷ [])).progress.word ≡ the_word
   pub client : (state_after plan commands scope (acts ++ act ∷ [])).client ≡ fresh
 

@@ -1,12 +1,12 @@
 -- Why each act is made, and why a connection is closed: this project's own. An act is one call on the link, with its result.
-use Rattle.std.specs.Prelude.{◌≡◌, ◌⊎◌, ℕ, false, List, [], ◌∷◌, ◌++◌}
+use Rattle.std.specs.Prelude.{◌≡◌, ◌⊎◌, ◌≤◌, ℕ, false, List, [], ◌∷◌, ◌++◌, length}
 use Rattle.gc_client.specs.Rule.{fresh}
 use Rattle.gc_texts.specs.declared.tasks.Task.{Task}
 use Rattle.gc_station.specs.declared.cause.Cause.{Cause}
 use Rattle.gc_station.specs.declared.cause.Cause.TheVariants as cause
 use Rattle.gc_station.specs.declared.plan.Plan.{Plan}
 use Rattle.gc_station.specs.declared.progress.Action.{Action}
-use Rattle.gc_station.specs.declared.progress.Action.TheVariants.{Ask, Close}
+use Rattle.gc_station.specs.declared.progress.Action.TheVariants.{Ask, Close, Stop}
 use Rattle.gc_station.specs.declared.progress.Progress.{Progress}
 use Rattle.gc_station.specs.declared.progress.Waiting.{Waiting}
 use Rattle.gc_links.specs.Acts.{Act, Untold, Cut, Ended, Broke, Closed, Unopened}
@@ -14,7 +14,7 @@ use Rattle.gc_station.specs.Deciding.{is_up}
 use Rattle.gc_station.specs.Progressing.{is_finished, is_spared}
 use Rattle.gc_station.specs.Reasons.{IsFor, IsAtItsEnd}
 use Rattle.gc_station.specs.Runs.{state_after}
-use Rattle.gc_station.specs.Model.{Model, waiting_of, action_at, Performs}
+use Rattle.gc_station.specs.Model.{Model, waiting_of, action_at, opening, Performs, Runs}
 use Rattle.gc_station.specs.Scopes.{Scope}
 
 -- if a null procedure of a synchronization is sent nothing is outstanding, and the client is new: the first command after the
@@ -69,7 +69,7 @@ EndsDisconnected plan p w next why act =
     ((other : Cause) × (act ≡ Closed) × (next ≡ Close other) × EndsAfter plan p w.commands other why)
     ⊎ ((act ≡ Unopened) × EndsAfter plan p w.commands cause.Open why)
 
--- an act ends a run for a cause: a call failed if there was no connection, or the connection is gone, and no other is made
+-- an act ends a run for a cause: a call failed while there was no connection, or the connection is gone, and no other is made
 abbrev pub Ends : Plan → Model → Cause → Act → Type 0
 Ends plan s why act = ((is_up s.progress.phase ≡ false) × Shows why act) ⊎ EndsDisconnected plan s.progress (waiting_of s) (action_at plan s) why act
 
@@ -78,3 +78,10 @@ pub record StopsForACause (plan : Plan) (commands : List Task) (scope : Scope) (
   pub down : is_up (state_after plan commands scope acts).progress.phase ≡ false
   pub shown : ((why ≡ cause.Turns) × ((state_after plan commands scope acts).progress.turns ≡ 0))
       ⊎ ((earlier : List Act) × (last : Act) × (acts ≡ earlier ++ last ∷ []) × Ends plan (state_after plan commands scope earlier) why last)
+
+-- a connection is closed, or a run stops, because its turns are used up only after as many acts as it had turns
+abbrev pub EndsForTurnsBehindAsManyActs : Type 0
+EndsForTurnsBehindAsManyActs =
+    (plan : Plan) (commands : List Task) (scope : Scope) (acts : List Act) → Runs plan commands (opening plan scope) acts
+    → (action_at plan (state_after plan commands scope acts) ≡ Close cause.Turns) ⊎ (action_at plan (state_after plan commands scope acts) ≡ Stop cause.Turns)
+    → scope.turns ≤ length acts

@@ -42,7 +42,7 @@ is_past wait p = nat_le wait (p.moment.elapsed - p.since)
 abbrev pub is_quiet : Plan → Progress → Bool
 is_quiet plan p = is_past plan.quiet p
 
--- whether this list is empty: of the ids of the null procedures that aren't answered
+-- whether this list, the ids of the null procedures that aren't answered, is empty
 abbrev pub is_none_left : List ℕ → Bool
 is_none_left [] = true
 is_none_left (asked ∷ others) = false
@@ -52,13 +52,13 @@ abbrev pub has_begun : Progress → Bool
 has_begun p = is_none_left p.word
 
 -- after how long without a reply line the line is dead: twice the longest deadline
-abbrev pub patience_of : Plan → ℕ
-patience_of plan = later plan.deadline plan.deadline
+abbrev pub dead_after : Plan → ℕ
+dead_after plan = later plan.deadline plan.deadline
 
 -- whether the line is dead: a request is outstanding, or a null procedure of the synchronization was sent on this connection;
--- and for `patience_of` no reply line came, since the last one or since the first request after it
+-- and for `dead_after` no reply line came, since the last one or since the first request after it
 abbrev pub is_dead : Plan → Progress → Waiting → Bool
-is_dead plan p w = (nat_lt 0 w.all || nat_lt 0 p.again) && nat_le (patience_of plan) (p.moment.elapsed - p.alive)
+is_dead plan p w = (nat_lt 0 w.all || nat_lt 0 p.again) && nat_le (dead_after plan) (p.moment.elapsed - p.alive)
 
 -- whether the run is stale: no answer of a good quality was recorded for as long as the plan allows
 abbrev pub is_stale : Plan → Progress → Waiting → Bool
@@ -178,7 +178,7 @@ action_prepare plan p w =
     else if nat_eq w.current 0 then action_room plan p w Flush
     else action_waiting plan p w
 
--- the next action when the setup\'s next command has its turn. There always is one, since the setup is done once the last one
+-- the next action when the setup's next command has its turn. There always is one, since the setup is done once the last one
 -- was answered well
 abbrev pub action_turn : Plan → Progress → Waiting → Action
 action_turn plan p w = if nat_lt p.prepared plan.setup then action_prepare plan p w else Read Limit
@@ -201,7 +201,7 @@ abbrev pub action_cycle : Plan → Progress → Waiting → Action
 action_cycle plan p w = if nat_lt 0 p.unsent && not (waits_for_all p) then action_next plan p w else action_sent plan p w
 
 -- whether the setup is still to be done: no command of a cycle had its turn since the connection was made and the station
--- synchronized (`preparing`), and a command of the setup wasn\'t sent yet, or the last one sent is outstanding, or wasn\'t
+-- synchronized (`preparing`), and a command of the setup wasn't sent yet, or the last one sent is outstanding, or wasn't
 -- answered well
 abbrev pub is_preparing : Plan → Progress → Waiting → Bool
 is_preparing plan p w = p.preparing && not (nat_le plan.setup p.prepared && nat_eq w.commands 0 && w.well)
@@ -219,29 +219,29 @@ action_begun plan p w =
 abbrev pub action_ready : Plan → Progress → Waiting → Action
 action_ready plan p w = if has_begun p then action_begun plan p w else action_beginning plan p w
 
--- the next action in a phase, where turns are left, and the moment read last isn't out of date
-abbrev pub action_told : Plan → Phase → Progress → Waiting → Action
-action_told plan phase.Down p w = Open
-action_told plan phase.Pausing p w = Read Limit
-action_told plan phase.Clearing p w = Clear
-action_told plan phase.Draining p w = Read Limit
-action_told plan phase.Ready p w = action_ready plan p w
-action_told plan (phase.Closing cause) p w = Close cause
-action_told plan (phase.Over cause) p w = Stop cause
+-- the next action in a phase, if turns are left, the run isn't at its end, and the clock needn't be read first
+abbrev pub action_of_phase : Plan → Phase → Progress → Waiting → Action
+action_of_phase plan phase.Down p w = Open
+action_of_phase plan phase.Pausing p w = Read Limit
+action_of_phase plan phase.Clearing p w = Clear
+action_of_phase plan phase.Draining p w = Read Limit
+action_of_phase plan phase.Ready p w = action_ready plan p w
+action_of_phase plan (phase.Closing cause) p w = Close cause
+action_of_phase plan (phase.Over cause) p w = Stop cause
 
 -- the next action if all turns are used up: with a connection (`true`) to close it, else to stop
-abbrev pub action_up : Bool → Action
-action_up true = Close Turns
-action_up false = Stop Turns
+abbrev pub action_without_turns : Bool → Action
+action_without_turns true = Close Turns
+action_without_turns false = Stop Turns
 
 -- the next action if the end isn't decided yet
 abbrev pub action_on : Plan → Progress → Waiting → Action
 action_on plan p w =
-    if nat_eq p.turns 0 then action_up (is_up p.phase)
+    if nat_eq p.turns 0 then action_without_turns (is_up p.phase)
     else if is_stale plan p w then Close Stale
     else if is_stopping p w then Close Stopped
-    else if p.stale then ReadClock
-    else action_told plan p.phase p w
+    else if p.clock_due then ReadClock
+    else action_of_phase plan p.phase p w
 
 -- the next action in a phase: `Stop` if the run is over, `Close` if the connection is to be closed, and else that of
 -- `action_on`

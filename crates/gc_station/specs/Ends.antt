@@ -14,11 +14,11 @@ use Rattle.gc_links.specs.declared.link.Moment.{Moment}
 use Rattle.gc_station.specs.declared.plan.Plan.{Plan}
 use Rattle.gc_station.specs.declared.progress.Action.TheVariants.{Renew, Stop}
 use Rattle.gc_links.specs.Acts.{Act, Told, Gave, Silent}
-use Rattle.gc_station.specs.Answers.{deadline_after}
+use Rattle.gc_station.specs.Answers.{IsOwnRequest, IsWrittenAt, deadline_after}
 use Rattle.gc_station.specs.Quiet.{IsAsking}
 use Rattle.gc_station.specs.Records.{Record}
 use Rattle.gc_station.specs.Runs.{state_after}
-use Rattle.gc_station.specs.Model.{Puts, IsSending, action_at, cycle_out, place_out, request_text, lines_completed}
+use Rattle.gc_station.specs.Model.{Puts, action_at, request_text, lines_completed}
 use Rattle.gc_station.specs.Scopes.{Scope}
 
 -- an act reads a moment at or past this one
@@ -36,16 +36,6 @@ pub record OneReadsPast (deadline : ℕ) (acts : List Act) : Type 0 where
   pub at : acts ≡ earlier ++ telling ∷ later
   pub past : ReadsAtOrPast deadline telling
 
--- after these acts, this act puts the very request of record `r`: the station's next action is a send; the cycle and the place
--- are the record's; the moment read last is the one that the record has as `sent`; and what is put is the request line of the
--- record's call
-pub record IsOwnRequest (plan : Plan) (commands : List Task) (scope : Scope) (acts : List Act) (act : Act) (r : Record) : Type 0 where
-  pub sends : IsSending plan (state_after plan commands scope acts)
-  pub cycle : r.cycle ≡ cycle_out plan (state_after plan commands scope acts)
-  pub place : r.place ≡ place_out plan commands (state_after plan commands scope acts)
-  pub sent : r.sent ≡ Some (state_after plan commands scope acts).progress.moment.utc
-  pub put : Puts (request_text (state_after plan commands scope acts).client r.command.call) act
-
 -- after these acts, this piece completes a line with this id
 pub record BringsLine (plan : Plan) (commands : List Task) (scope : Scope) (acts : List Act) (piece : List ℕ) (id : ℕ) : Type 0 where
   pub front : List (List ℕ)
@@ -53,12 +43,6 @@ pub record BringsLine (plan : Plan) (commands : List Task) (scope : Scope) (acts
   pub others : List (List ℕ)
   pub came : lines_completed (state_after plan commands scope acts).rest piece ≡ front ++ line ∷ others
   pub has : heard line ≡ Some id
-
--- after these acts, this act writes a record
-pub record IsWrittenAt (plan : Plan) (commands : List Task) (scope : Scope) (acts : List Act) (act : Act) (r : Record) : Type 0 where
-  pub earlier : List Record
-  pub later : List Record
-  pub written : (state_after plan commands scope (acts ++ act ∷ [])).records ≡ (state_after plan commands scope acts).records ++ (earlier ++ r ∷ later)
 
 -- among these acts the very request of a record was put; then, up to and with the moment of a piece, a moment at or past its
 -- deadline was read; a line with the request's id came with that piece; and this act wrote the record

@@ -14,8 +14,8 @@ use Rattle.gc_station.specs.Model.{opening, Runs}
 use Rattle.gc_station.specs.Runs.{state_after}
 use Rattle.gc_station.specs.Scopes.{Scope}
 
--- a turn is what was seen of a link and a book at one moment: what the link had recorded and what the book had taken, if these
--- are known, and whether all that the book had taken lasted, as far as the book is meant to make it last. A book that isn't
+-- what was seen of a link and a book before one act, a turn of the run: what the link had recorded and what the book had taken, if
+-- these are known, and whether all that the book had taken lasted, as far as the book is meant to make it last. A book that isn't
 -- meant to make anything last always says so
 pub record Snapshot : Type 0 where
   pub acts : Option (List Act)

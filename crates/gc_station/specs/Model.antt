@@ -19,6 +19,7 @@ use Rattle.gc_texts.specs.declared.near.Expected.{Expected}
 use Rattle.gc_texts.specs.Tasks.{call_at}
 use Rattle.gc_texts.specs.declared.tasks.Task.{Task}
 use Rattle.gc_texts.specs.declared.turn.Turn.{Turn}
+use Rattle.gc_texts.specs.declared.wish.Wish.{Wish}
 use Rattle.gc_links.specs.declared.link.Moment.{Moment}
 use Rattle.gc_station.specs.declared.plan.Plan.{Plan}
 use Rattle.gc_station.specs.declared.cause.Cause.{Cause}
@@ -36,7 +37,7 @@ use Rattle.gc_station.specs.Deciding.{later, is_preparing, action_of}
 pub use Rattle.gc_station.specs.Lines.{is_ok, is_reply}
 use Rattle.gc_station.specs.Attempts.{listed_after, listed_by}
 use Rattle.gc_station.specs.Marks.{commands_in, records_of, last_well, fresh_after}
-use Rattle.gc_station.specs.Progressing.{at_start, turned, moment_noted, cycle_begun, skipped, attempts_left_out, skipped_at, failing, opened, after_failure, cleared, asking, null_sent, renewed, sent, caught_up, line_noted, lines_asked, bytes_noted, silent, reckoned_early, closed, loses_all, setup_sent}
+use Rattle.gc_station.specs.Progressing.{at_start, turned, moment_noted, cycle_begun, skipped, attempts_left_out, skipped_at, failing, opened, after_failure, cleared, request_noted, null_sent, renewed, sent, caught_up, line_noted, lines_synchronizing, bytes_noted, silent, reckoned_early, closed, loses_all, setup_sent}
 use Rattle.gc_station.specs.Records.{Record}
 use Rattle.gc_station.specs.Requests.{Request, requests, of_task}
 use Rattle.gc_station.specs.Scopes.{Scope}
@@ -78,7 +79,7 @@ waiting_of s = record {
 abbrev pub action_at : Plan → Model → Action
 action_at plan s = action_of plan s.progress (waiting_of s)
 
--- the place in its cycle of the next command, counted from 0
+-- the place of the cycle's next command in the station's list, counted from 0: the setup is at the front
 abbrev pub place_next : List Task → Progress → ℕ
 place_next commands p = length commands - p.unsent
 
@@ -90,8 +91,8 @@ cycles_begun plan p = plan.cycles - p.left
 abbrev pub no_turn : Turn
 no_turn = record { place = 0; attempt = 1; link = 0 }
 
--- what is expected of the answer of the first of these commands: where its target is, if the text says so, and which return
--- codes are accepted
+-- what the text says of the answer of the first of these commands: where its target is, which return codes are accepted, and
+-- which endings send the chain again; and its turn
 abbrev pub expected_first : List Task → Expected
 expected_first [] = record { near = None; accepted = no_codes; again = no_again; turn = no_turn }
 expected_first (task ∷ others) = record { near = task.near; accepted = task.accepted; again = task.again; turn = task.turn }
@@ -109,7 +110,8 @@ cycle_length plan commands = length commands - plan.setup
 abbrev pub cycle_out : Plan → Model → ℕ
 cycle_out plan s = if is_preparing plan s.progress (waiting_of s) then 0 else cycles_begun plan s.progress
 
--- the place of the command that is sent next, counted from 0: in the setup, while that isn't done, and else in the cycle
+-- the place in the station's list of the command that is sent next: the setup's next one, while that isn't done, and else the
+-- cycle's
 abbrev pub place_out : Plan → List Task → Model → ℕ
 place_out plan commands s = if is_preparing plan s.progress (waiting_of s) then s.progress.prepared else place_next commands s.progress
 
@@ -123,7 +125,7 @@ abbrev pub mark_setup : List Task → Progress → Mark
 mark_setup commands p =
     record { cycle = 0; place = p.prepared; sent = p.moment.utc; expected = in_attempt p.attempt (expected_first (drop p.prepared commands)) }
 
--- how many commands of the cycle were sent or left out: none before the first cycle
+-- how many commands are before the cycle's next one in the list, those of the setup included; 0 before the first cycle
 abbrev pub requests_out : Plan → List Task → Progress → ℕ
 requests_out plan commands p = if nat_eq p.left plan.cycles then 0 else place_next commands p
 
@@ -143,7 +145,7 @@ first_text utc client [] = []
 first_text utc client (task ∷ others) = request_text client (call_at task utc)
 
 -- the bytes of the request for the first of these commands of the setup, if it is sent at the moment `utc`; of a null procedure
--- if there is none, which isn't so in a plan whose setup has no more commands than there are
+-- if there is none, which doesn't happen if the setup has at most as many commands as there are
 abbrev pub text_or_null : ℕ → ById Asked → List Task → List ℕ
 text_or_null utc client [] = request_text client (Table NullProc)
 text_or_null utc client (task ∷ others) = request_text client (call_at task utc)
@@ -239,6 +241,11 @@ abbrev pub client_sent : ById Asked → Option (Sending (ById Asked)) → ById A
 client_sent client None = client
 client_sent client (Some x) = x.client
 
+-- the client after a send of this command at the moment `now`, which waits for `wait` milliseconds. The arguments are how many
+-- requests may wait at once, the client before, the command, `now` and `wait`
+abbrev pub sent_to : ℕ → ById Asked → Wish → ℕ → ℕ → ById Asked
+sent_to width ids command now wait = client_sent ids (sends width ids command.target command.call (later now wait))
+
 -- the model once a request for this target, with this call and this mark, was sent; it waits for `wait` milliseconds from the
 -- moment read last
 abbrev pub asks : ℕ → ℕ → Asked → Option Mark → Model → Model
@@ -284,10 +291,15 @@ abbrev pub skips : Plan → List Task → Progress → Act → List Record
 skips plan commands p (Told m) = skips_first p m (mark_next plan commands p) (drop (place_next commands p) commands)
 skips plan commands p _ = []
 
+-- whether a command of the attempt ended as its rule names, once the next command was recorded without being sent; `listed`
+-- says whether one had before
+abbrev pub listed_unsent : Plan → List Task → Progress → Bool → Bool
+listed_unsent plan commands p listed = listed_after listed (mark_next plan commands p).expected None (if p.missed then Missed else Skipped)
+
 -- whether a command of the attempt ended as its rule names, once the next command isn't sent: as before, if the clock couldn't
 -- be read
 abbrev pub skip_listed : Plan → List Task → Model → Act → Bool
-skip_listed plan commands s (Told m) = listed_after s.listed (mark_next plan commands s.progress).expected None (if s.progress.missed then Missed else Skipped)
+skip_listed plan commands s (Told m) = listed_unsent plan commands s.progress s.listed
 skip_listed plan commands s _ = s.listed
 
 -- the commands that are left out if the next one begins a further attempt: those of this attempt and of those after it
@@ -321,13 +333,13 @@ abbrev pub settles : Settled Asked (ById Asked) → Model → Model
 settles x s = with_client x.client (with_settled x.settlements s)
 
 -- whether a settlement, if there is one, is of a call of the table
-abbrev pub is_tables : Option (Settlement Asked) → Bool
-is_tables None = false
-is_tables (Some x) = is_of_table x.call
+abbrev pub is_some_of_table : Option (Settlement Asked) → Bool
+is_some_of_table None = false
+is_some_of_table (Some x) = is_of_table x.call
 
 -- whether the last of these settlements is of a call of the table; false if there is none
 abbrev pub ends_with_table : List (Settlement Asked) → Bool
-ends_with_table settlements = is_tables (slice_get settlements (length settlements - 1))
+ends_with_table settlements = is_some_of_table (slice_get settlements (length settlements - 1))
 
 -- the model once a line settled requests: with the records of these settlements, and how many requests are after the last call
 -- of the table that a reply ended
@@ -356,8 +368,8 @@ abbrev pub piece_came : List ℕ → Model → Model
 piece_came piece s = lines_came (with_rest (rest_behind s.rest piece) s) (lines_completed s.rest piece)
 
 -- the model after a piece whose lines are heard while the station synchronizes, in order
-abbrev pub piece_asked : List ℕ → Model → Model
-piece_asked piece s = with_progress (λ p. lines_asked p (lines_completed s.rest piece)) (with_rest (rest_behind s.rest piece) s)
+abbrev pub piece_synchronizing : List ℕ → Model → Model
+piece_synchronizing piece s = with_progress (λ p. lines_synchronizing p (lines_completed s.rest piece)) (with_rest (rest_behind s.rest piece) s)
 
 -- whether what comes in a phase is heard: in `Ready` alone. In each other phase it is discarded
 abbrev pub is_heard : Phase → Bool
@@ -374,7 +386,7 @@ is_heard (phase.Over cause) = false
 -- synchronization's last answer in that piece. If it isn't heard (`false`), it is discarded
 abbrev pub after_piece : Bool → List ℕ → List ℕ → Model → Model
 after_piece true [] piece s = piece_came piece s
-after_piece true (asked ∷ others) piece s = piece_asked piece s
+after_piece true (asked ∷ others) piece s = piece_synchronizing piece s
 after_piece false word piece s = s
 
 -- the model once what a piece settled was counted: a command that was settled gives all tries back, and the cycle may be done
@@ -440,7 +452,7 @@ moved plan commands Skip s act =
     after_clock (λ m p. reckoned_early plan (commands_in s.marks) (skipped (is_chained_after_next commands s.progress) (others_after_next commands s.progress) m p))
     (with_listed (skip_listed plan commands s act) (with_records (skips plan commands s.progress act) s)) act
 moved plan commands Pass s act = after_pass plan commands s act
-moved plan commands Flush s act = after_put (requests_out plan commands s.progress) (λ (s : Model). with_progress asking (asks_null plan s)) s act
+moved plan commands Flush s act = after_put (requests_out plan commands s.progress) (λ (s : Model). with_progress request_noted (asks_null plan s)) s act
 moved plan commands (Read until) s act = after_read plan until s act
 moved plan commands (Close cause) s act = after_close plan cause s
 moved plan commands (Stop cause) s act = s

@@ -6,12 +6,13 @@ use Rattle.gc_station.specs.declared.progress.Phase.TheVariants as phase
 use Rattle.gc_station.specs.declared.progress.Progress.{Progress}
 use Rattle.gc_station.specs.declared.progress.Until.{Until}
 use Rattle.gc_station.specs.declared.progress.Until.TheVariants.{Limit, Due}
-use Rattle.gc_station.specs.Deciding.{later, has_begun, patience_of, is_due}
+use Rattle.gc_station.specs.Deciding.{later, has_begun, dead_after, is_due}
+use Rattle.gc_station.specs.Model.{cycles_begun}
 use Rattle.gc_station.specs.Progressing.{is_idle}
 
 -- the moment from which on the line is dead, if no reply line comes until then
 abbrev pub dead_at : Plan → Progress → ℕ
-dead_at plan p = later p.alive (patience_of plan)
+dead_at plan p = later p.alive (dead_after plan)
 
 -- the moment at which the next cycle is due
 abbrev pub due_at : Plan → Progress → ℕ
@@ -53,10 +54,6 @@ ends_at plan p until None = ends_without_deadline plan p until
 abbrev pub patience : Plan → Progress → ℕ → Until → Option ℕ → ℕ
 patience plan p fresh until deadline = min (max (min (ends_at plan p until deadline) (stale_at plan fresh) - p.moment.elapsed) 1) (longest plan)
 
--- the number of the cycle that began last, counted from 1; 0 before the first
-abbrev pub cycle_of : Plan → Progress → ℕ
-cycle_of plan p = plan.cycles - p.left
-
 -- whether the cycle that began last has overrun: it isn't missed, and wasn't done when the next one, which hasn't begun, was due
 abbrev pub has_overrun : Plan → Progress → Bool
 has_overrun plan p = not p.early && not p.missed && is_due plan p && nat_lt 0 p.left && nat_lt 0 plan.every
@@ -64,7 +61,7 @@ has_overrun plan p = not p.early && not p.missed && is_due plan p && nat_lt 0 p.
 -- the cycle that is to be reported as overrun: the one that began last, if it has overrun and is after `told`, the last one that was
 -- reported
 abbrev pub overrun : Plan → Progress → ℕ → Option ℕ
-overrun plan p told = if has_overrun plan p && nat_lt told (cycle_of plan p) then Some (cycle_of plan p) else None
+overrun plan p told = if has_overrun plan p && nat_lt told (cycles_begun plan p) then Some (cycles_begun plan p) else None
 
 -- the number of the last cycle that was reported as overrun: the given cycle, if one is to be reported now, else `told` as
 -- before

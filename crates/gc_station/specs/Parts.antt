@@ -154,7 +154,7 @@ abbrev pub sent_of : List Record → List Record
 sent_of [] = []
 sent_of (r ∷ rs) = sent_with (went_out r.end) r (sent_of rs)
 
--- when the request of a record was sent; 0 if it didn't
+-- when the request of a record was sent; 0 if it wasn't
 abbrev pub sent_at : Record → ℕ
 sent_at r = unwrap_or r.sent 0
 

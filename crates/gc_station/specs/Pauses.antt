@@ -36,7 +36,7 @@ LeavesTries _ = Unit {0}
 -- at the start all tries are left, and the pause is 0. A failure takes one try, and makes the pause that of one failure more;
 -- without a try left the run is over. A close while no connection is wanted takes no try, and makes a pause of 0 that of one
 -- failure. A read that settles a command gives all tries back, and makes the pause 0, where since the setup a command of a
--- cycle had its turn. Other bytes change neither, and nor does an act that is no opening, no read and no close
+-- cycle had its turn. Other bytes change neither, nor does an act that is no opening, no read and no close
 pub record TriesAndPausesAreCounted : Type 0 where
   pub start : (plan : Plan) (turns : ℕ) → ((at_start plan turns).tries ≡ plan.retries) × ((at_start plan turns).pause ≡ pause_after plan 0)
   pub failed : (plan : Plan) (commands n : ℕ) (why : Cause) (p : Progress) → is_spared plan why p ≡ false → p.pause ≡ pause_after plan n

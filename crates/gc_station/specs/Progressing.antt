@@ -25,7 +25,7 @@ at_start plan turns = record {
   phase = phase.Down;
   word = the_word;
   again = 0;
-  stale = false;
+  clock_due = false;
   moment = record { elapsed = 0; utc = 0; stops = false };
   since = 0;
   alive = 0;
@@ -57,27 +57,27 @@ turned p = record p { turns = p.turns - 1 }
 -- clock went back, so that the cycle's beginning (`began`) or the moment from which a dead line counts (`alive`) lies after
 -- `m`, it becomes `m`: so the next cycle isn't put off
 abbrev pub moment_noted : Moment → Progress → Progress
-moment_noted m p = record p { moment = m; since = m.elapsed; alive = min p.alive m.elapsed; began = min p.began m.elapsed; stale = false; stops = p.stops || m.stops }
+moment_noted m p = record p { moment = m; since = m.elapsed; alive = min p.alive m.elapsed; began = min p.began m.elapsed; clock_due = false; stops = p.stops || m.stops }
 
 -- the moment that counts as the beginning of a cycle that is begun at the moment `m`. For the first cycle, and where cycles
 -- have no due moment, it is `m`; for any other cycle the moment at which it was due, or `m` if that is earlier
-abbrev pub beginning : Plan → Moment → Progress → ℕ
-beginning plan m p = if nat_eq p.left plan.cycles || nat_eq plan.every 0 then m.elapsed else min (later p.began plan.every) m.elapsed
+abbrev pub cycle_start : Plan → Moment → Progress → ℕ
+cycle_start plan m p = if nat_eq p.left plan.cycles || nat_eq plan.every 0 then m.elapsed else min (later p.began plan.every) m.elapsed
 
 -- whether a cycle that would begin at this moment is missed: the one after it is due by then
 abbrev pub is_missing : Plan → Moment → Progress → Bool
-is_missing plan m p = nat_lt 0 plan.every && nat_le plan.every (m.elapsed - beginning plan m p)
+is_missing plan m p = nat_lt 0 plan.every && nat_le plan.every (m.elapsed - cycle_start plan m p)
 
 -- when a cycle that begins at this moment was due, by the clock of time stamps
 abbrev pub due_of : Plan → Moment → Progress → ℕ
-due_of plan m p = m.utc - (m.elapsed - beginning plan m p)
+due_of plan m p = m.utc - (m.elapsed - cycle_start plan m p)
 
 -- the progress after the beginning of a cycle of `count` commands. If it is missed, none of them is sent
 abbrev pub cycle_begun : Plan → ℕ → Moment → Progress → Progress
 cycle_begun plan count m p =
     let q = moment_noted m p in
     record q {
-      began = beginning plan m p;
+      began = cycle_start plan m p;
       due = due_of plan m p;
       missed = is_missing plan m p;
       early = false;
@@ -100,8 +100,8 @@ abbrev pub skipped : Bool → ℕ → Moment → Progress → Progress
 skipped next_is_chained others m p =
     let q = moment_noted m p in record q { unsent = p.unsent - 1; next_is_chained = next_is_chained; next_others = others; chain_unbroken = false; preparing = false }
 
--- the progress after the further attempts of a chain that the next command begins are left out: all their commands are, and
--- what is said of the next command is of the one after them
+-- the progress once the further attempts of a chain that the next command begins were left out. `next_is_chained` and `others`
+-- are of the command after them, as of `skipped`
 abbrev pub attempts_left_out : Bool → ℕ → Moment → Progress → Progress
 attempts_left_out next_is_chained others m p =
     let q = moment_noted m p in record q { unsent = p.unsent - p.next_others; next_is_chained = next_is_chained; next_others = others; chain_unbroken = false; preparing = false }
@@ -114,7 +114,8 @@ failing cause p = record p { phase = if is_up p.phase then phase.Closing cause e
 abbrev pub opened : Progress → Progress
 opened p = record p { phase = phase.Clearing }
 
--- whether a failure for this cause takes no try: a connection was closed while none is wanted. An attempt that failed always takes one
+-- whether a failure for this cause takes no try: a connection was closed while none is wanted. An attempt that failed always
+-- takes one
 abbrev pub is_spared : Plan → Cause → Progress → Bool
 is_spared plan cause.Open p = false
 is_spared plan _ p = is_idle plan p
@@ -132,20 +133,20 @@ phase_again plan commands why p =
 abbrev pub pause_again : Plan → Cause → Progress → ℕ
 pause_again plan why p = if is_spared plan why p then max p.pause plan.quiet else max (min (later p.pause p.pause) 60000) plan.quiet
 
--- the attempt of the setup that is next, if the last one sent something or nothing: the one after it, or the same
+-- the number of the next attempt of the setup: one more than the last one's, if something of that was sent; else the same
 abbrev pub next_attempt : Progress → ℕ
 next_attempt p = if nat_eq p.prepared 0 then p.attempt else later p.attempt 1
 
 -- the progress if the setup, if there is one, is to be sent again from its first command on
-abbrev pub unprepared : Plan → Progress → Progress
-unprepared plan p = record p { preparing = nat_lt 0 plan.setup; prepared = 0; attempt = next_attempt p }
+abbrev pub setup_restarted : Plan → Progress → Progress
+setup_restarted plan p = record p { preparing = nat_lt 0 plan.setup; prepared = 0; attempt = next_attempt p }
 
 -- the progress after a connection that was closed or couldn't be made: the setup is sent again on the next connection, and the
 -- next attempt takes a try, unless it is spared
 abbrev pub after_failure : Plan → ℕ → Cause → Progress → Progress
 after_failure plan commands why p = record p {
   phase = phase_again plan commands why p;
-  stale = true;
+  clock_due = true;
   tries = if is_spared plan why p then p.tries else p.tries - 1;
   pause = pause_again plan why p;
   chain_unbroken = false;
@@ -156,34 +157,34 @@ after_failure plan commands why p = record p {
 
 -- the progress after the line feed: a connection is drained next, unless a synchronization goes on with it
 abbrev pub cleared : Progress → Progress
-cleared p = record p { phase = if has_begun p then phase.Draining else phase.Ready; again = 0; asked = false; stale = true }
+cleared p = record p { phase = if has_begun p then phase.Draining else phase.Ready; again = 0; asked = false; clock_due = true }
 
 -- one more than a number, but at most the number of requests that can wait
 abbrev pub one_more : ℕ → ℕ
 one_more n = if nat_lt n WINDOW then n + 1 else n
 
 -- the progress after a request: the time after which the line is dead begins with the first one after a reply line
-abbrev pub asking : Progress → Progress
-asking p = record p { alive = if p.asked then p.alive else p.moment.elapsed; asked = true; stale = true; behind = one_more p.behind }
+abbrev pub request_noted : Progress → Progress
+request_noted p = record p { alive = if p.asked then p.alive else p.moment.elapsed; asked = true; clock_due = true; behind = one_more p.behind }
 
 -- the progress after the null procedure of the first id that isn't answered: it is sent again at its deadline. No command is
 -- sent before it is answered
 abbrev pub null_sent : Plan → Progress → Progress
-null_sent plan p = let q = asking p in record q { again = later p.moment.elapsed plan.deadline; behind = 0 }
+null_sent plan p = let q = request_noted p in record q { again = later p.moment.elapsed plan.deadline; behind = 0 }
 
 -- the progress of a station that resynchronizes at this moment: no null procedure is answered, no chain goes on, and the setup
 -- is sent again. If nothing is sent before the next cycle is due, the time after which the line is dead begins with the first
 -- null procedure
 abbrev pub renewed : Plan → Moment → Progress → Progress
-renewed plan m p = let q = moment_noted m p in unprepared plan (record q { word = the_word; again = 0; asked = p.asked && goes_on plan q; chain_unbroken = false; behind = 0 })
+renewed plan m p = let q = moment_noted m p in setup_restarted plan (record q { word = the_word; again = 0; asked = p.asked && goes_on plan q; chain_unbroken = false; behind = 0 })
 
 -- the progress after the next command. `next_is_chained` and `others` are of the one after it, as of `skipped`
 abbrev pub sent : Bool → ℕ → Progress → Progress
-sent next_is_chained others p = let q = asking p in record q { unsent = p.unsent - 1; next_is_chained = next_is_chained; next_others = others; chain_unbroken = true; preparing = false }
+sent next_is_chained others p = let q = request_noted p in record q { unsent = p.unsent - 1; next_is_chained = next_is_chained; next_others = others; chain_unbroken = true; preparing = false }
 
 -- the progress after the next command of the setup
 abbrev pub setup_sent : Plan → Progress → Progress
-setup_sent plan p = let q = asking p in record q { prepared = min (p.prepared + 1) plan.setup; chain_unbroken = false }
+setup_sent plan p = let q = request_noted p in record q { prepared = min (p.prepared + 1) plan.setup; chain_unbroken = false }
 
 -- the progress after a line that was heard: a reply line shows that the line is alive
 abbrev pub line_noted : Bool → Progress → Progress
@@ -200,13 +201,13 @@ abbrev pub answered : Option ℕ → Progress → Progress
 answered id p = record p { word = left_by p.word id; again = if is_answered p.word id then 0 else p.again }
 
 -- the progress after a line that was heard while the station synchronizes
-abbrev pub line_asked : Progress → List ℕ → Progress
-line_asked p line = line_noted (is_reply line) (answered (heard line) p)
+abbrev pub line_synchronizing : Progress → List ℕ → Progress
+line_synchronizing p line = line_noted (is_reply line) (answered (heard line) p)
 
 -- the progress after the lines of a piece that were heard while the station synchronizes, in order
-abbrev pub lines_asked : Progress → List (List ℕ) → Progress
-lines_asked p [] = p
-lines_asked p (line ∷ others) = lines_asked (line_asked p line) others
+abbrev pub lines_synchronizing : Progress → List (List ℕ) → Progress
+lines_synchronizing p [] = p
+lines_synchronizing p (line ∷ others) = lines_synchronizing (line_synchronizing p line) others
 
 -- whether the cycle counts as done early after a read. A read until the next cycle is due shows that it was, because only a done cycle
 -- has such a read; after any other read it counts as before (`early`)
@@ -251,7 +252,7 @@ time_passed until m p = record p {
   since = min p.since m.elapsed;
   alive = min p.alive m.elapsed;
   began = min p.began m.elapsed;
-  stale = false;
+  clock_due = false;
   stops = p.stops || m.stops;
   early = early_after until p.early;
 }

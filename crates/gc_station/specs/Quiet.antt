@@ -32,7 +32,8 @@ TellsMoment elapsed (Gave bytes m) = m.elapsed ≡ elapsed
 TellsMoment elapsed (Silent m) = m.elapsed ≡ elapsed
 TellsMoment elapsed _ = ⊥
 
--- an act reads the clock, or is a read that gave bytes or nothing: no bytes are sent, and the connection stays
+-- an act reads a moment: it reads the clock, or is a read that gave bytes or nothing. No bytes are sent, and the connection
+-- stays
 abbrev pub IsListening : Act → Type 0
 IsListening (Told m) = Unit {0}
 IsListening (Gave bytes m) = Unit {0}

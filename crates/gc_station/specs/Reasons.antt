@@ -36,17 +36,17 @@ abbrev pub StaysInItsChain : Progress → Type 0
 StaysInItsChain p = p.stops ≡ true → p.next_is_chained ≡ true
 
 -- the next command of the setup waits for the answer of the one before it
-abbrev pub IsHeldBack : Plan → Progress → Waiting → Type 0
-IsHeldBack plan p w = (is_preparing plan p w ≡ true) × (0 < p.prepared)
+abbrev pub SetUpWaits : Plan → Progress → Waiting → Type 0
+SetUpWaits plan p w = (is_preparing plan p w ≡ true) × (0 < p.prepared)
 
 -- no command may be sent: the station hasn't synchronized; or there is no room; or some request hasn't timed out, and either
--- all that may be sent was sent (`IsHeld`), or the setup waits for an answer (`IsHeldBack`), and some commands are outstanding,
+-- all that may be sent was sent (`IsHeld`), or the setup waits for an answer (`SetUpWaits`), and some commands are outstanding,
 -- or none of the last seven requests is a call of the table that a reply ended, or the end of the run was asked for, and the
 -- station is between two chains
 abbrev pub NothingMayGo : Plan → Progress → Waiting → Type 0
 NothingMayGo plan p w =
     (has_begun p ≡ false)
-    ⊎ ((width_of plan ≤ w.current) ⊎ ((WINDOW ≤ w.all) ⊎ (((IsHeld p ⊎ IsHeldBack plan p w) × (0 < w.commands) × (0 < w.current))
+    ⊎ ((width_of plan ≤ w.current) ⊎ ((WINDOW ≤ w.all) ⊎ (((IsHeld p ⊎ SetUpWaits plan p w) × (0 < w.commands) × (0 < w.current))
     ⊎ (((WINDOW ≤ p.behind) × (0 < w.current)) ⊎ ((p.stops ≡ true) × IsBetween p × (0 < w.current))))))
 
 -- the next command may be sent: it is the first of its chain; or all that were sent are settled, the one before it was answered
@@ -67,7 +67,7 @@ MayRetry p w = (p.next_others ≡ 0) ⊎ ((w.commands ≡ 0) × (w.listed ≡ tr
 -- a null procedure is wanted: commands are outstanding that have to be settled before another is sent; or the next command may
 -- be sent, and none of the last seven requests is a call of the table that a reply ended
 abbrev pub WantsNull : Plan → Progress → Waiting → Type 0
-WantsNull plan p w = ((IsHeld p ⊎ IsHeldBack plan p w) × (0 < w.commands)) ⊎ ((((0 < p.unsent) × MayGo p w) ⊎ MayPrepare plan p w) × (WINDOW ≤ p.behind))
+WantsNull plan p w = ((IsHeld p ⊎ SetUpWaits plan p w) × (0 < w.commands)) ⊎ ((((0 < p.unsent) × MayGo p w) ⊎ MayPrepare plan p w) × (WINDOW ≤ p.behind))
 
 -- the connection is to be closed though no call of the link failed: all is done; all turns are used up; no command may be sent,
 -- and the line is dead; the run is stale; or its end was asked for, and it may end here
@@ -82,10 +82,10 @@ IsAtItsEnd plan p w Stopped = (p.stops ≡ true) × IsResting p w
 IsAtItsEnd plan p w _ = ⊥
 
 -- there is a connection to be closed for this cause; a run that is stale, or whose end was asked for, ends without one, too
-abbrev pub HasOneFor : Cause → Progress → Type 0
-HasOneFor Stale p = Unit {0}
-HasOneFor Stopped p = Unit {0}
-HasOneFor _ p = is_up p.phase ≡ true
+abbrev pub HasConnectionFor : Cause → Progress → Type 0
+HasConnectionFor Stale p = Unit {0}
+HasConnectionFor Stopped p = Unit {0}
+HasConnectionFor _ p = is_up p.phase ≡ true
 
 -- what holds if this action is the next one; nothing is said of reading the clock and of a read
 abbrev pub IsFor : Plan → Progress → Waiting → Action → Type 0
@@ -109,5 +109,5 @@ IsFor plan p w action.Pass =
     (p.phase ≡ phase.Ready) × (has_begun p ≡ true) × (0 < p.unsent) × (w.commands ≡ 0) × (0 < p.next_others) × ((w.listed ≡ false) ⊎ (p.next_is_chained ≡ true)) × (is_preparing plan p w ≡ false)
 IsFor plan p w action.Flush = (p.phase ≡ phase.Ready) × (has_begun p ≡ true) × WantsNull plan p w × (w.current ≡ 0) × HasRoom plan w
 IsFor plan p w (action.Read until) = Unit {0}
-IsFor plan p w (action.Close cause) = HasOneFor cause p × ((p.phase ≡ phase.Closing cause) ⊎ IsAtItsEnd plan p w cause)
+IsFor plan p w (action.Close cause) = HasConnectionFor cause p × ((p.phase ≡ phase.Closing cause) ⊎ IsAtItsEnd plan p w cause)
 IsFor plan p w (action.Stop cause) = (is_up p.phase ≡ false) × ((p.phase ≡ phase.Over cause) ⊎ ((cause ≡ Turns) × (p.turns ≡ 0)))

@@ -23,7 +23,7 @@ pub record Record : Type 0 where
   pub command : Wish
   pub end : End
 
--- a record as contracts see it: a command and its ending by their bytes
+-- the record of a command with this stamp and this ending, as contracts see it
 abbrev pub record_seen : Stamp → Wish → Ending → Record
 record_seen stamp command ending = record { sent = stamp.sent; utc = stamp.utc; cycle = stamp.cycle; place = stamp.place; turn = stamp.turn; command = command; end = ending_seen ending }
 

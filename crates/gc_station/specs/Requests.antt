@@ -38,7 +38,7 @@ of_task task = record { target = task.command.target; call = untimed task.now ta
 abbrev pub command_at : ℕ → Task → Wish
 command_at utc task = record { target = task.command.target; call = call_at task utc }
 
--- the command of a task, where its request was sent at this moment, if it did
+-- the command of a task whose request was sent at this moment; if it wasn't sent (`None`), the command as in the text
 abbrev pub command_sent : Option ℕ → Task → Wish
 command_sent None task = task.command
 command_sent (Some utc) task = command_at utc task

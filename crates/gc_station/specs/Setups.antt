@@ -19,23 +19,22 @@ use Rattle.gc_station.specs.Scopes.{Scope}
 
 -- Which commands of the setup were sent.
 
--- a command that was sent: its cycle, its place, its attempt, and the moment read last before; `sent` is none if a command
--- wasn't sent
+-- of a command: its cycle, its place, its attempt, and the moment read last before it was sent; `sent` is none if it wasn't
 pub record Dispatch : Type 0 where
   pub cycle : ℕ
   pub place : ℕ
   pub attempt : ℕ
   pub sent : Option ℕ
 
--- what a record says of this
+-- the dispatch of the command that a record is of
 abbrev pub dispatch_of_record : Record → Dispatch
 dispatch_of_record r = record { cycle = r.cycle; place = r.place; attempt = r.turn.attempt; sent = r.sent }
 
--- what a mark says of this
+-- the dispatch of the command that a mark is of
 abbrev pub dispatch_of_mark : Mark → Dispatch
 dispatch_of_mark mark = record { cycle = mark.cycle; place = mark.place; attempt = mark.expected.turn.attempt; sent = Some mark.sent }
 
--- the commands among those that are outstanding, by their marks; a null procedure has none
+-- the dispatches of the commands that are outstanding, by their marks; a null procedure has none
 abbrev pub dispatches_of : List (Option Mark) → List Dispatch
 dispatches_of [] = []
 dispatches_of (None ∷ marks) = dispatches_of marks
@@ -51,7 +50,7 @@ abbrev pub of_setup : List Dispatch → List Dispatch
 of_setup [] = []
 of_setup (x ∷ xs) = setup_with (nat_eq x.cycle 0) x (of_setup xs)
 
--- the command with this mark, if there is a command
+-- the dispatch of the first of these commands, with this mark; none if there is no command
 abbrev pub sent_first : Mark → List Task → List Dispatch
 sent_first mark [] = []
 sent_first mark (task ∷ others) = dispatch_of_mark mark ∷ []
@@ -82,12 +81,12 @@ pub record EachSetUpOnce (plan : Plan) (commands : List Task) (scope : Scope) (a
 abbrev pub IsNextAfter : Dispatch → Dispatch → Type 0
 IsNextAfter x y = ((y.attempt ≡ x.attempt) × (y.place ≡ x.place + 1)) ⊎ ((y.attempt ≡ later x.attempt 1) × (y.place ≡ 0))
 
--- each of these commands goes after the one before it; the first goes after x
+-- each of these commands is the next after the one before it (`IsNextAfter`); the first is the next after x
 abbrev pub GoOn : Dispatch → List Dispatch → Type 0
 GoOn x [] = Unit {0}
 GoOn x (y ∷ ys) = IsNextAfter x y × GoOn y ys
 
--- the first of these commands is the first one of attempt 1, and each further one goes after the one before it
+-- the first of these commands is the first one of attempt 1, and each further one is the next after the one before it
 abbrev pub AreInOrder : List Dispatch → Type 0
 AreInOrder [] = Unit {0}
 AreInOrder (x ∷ xs) = (x.attempt ≡ 1) × (x.place ≡ 0) × GoOn x xs

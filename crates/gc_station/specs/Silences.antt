@@ -1,4 +1,4 @@
--- How long no reply line came, if a connection is closed for it: this project's own. An act is one call on the link, with its
+-- How long no reply line came before a connection is closed for that: this project's own. An act is one call on the link, with its
 -- result.
 use Rattle.std.specs.Prelude.{◌≡◌, ◌⊎◌, ℕ, ◌-◌, ◌<◌, ◌≤◌, false, List, [], ◌∷◌, ◌++◌}
 use Rattle.std.specs.List.{AllByRecursion}

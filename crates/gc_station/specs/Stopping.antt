@@ -12,17 +12,11 @@ use Rattle.gc_station.specs.declared.progress.Action.TheVariants.{Begin, Send, C
 use Rattle.gc_station.specs.Deciding.{is_stale, may_go}
 use Rattle.gc_station.specs.Marks.{is_well}
 use Rattle.gc_station.specs.Model.{opening, action_at, waiting_of, Runs}
+use Rattle.gc_station.specs.Quiet.{IsListening}
 use Rattle.gc_station.specs.Reasons.{IsResting}
 use Rattle.gc_station.specs.Records.{Record}
 use Rattle.gc_station.specs.Runs.{state_after}
 use Rattle.gc_station.specs.Scopes.{Scope}
-
--- an act reads a moment
-abbrev pub IsTelling : Act → Type 0
-IsTelling (Told m) = Unit {0}
-IsTelling (Gave bytes m) = Unit {0}
-IsTelling (Silent m) = Unit {0}
-IsTelling _ = ⊥
 
 -- the least of a number and the moments that these acts read, by the clock for deadlines: if that clock doesn't go back, and
 -- the number was read before them, it is the number
@@ -42,8 +36,8 @@ asked_after asked (Silent m ∷ acts) = asked_after (asked || m.stops) acts
 asked_after asked (act ∷ acts) = asked_after asked acts
 
 -- a record is of a command that wasn't answered well
-abbrev pub IsUnwell : Record → Type 0
-IsUnwell r = is_well r.end ≡ false
+abbrev pub IsNotWell : Record → Type 0
+IsNotWell r = is_well r.end ≡ false
 
 -- the last of these acts is a read at this moment, and recorded a command that was answered well
 pub record EndsWell (plan : Plan) (commands : List Task) (scope : Scope) (acts : List Act) (now : ℕ) : Type 0 where
@@ -60,7 +54,7 @@ pub record EndsWell (plan : Plan) (commands : List Task) (scope : Scope) (acts :
 
 -- the acts after the last one that recorded a command that was answered well, or all acts if none did: from which moment on the
 -- run may become stale (`from`, 0 at the start), and the records of these acts, none of which is of such a command
-pub record UnwellSince (plan : Plan) (commands : List Task) (scope : Scope) (acts : List Act) : Type 0 where
+pub record NoneWellSince (plan : Plan) (commands : List Task) (scope : Scope) (acts : List Act) : Type 0 where
   pub before : List Act
   pub behind : List Act
   pub order : acts ≡ before ++ behind
@@ -68,13 +62,13 @@ pub record UnwellSince (plan : Plan) (commands : List Task) (scope : Scope) (act
   pub start : ((before ≡ []) × (from ≡ 0)) ⊎ EndsWell plan commands scope before from
   pub records : List Record
   pub written : (state_after plan commands scope acts).records ≡ (state_after plan commands scope before).records ++ records
-  pub unwell : AllByRecursion IsUnwell records
+  pub unwell : AllByRecursion IsNotWell records
   pub fresh : (state_after plan commands scope acts).fresh ≡ least_told from behind
 
 -- after these acts the moment read last lies `stale` milliseconds or more after the start, or after the last act that recorded
 -- a command that was answered well; if the clock went back since, after the least moment that was read since
 pub record IsStaleAt (plan : Plan) (commands : List Task) (scope : Scope) (acts : List Act) : Type 0 where
-  pub since : UnwellSince plan commands scope acts
+  pub since : NoneWellSince plan commands scope acts
   pub wanted : 0 < plan.stale
   pub long : plan.stale ≤ (state_after plan commands scope acts).progress.moment.elapsed - least_told since.from since.behind
 
@@ -94,7 +88,7 @@ StopsAtItsClose why =
 -- the first moment read at which a run with turns left is stale ends it: no act is after it but one close
 abbrev pub EndsOnceStale : Type 0
 EndsOnceStale =
-    (plan : Plan) (commands : List Task) (scope : Scope) (earlier behind : List Act) (telling : Act) → Runs plan commands (opening plan scope) (earlier ++ telling ∷ behind) → IsTelling telling
+    (plan : Plan) (commands : List Task) (scope : Scope) (earlier behind : List Act) (telling : Act) → Runs plan commands (opening plan scope) (earlier ++ telling ∷ behind) → IsListening telling
     → 0 < (state_after plan commands scope (earlier ++ telling ∷ [])).progress.turns
     → is_stale plan (state_after plan commands scope (earlier ++ telling ∷ [])).progress (waiting_of (state_after plan commands scope (earlier ++ telling ∷ []))) ≡ true
     → (behind ≡ []) ⊎ (behind ≡ Closed ∷ [])

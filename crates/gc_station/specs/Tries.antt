@@ -6,9 +6,10 @@ use Rattle.gc_station.specs.declared.cause.Cause.{Cause}
 use Rattle.gc_station.specs.declared.cause.Cause.TheVariants as cause
 use Rattle.gc_links.specs.declared.link.Moment.{Moment}
 use Rattle.gc_station.specs.declared.plan.Plan.{Plan}
+use Rattle.gc_station.specs.declared.progress.Action.TheVariants.{Stop}
 use Rattle.gc_links.specs.Acts.{Act, Gave, Closed, Opened, Unopened}
 use Rattle.gc_station.specs.Runs.{state_after}
-use Rattle.gc_station.specs.Model.{Model, after}
+use Rattle.gc_station.specs.Model.{Model, after, action_at, opening, Runs}
 use Rattle.gc_station.specs.Scopes.{Scope}
 
 -- a cause for which a connection ended or couldn't be made, and after which the run reconnects, unless no try is left
@@ -27,18 +28,18 @@ IsEnding Unopened = Unit {0}
 IsEnding _ = ⊥
 
 -- how often a connection ended, or none could be made, among these acts
-abbrev pub ends_in : List Act → ℕ
-ends_in [] = 0
-ends_in (Closed ∷ acts) = suc (ends_in acts)
-ends_in (Unopened ∷ acts) = suc (ends_in acts)
-ends_in (act ∷ acts) = ends_in acts
+abbrev pub endings_in : List Act → ℕ
+endings_in [] = 0
+endings_in (Closed ∷ acts) = suc (endings_in acts)
+endings_in (Unopened ∷ acts) = suc (endings_in acts)
+endings_in (act ∷ acts) = endings_in acts
 
 -- how often a connection was asked for among these acts
-abbrev pub opens_in : List Act → ℕ
-opens_in [] = 0
-opens_in (Opened ∷ acts) = suc (opens_in acts)
-opens_in (Unopened ∷ acts) = suc (opens_in acts)
-opens_in (act ∷ acts) = opens_in acts
+abbrev pub openings_in : List Act → ℕ
+openings_in [] = 0
+openings_in (Opened ∷ acts) = suc (openings_in acts)
+openings_in (Unopened ∷ acts) = suc (openings_in acts)
+openings_in (act ∷ acts) = openings_in acts
 
 -- a read that gave bytes settled no command: it wrote no record between these models; or since the setup no command of a cycle
 -- had its turn. Of other acts nothing is said
@@ -69,6 +70,13 @@ pub record AllTried (plan : Plan) (commands : List Task) (scope : Scope) (acts :
   pub order : acts ≡ before ++ behind
   pub since : (before ≡ []) ⊎ EndsSettled plan commands scope before
   pub none : NoneSettled plan commands (state_after plan commands scope before) behind
-  pub ended : plan.retries < ends_in behind
-  pub opened : plan.retries ≤ opens_in behind
-  pub first : before ≡ [] → plan.retries < opens_in behind
+  pub ended : plan.retries < endings_in behind
+  pub opened : plan.retries ≤ openings_in behind
+  pub first : before ≡ [] → plan.retries < openings_in behind
+
+-- if a run stops for a cause that is one of `IsTried`, at an act that ends a connection or fails to make one, all tries are used
+-- up, as `AllTried` says
+abbrev pub StopsBehindAllTries : Type 0
+StopsBehindAllTries =
+    (plan : Plan) (commands : List Task) (scope : Scope) (acts : List Act) (last : Act) (why : Cause) → Runs plan commands (opening plan scope) (acts ++ last ∷ [])
+    → action_at plan (state_after plan commands scope (acts ++ last ∷ [])) ≡ Stop why → IsTried why → IsEnding last → AllTried plan commands scope (acts ++ last ∷ [])

@@ -1,4 +1,4 @@
-//! A book is if a station writes how its commands ended.
+//! A book is where a station writes how its commands ended.
 
 ghost use Rattle.std.specs.Prelude.{◌≡◌, true, OnOk};
 ghost use Rattle.std.specs.Io.KnownBytes.{Keeps};
@@ -49,7 +49,7 @@ pub trait Book {
     fn write(&mut self, stamp: Stamp, command: &Wish, ending: Ending<'_>) -> Result<(), PortFailed>
         ensures writes { Writes (taken self.old) (taken self.new) (text self.old (record_seen stamp command.now ending.entry)) result }
         ensures fails { FailsWith result (failed self.old) (failed self.new) }
-        ensures untold { overruns self.new ≡ overruns self.old }
+        ensures same_overruns { overruns self.new ≡ overruns self.old }
         ensures form { text self.new ≡ text self.old };
 
     /// Makes all records so far durable: they outlast a crash, if the book is meant to outlast one. It is called before each
@@ -58,12 +58,12 @@ pub trait Book {
         ensures is_durable { OnOk result (is_durable self.new ≡ true) }
         ensures same { Keeps (taken self.old) (taken self.new) }
         ensures fails { FailsWith result (failed self.old) (failed self.new) }
-        ensures untold { overruns self.new ≡ overruns self.old }
+        ensures same_overruns { overruns self.new ≡ overruns self.old }
         ensures form { text self.new ≡ text self.old };
 
     /// Takes note of the health of the link and of the last moment read on the link. It is called before each act.
     fn sees(&mut self, health: LinkHealth, moment: Moment)
-        ensures quiet { overruns self.new ≡ overruns self.old }
+        ensures same_overruns { overruns self.new ≡ overruns self.old }
         ensures same { taken self.new ≡ taken self.old }
         ensures works { failed self.new ≡ failed self.old }
         ensures is_durable { is_durable self.new ≡ is_durable self.old }
@@ -71,7 +71,7 @@ pub trait Book {
 
     /// Takes note that this cycle was not done when the next was due.
     fn overran(&mut self, cycle: u64)
-        ensures told { Appends (overruns self.old) (overruns self.new) (cycle ∷ []) }
+        ensures reports { Appends (overruns self.old) (overruns self.new) (cycle ∷ []) }
         ensures same { taken self.new ≡ taken self.old }
         ensures works { failed self.new ≡ failed self.old }
         ensures is_durable { is_durable self.new ≡ is_durable self.old }

@@ -3,7 +3,7 @@
 //! The table lists the actions that may be next in each phase, of which the first that fits is taken, and the phase after each.
 //! In all phases but `Closing` and `Over` two come first: if no turn is left, `Close(Turns)`, or without a connection
 //! `Stop(Turns)`; and where something was sent, or a connection was closed or couldn't be made, since a moment was read
-//! (`stale`), `ReadClock`, which times out the requests whose deadline has come, and changes no phase. Between these two, with
+//! (`clock_due`), `ReadClock`, which times out the requests whose deadline has come, and changes no phase. Between these two, with
 //! or without a connection: if no answer of a good quality was recorded for as long as the plan allows, `Close(Stale)`; and if
 //! the end of the run was asked for and the station rests (`is_resting`), `Close(Stopped)`.
 //!
@@ -52,17 +52,17 @@ ghost use Rattle.gc_station.specs.Deciding.{is_dead, is_due, goes_on, is_finishe
 
 use crate::cause::Cause;
 use crate::plan::Plan;
-use crate::progress::{Action, Phase, Progress, Until, Waiting, patience_of, width};
+use crate::progress::{Action, Phase, Progress, Until, Waiting, dead_after, width};
 use gc_client::WINDOW;
 
 impl Progress {
     // Whether the line is dead: a request is outstanding, or a null procedure of the synchronization was sent on this
-    // connection, and no reply line came for `patience_of`.
+    // connection, and no reply line came for `dead_after`.
     fn is_dead(&self, plan: &Plan, waiting: Waiting) -> bool
         ensures { result ≡ is_dead plan.now self.now waiting }
     {
         (waiting.all > 0 || self.again > 0)
-            && patience_of(plan) <= self.moment.elapsed.saturating_sub(self.alive)
+            && dead_after(plan) <= self.moment.elapsed.saturating_sub(self.alive)
     }
 
     // Whether no answer of a good quality was recorded for as long as the plan allows.
@@ -148,7 +148,7 @@ impl Progress {
         if self.is_stopping(waiting) {
             return Action::Close(Cause::Stopped);
         }
-        if self.stale {
+        if self.clock_due {
             return Action::ReadClock;
         }
         match self.phase {
@@ -231,7 +231,7 @@ impl Progress {
     }
 
     // Whether the setup is still to be done: no command of a cycle had its turn since the connection was made and the station
-    // synchronized, and a command of the setup wasn\'t sent yet, or the last one sent is outstanding, or wasn\'t answered well.
+    // synchronized, and a command of the setup wasn't sent yet, or the last one sent is outstanding, or wasn't answered well.
     fn is_preparing(&self, plan: &Plan, waiting: Waiting) -> bool
         ensures { result ≡ is_preparing plan.now self.now waiting }
     {
@@ -251,7 +251,7 @@ impl Progress {
         }
     }
 
-    // The next action when the setup\'s next command has its turn. There always is one, since the setup is done once the last
+    // The next action when the setup's next command has its turn. There always is one, since the setup is done once the last
     // one was answered well.
     fn action_turn(&self, plan: &Plan, waiting: Waiting) -> Action
         ensures { result ≡ action_turn plan.now self.now waiting }

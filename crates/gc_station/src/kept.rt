@@ -1,5 +1,5 @@
 //! What is seen of a link and a book before each act of a run: a ghost value, which no code reads and which takes no memory. What
-//! is seen before one act is a turn.
+//! is seen before one act is a snapshot, a turn of the run.
 
 ghost use Rattle.std.specs.Prelude.{◌≡◌, [], ◌∷◌, ◌++◌, List};
 ghost use base.Fml.{ftrue};

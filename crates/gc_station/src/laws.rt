@@ -5,20 +5,20 @@
 //! deadline it has timed out, but stays outstanding. A chain is a row of commands for one target, each sent only once the one
 //! before it was answered well.
 
-ghost use Rattle.std.specs.Prelude.{◌≡◌, ◌⊎◌, ◌≤◌, List, [], ◌∷◌, ◌++◌, length};
+ghost use Rattle.std.specs.Prelude.{◌≡◌, List, [], ◌∷◌, ◌++◌};
 ghost use Rattle.std.specs.List.{AllByRecursion};
 ghost use Rattle.gc_lines.specs.Frames.{rest_of};
 ghost use Rattle.gc_texts.specs.declared.tasks.Task.{Task};
 ghost use Rattle.gc_station.specs.declared.cause.Cause.{Cause};
 ghost use Rattle.gc_station.specs.declared.cause.Cause.TheVariants as cause;
-ghost use Rattle.gc_station.specs.declared.progress.Action.TheVariants.{Send, Skip, Close, Stop};
+ghost use Rattle.gc_station.specs.declared.progress.Action.TheVariants.{Send, Close, Stop};
 ghost use Rattle.gc_station.specs.declared.plan.Plan.{Plan};
 ghost use Rattle.gc_links.specs.Acts.{Act, Closed};
 ghost use Rattle.gc_station.specs.Answers.{AnswerIsJustified};
 ghost use Rattle.gc_station.specs.Behind.{CommandsGoOutBehindTheTable, TheTableIsNeverHeldUp};
 ghost use Rattle.gc_station.specs.Beginnings.{NoneBeforeTheLastAnswer, SynchronizesInOrder, IsClearedAndQuiet};
-ghost use Rattle.gc_station.specs.Closing.{IsReasoned, ClosesForACause, StopsForACause};
-ghost use Rattle.gc_station.specs.Deciding.{patience_of};
+ghost use Rattle.gc_station.specs.Closing.{IsReasoned, ClosesForACause, EndsForTurnsBehindAsManyActs, StopsForACause};
+ghost use Rattle.gc_station.specs.Deciding.{dead_after};
 ghost use Rattle.gc_station.specs.Codes.{WellIsAnAcceptedCode};
 ghost use Rattle.gc_station.specs.Counting.{TalliesCountRecords};
 ghost use Rattle.gc_station.specs.Cycles.{CyclesBeginWhenDue, SentOnlyInTime, UnsentForACause};
@@ -40,7 +40,7 @@ ghost use Rattle.gc_station.specs.Silences.{IsMuteFor};
 ghost use Rattle.gc_station.specs.Stopping.{ClosesStale, StopsAtItsClose, EndsOnceStale, GoesOnInItsChain, ClosesBetweenChains};
 ghost use Rattle.gc_station.specs.Tasked.{CommandsAreTheirTasks};
 ghost use Rattle.gc_station.specs.Model.{opening, action_at, Runs};
-ghost use Rattle.gc_station.specs.Tries.{IsTried, IsEnding, AllTried};
+ghost use Rattle.gc_station.specs.Tries.{StopsBehindAllTries};
 
 /// The commands of cycles that had their turn, sent or not, cycle by cycle and in order, are the records of cycles followed by
 /// the outstanding commands of cycles, each once, except those of further attempts that weren't needed, which are skipped in
@@ -107,7 +107,7 @@ pub fn closes_for_a_cause()
 /// reply had all that time; or the clock went back to that time.
 pub fn closes_a_dead_line_behind_no_reply()
     ensures { (plan : Plan) (commands : List Task) (scope : Scope) (acts : List Act) → Runs plan commands (opening plan scope) acts
-        → action_at plan (state_after plan commands scope acts) ≡ Close cause.Dead → IsMuteFor (patience_of plan) plan commands scope acts }
+        → action_at plan (state_after plan commands scope acts) ≡ Close cause.Dead → IsMuteFor (dead_after plan) plan commands scope acts }
 {}
 
 /// After a command was sent, whatever acts follow, the next command sent has a later place in the same cycle, or is of a later
@@ -163,20 +163,17 @@ pub fn stops_for_a_cause()
         → action_at plan (state_after plan commands scope acts) ≡ Stop why → StopsForACause plan commands scope acts why }
 {}
 
-/// If a run stops at a connection that ended or couldn't be made, and not because it is done, for the clock or for its turns,
-/// its tries are used up. Take the acts after the last read that settled a command, or all acts if none did. Among them more
+/// If a run stops at a connection that ended or couldn't be made, and not because it is done or stale, for the clock, for its
+/// turns, or because its end was asked for, its tries are used up. Take the acts after the last read that settled a command, or all acts if none did. Among them more
 /// than the plan's `retries` connections ended or couldn't be made, and at least `retries` attempts were made to connect; more
 /// than `retries`, if no read settled a command.
 pub fn stops_behind_all_tries()
-    ensures { (plan : Plan) (commands : List Task) (scope : Scope) (acts : List Act) (last : Act) (why : Cause) → Runs plan commands (opening plan scope) (acts ++ last ∷ [])
-        → action_at plan (state_after plan commands scope (acts ++ last ∷ [])) ≡ Stop why → IsTried why → IsEnding last → AllTried plan commands scope (acts ++ last ∷ []) }
+    ensures { StopsBehindAllTries }
 {}
 
 /// If a connection is closed or a run stops because its turns are used up, the run made at least as many acts as it had turns.
 pub fn ends_for_turns_behind_as_many_acts()
-    ensures { (plan : Plan) (commands : List Task) (scope : Scope) (acts : List Act) → Runs plan commands (opening plan scope) acts
-        → (action_at plan (state_after plan commands scope acts) ≡ Close cause.Turns) ⊎ (action_at plan (state_after plan commands scope acts) ≡ Stop cause.Turns)
-        → scope.turns ≤ length acts }
+    ensures { EndsForTurnsBehindAsManyActs }
 {}
 
 /// When a request is sent, its connection was cleared: as soon as it was made, a line feed was sent, alone and complete. Unless

@@ -8,13 +8,14 @@ use gc_texts::Expected;
 /// Which command of which cycle was sent, when, and what is expected of its answer.
 #[derive(Clone, Copy, Debug, PartialEq, Eq)]
 pub(crate) struct Mark {
-    /// The cycle, counted from 1.
+    /// The cycle, counted from 1; 0 for a command of the setup.
     pub cycle: u64,
-    /// The command's place among the commands of a cycle, counted from 0.
+    /// The command's place in the station's list, counted from 0: the setup is at the front.
     pub place: usize,
     /// The last moment read on the link before the command was sent, in milliseconds since 1970-01-01, UTC.
     pub sent: u64,
-    /// The place of the command's target, and which return codes are accepted, as the text says.
+    /// What the text says of the answer: where the target is, which return codes are accepted, and which endings send the chain
+    /// again; and which command of the text it is, in which attempt.
     pub expected: Expected,
 }
 

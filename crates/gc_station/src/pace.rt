@@ -5,11 +5,12 @@ ghost use Rattle.std.specs.Prelude.{◌≡◌, ℕ, Option};
 ghost use Rattle.std.specs.Option.{option_to_list};
 ghost use Rattle.std.specs.Io.KnownBytes.{Appends};
 ghost use Rattle.gc_client.specs.Rule.{IsEarliest, deadlines};
-ghost use Rattle.gc_station.specs.Pace.{dead_at, due_at, retry_at, stale_at, longest, ends_in, ends_without_deadline, ends_at, patience, cycle_of, overrun, reported_then};
+ghost use Rattle.gc_station.specs.Model.{cycles_begun};
+ghost use Rattle.gc_station.specs.Pace.{dead_at, due_at, retry_at, stale_at, longest, ends_in, ends_without_deadline, ends_at, patience, overrun, reported_then};
 
 use crate::book::{Book, LinkHealth};
 use crate::plan::Plan;
-use crate::progress::{Phase, Progress, Until, patience_of};
+use crate::progress::{Phase, Progress, Until, dead_after};
 use crate::progressing::later;
 use crate::station::Station;
 
@@ -36,7 +37,7 @@ impl Progress {
     fn dead_at(&self, plan: &Plan) -> u64
         ensures { result ≡ dead_at plan.now self.now }
     {
-        later(self.alive, patience_of(plan))
+        later(self.alive, dead_after(plan))
     }
 
     // The moment at which the next cycle is due.
@@ -100,7 +101,7 @@ impl Progress {
 
     // The number of the cycle that began last, counted from 1; 0 before the first.
     fn cycle(&self, plan: &Plan) -> u64
-        ensures { result ≡ cycle_of plan.now self.now }
+        ensures { result ≡ cycles_begun plan.now self.now }
     {
         plan.cycles.saturating_sub(self.left)
     }
@@ -157,7 +158,7 @@ impl Station {
     }
 
     // Reports to a book the health of the link and, once for each cycle, that the cycle wasn't done when the next was due. `told` is
-    // the last cycle that was reported before. Returns the last one that was reported by then.
+    // the last cycle that was reported before; the result is the last one that is reported now.
     pub(crate) fn tell_overrun<B: Book>(&self, book: &mut B, plan: &Plan, told: u64) -> u64
         ensures told { result ≡ reported_then told (overrun plan.now self.now.progress told) }
         ensures tells { Appends (B.overruns book.old) (B.overruns book.new) (option_to_list (overrun plan.now self.now.progress told)) }

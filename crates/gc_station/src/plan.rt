@@ -23,8 +23,8 @@ pub struct Plan {
     /// next is due takes no try, and the next connection is made when that cycle is due. An attempt that failed always takes
     /// one.
     pub retries: u32,
-    /// How many of the commands before it are the setup, at most as many as there are. The others are those of a cycle. The
-    /// setup is sent on each connection, and after each synchronization, before any of them.
+    /// How many commands at the front of the station's list are the setup: at most as many as there are. The others are those of
+    /// a cycle. The setup is sent on each connection, and after each synchronization, before any of them.
     pub setup: usize,
     /// How long the run goes on without an answer of a good quality, counted from the start or the last one that was recorded.
     /// 0: for as long as it takes.

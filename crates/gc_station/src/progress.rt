@@ -1,7 +1,7 @@
 //! Progress: how far a station is. What it does next is decided in `deciding.rt`, by looking at nothing else.
 
 ghost use Rattle.std.specs.Prelude.{◌≡◌};
-ghost use Rattle.gc_station.specs.Deciding.{width_of, is_up, is_past, is_quiet, has_begun, patience_of};
+ghost use Rattle.gc_station.specs.Deciding.{width_of, is_up, is_past, is_quiet, has_begun, dead_after};
 ghost use Rattle.gc_station.specs.Progressing.{at_start};
 ghost use Rattle.gc_station.specs.Model.{is_heard};
 
@@ -11,7 +11,7 @@ use crate::progressing::later;
 use gc_client::Beginning;
 use gc_links::Moment;
 
-/// How far a station is.
+/// The phase of a station: whether it has a connection, and what it may do with that.
 #[derive(Clone, Copy)]
 pub(crate) enum Phase {
     /// Without a connection, and one is to be made.
@@ -92,18 +92,19 @@ pub(crate) struct Waiting {
     pub fresh: u64,
 }
 
-/// How far a station is.
+/// How far a station is: its phase, the last moment read, and where it is in its synchronization, its setup, its cycles and its
+/// tries.
 #[derive(Drop)]
 pub(crate) struct Progress {
-    /// How far the station is.
     pub phase: Phase,
     /// Which null procedures of the synchronization are answered. Once all are, the station has synchronized.
     pub word: Beginning,
     /// The deadline of the null procedure of the first id that isn't answered, if that was sent on this connection: then it is
     /// sent again. Else 0.
     pub again: u64,
-    /// Whether something was sent, or a connection was closed or couldn't be made, since `moment` was read.
-    pub stale: bool,
+    /// Whether the clock is to be read next: something was sent, or a connection was closed or couldn't be made, since `moment`
+    /// was read.
+    pub clock_due: bool,
     /// The last moment read on the link.
     pub moment: Moment,
     /// From when a pause and the quiet time count: the last moment that was read otherwise than after a read that gave nothing,
@@ -161,8 +162,8 @@ pub(crate) fn width(plan: &Plan) -> u8
 }
 
 // After how long without a reply line the line is dead: twice the longest deadline.
-pub(crate) fn patience_of(plan: &Plan) -> u64
-    ensures { result ≡ patience_of plan.now }
+pub(crate) fn dead_after(plan: &Plan) -> u64
+    ensures { result ≡ dead_after plan.now }
 {
     later(plan.deadline, plan.deadline)
 }
@@ -208,7 +209,7 @@ impl Progress {
             phase: Phase::Down,
             word: Beginning::new(),
             again: 0,
-            stale: false,
+            clock_due: false,
             moment: Moment {
                 elapsed: 0,
                 utc: 0,

@@ -6,7 +6,7 @@ ghost use Rattle.gc_client.specs.Hearing.{HearsInto};
 ghost use Rattle.gc_client.specs.Rule.{ById};
 ghost use Rattle.gc_client.specs.declared.settlement.Settlement.{Settlement};
 ghost use Rattle.gc_station.specs.Deciding.{later};
-ghost use Rattle.gc_station.specs.Progressing.{turned, moment_noted, beginning, is_missing, due_of, cycle_begun, skipped, attempts_left_out, skipped_at, failing, opened, is_finished, is_idle, is_spared, phase_again, pause_again, after_failure, cleared, asking, null_sent, renewed, line_asked, sent, caught_up, line_noted, early_after, bytes_noted, pause_ended, drained, quieted, time_passed, silent, reckoned_early, ended_for, closed, is_over, loses_all, next_attempt, unprepared, setup_sent, gives_back};
+ghost use Rattle.gc_station.specs.Progressing.{turned, moment_noted, cycle_start, is_missing, due_of, cycle_begun, skipped, attempts_left_out, skipped_at, failing, opened, is_finished, is_idle, is_spared, phase_again, pause_again, after_failure, cleared, request_noted, null_sent, renewed, line_synchronizing, sent, caught_up, line_noted, early_after, bytes_noted, pause_ended, drained, quieted, time_passed, silent, reckoned_early, ended_for, closed, is_over, loses_all, next_attempt, setup_restarted, setup_sent, gives_back};
 ghost use Rattle.gc_station.specs.Lines.{is_reply};
 
 use crate::cause::Cause;
@@ -35,7 +35,7 @@ fn early_after(until: Until, early: bool) -> bool
 }
 
 // Whether a line reads as a reply.
-fn reads(line: &[u8]) -> bool
+fn reads_as_reply(line: &[u8]) -> bool
     ensures { result ≡ is_reply line.now }
 {
     match read_reply(line) {
@@ -73,14 +73,14 @@ impl Progress {
         self.since = moment.elapsed;
         self.alive = self.alive.min(moment.elapsed);
         self.began = self.began.min(moment.elapsed);
-        self.stale = false;
+        self.clock_due = false;
         self.stops = self.stops || moment.stops;
     }
 
     // The moment that counts as the beginning of a cycle that is begun at `moment`: that moment for the first cycle, and where
     // cycles have no due moment; for any other the moment at which it was due, or `moment` if that is earlier.
-    fn beginning(&self, plan: &Plan, moment: Moment) -> u64
-        ensures { result ≡ beginning plan.now moment self.now }
+    fn cycle_start(&self, plan: &Plan, moment: Moment) -> u64
+        ensures { result ≡ cycle_start plan.now moment self.now }
     {
         if self.left == plan.cycles || plan.every == 0 {
             moment.elapsed
@@ -93,7 +93,9 @@ impl Progress {
     fn is_missing(&self, plan: &Plan, moment: Moment) -> bool
         ensures { result ≡ is_missing plan.now moment self.now }
     {
-        let late = moment.elapsed.saturating_sub(self.beginning(plan, moment));
+        let late = moment
+            .elapsed
+            .saturating_sub(self.cycle_start(plan, moment));
         plan.every > 0 && plan.every <= late
     }
 
@@ -101,7 +103,9 @@ impl Progress {
     fn due_of(&self, plan: &Plan, moment: Moment) -> u64
         ensures { result ≡ due_of plan.now moment self.now }
     {
-        let late = moment.elapsed.saturating_sub(self.beginning(plan, moment));
+        let late = moment
+            .elapsed
+            .saturating_sub(self.cycle_start(plan, moment));
         moment.utc.saturating_sub(late)
     }
 
@@ -109,7 +113,7 @@ impl Progress {
     pub(crate) fn begin_cycle(&mut self, plan: &Plan, count: usize, moment: Moment)
         ensures { self.new ≡ cycle_begun plan.now count moment self.old }
     {
-        let began = self.beginning(plan, moment);
+        let began = self.cycle_start(plan, moment);
         let missed = self.is_missing(plan, moment);
         let due = self.due_of(plan, moment);
         self.note_moment(moment);
@@ -222,7 +226,7 @@ impl Progress {
         }
     }
 
-    // The attempt of the setup that is next: the one after the last, if something of that was sent.
+    // The number of the next attempt of the setup: one more than the last one's, if something of that was sent; else the same.
     fn next_attempt(&self) -> u64
         ensures { result ≡ next_attempt self.now }
     {
@@ -234,8 +238,8 @@ impl Progress {
     }
 
     // Notes that the setup, if there is one, is to be sent again from its first command on.
-    fn unprepare(&mut self, plan: &Plan)
-        ensures { self.new ≡ unprepared plan.now self.old }
+    fn restart_setup(&mut self, plan: &Plan)
+        ensures { self.new ≡ setup_restarted plan.now self.old }
     {
         self.attempt = self.next_attempt();
         self.preparing = plan.setup > 0;
@@ -250,12 +254,12 @@ impl Progress {
         let spared = self.is_spared(plan, cause);
         self.pause = self.pause_again(plan, cause);
         self.phase = self.phase_again(plan, commands, cause);
-        self.stale = true;
+        self.clock_due = true;
         self.chain_unbroken = false;
         if !spared {
             self.tries = self.tries.saturating_sub(1);
         }
-        self.unprepare(plan);
+        self.restart_setup(plan);
     }
 
     // Notes that the line feed was sent: the connection is drained next, unless a synchronization goes on with it.
@@ -269,19 +273,19 @@ impl Progress {
         };
         self.again = 0;
         self.asked = false;
-        self.stale = true;
+        self.clock_due = true;
     }
 
     // Notes that a request was sent. The time after which the line is dead begins with the first request after a reply line.
     // The request counts as one more after the last call of the table that a reply ended.
     pub(crate) fn note_request(&mut self)
-        ensures { self.new ≡ asking self.old }
+        ensures { self.new ≡ request_noted self.old }
     {
         if !self.asked {
             self.alive = self.moment.elapsed;
         }
         self.asked = true;
-        self.stale = true;
+        self.clock_due = true;
         if self.behind < WINDOW {
             self.behind += 1;
         }
@@ -308,19 +312,19 @@ impl Progress {
         self.asked = self.asked && self.goes_on(plan);
         self.chain_unbroken = false;
         self.behind = 0;
-        self.unprepare(plan);
+        self.restart_setup(plan);
     }
 
     // Hears a line while the station synchronizes. If the line answers the first null procedure that is left, the next one is
     // sent at once.
     pub(crate) fn hear(&mut self, line: &[u8])
         requires { length line.now ≤ 512 }
-        ensures { self.new ≡ line_asked self.old line.now }
+        ensures { self.new ≡ line_synchronizing self.old line.now }
     {
         if self.word.hear(line) {
             self.again = 0;
         }
-        self.note_line(reads(line));
+        self.note_line(reads_as_reply(line));
     }
 
     // Notes that the next command was sent. `next_is_chained` and `others` are of the command after it, as of `skip`.
@@ -419,7 +423,7 @@ impl Progress {
         self.since = self.since.min(moment.elapsed);
         self.alive = self.alive.min(moment.elapsed);
         self.began = self.began.min(moment.elapsed);
-        self.stale = false;
+        self.clock_due = false;
         self.stops = self.stops || moment.stops;
         self.early = early_after(until, self.early);
     }

@@ -88,7 +88,7 @@ pub(crate) fn run<L: Link, B: Book>(
 /// that was sent is settled or lost. Between two chains nothing more is sent then: what is in flight is waited for until it is
 /// settled or timed out, the connection is closed, and commands that had no turn aren't written. The run fails with `Clock` as
 /// soon as the clock can't be read; and, once no try is left, with `Read` if a read failed, `Mute` if the line was dead,
-/// `Write` if a write was cut (with the number of the cycle's commands before it, 0 before the first cycle), `LinkClosed` if
+/// `Write` if a write was cut (with the number of commands before it in the list, 0 before the first cycle), `LinkClosed` if
 /// the other end closed the connection, and `Socket` if no connection could be made. It fails with `Stale` at the first moment
 /// at or past `stale` since the start or the last answer of a good quality, and with `TooManyReads` where `max_turns` acts were
 /// made; a connection that is open then is closed by one act more. In all of these cases the connection is closed, and the

@@ -149,7 +149,8 @@ impl Station {
         self.progress.action(plan, self.waiting())
     }
 
-    // The place of the next command, counted from 0: how many commands of the cycle were sent or left out.
+    // The place of the cycle's next command in the station's list, counted from 0: the setup is before it, and so are the commands
+    // of the cycle that were sent or left out.
     fn place(&self, commands: &[Task]) -> usize
         ensures { result ≡ place_next commands.now self.now.progress }
     {
@@ -200,7 +201,8 @@ impl Station {
         others_at(commands, self.place(commands).saturating_add(count))
     }
 
-    // How many commands of the cycle were sent or left out: 0 before the first cycle. The fault of a cut write has this number.
+    // How many commands are before the cycle's next one in the list, those of the setup included; 0 before the first cycle. The
+    // fault of a cut write has this number.
     fn requests_out(&self, plan: &Plan, commands: &[Task]) -> usize
         ensures { result ≡ requests_out plan.now commands.now self.now.progress }
     {

@@ -138,8 +138,8 @@ fn code_of(outcome: &Outcome) -> Option<u16>
     }
 }
 
-// Whether a command of an attempt ended as its rule names, if this is expected of the one that ended last, and its reply has
-// this return code other than 0: it did, or one before it (`listed`), unless the attempt begins with it.
+// Whether a command of the current attempt has ended as its rule names, after one more has ended: this one, whose reply has this
+// return code other than 0, if any; or, unless the attempt begins with it, one before it (`listed`).
 pub(crate) fn is_listed(
     listed: bool,
     expected: &Expected,

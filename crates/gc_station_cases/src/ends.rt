@@ -50,7 +50,7 @@ impl Ends {
         }
     }
 
-    // Keeps the moment at which a record's request was sent, in milliseconds since 1970, if it did and the case is stamped.
+    // Keeps the moment at which a record's request was sent, in milliseconds since 1970, if it was sent and the case is stamped.
     fn note_sent(&mut self, sent: Option<u64>) {
         let Some(sent) = sent else { return };
         if self.stamped {
@@ -61,7 +61,7 @@ impl Ends {
     }
 
     // Keeps the last digit of a number.
-    fn digit(&mut self, n: u64) {
+    fn note_digit(&mut self, n: u64) {
         let _ = self.text.try_push(b'0'.wrapping_add((n % 10) as u8));
     }
 }
@@ -90,8 +90,8 @@ impl Book for Ends {
         if self.writes == self.fails {
             return Err(PortFailed);
         }
-        self.digit(stamp.cycle);
-        self.digit(stamp.place as u64);
+        self.note_digit(stamp.cycle);
+        self.note_digit(stamp.place as u64);
         match ending {
             Ending::Answered(Quality::Warning, _, line) => self.note_values(b"w", line),
             Ending::Answered(_, _, line) => self.note_values(b"a", line),
@@ -121,7 +121,7 @@ impl Book for Ends {
 
     // Keeps the word of a cycle that overran.
     fn overran(&mut self, cycle: u64) {
-        self.digit(cycle);
+        self.note_digit(cycle);
         self.note(b"! ");
     }
 }

@@ -40,7 +40,7 @@ pub struct Outcome {
     end: Told,
     // The log, if there is one.
     log: Told,
-    // How many commands ended how, if the case tells it.
+    // How many commands ended how, if the case asks for that.
     counts: Told,
     is_log_lost: bool,
 }

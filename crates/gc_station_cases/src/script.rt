@@ -70,8 +70,8 @@ pub struct Script<'a> {
     blind: bool,
     // Whether each call is kept with its time since the start, and of a request its id alone.
     timed: bool,
-    // How many null procedures of a synchronization were put in a row so far; if the text of the first begins, and when it was
-    // put.
+    // How many null procedures of a synchronization were put in a row so far; where the text of the first begins, and when it
+    // was put.
     nulls: usize,
     first: usize,
     first_at: u64,

@@ -1,6 +1,6 @@
 //! How a case's run is set, by words.
 
-use crate::words::{cut_word, number};
+use crate::words::number;
 use gc_station::Plan;
 
 /// How a run is set.
@@ -43,8 +43,7 @@ pub struct Setting {
 }
 
 impl Setting {
-    /// One request at a time, timed out after 100 milliseconds, a quiet time of 10, and one new try, so that a line is dead
-    /// after
+    /// One request at a time, timed out after 100 milliseconds, a quiet time of 10, and one new try, so that a line is dead after
     /// 200. Nothing fails.
     pub fn new() -> Setting {
         Setting {
@@ -80,15 +79,12 @@ impl Setting {
 
     /// Sets what these words say, and returns whether each is known: `WORD=NUMBER`, or a word alone.
     pub fn set_all(&mut self, words: &str) -> bool {
-        let mut rest = words;
         let mut are_known = true;
-        for _ in 0..words.len() {
-            if rest.is_empty() {
-                break;
+        for word in words.split(' ') {
+            if word.is_empty() {
+                continue;
             }
-            let (word, behind) = cut_word(rest);
             are_known &= self.set_word(word);
-            rest = behind;
         }
         are_known
     }

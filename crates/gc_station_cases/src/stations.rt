@@ -5,10 +5,10 @@
 //!     with width=2 timed          what is set otherwise than `Setting::new` has it
 //!     steps BEGUN #0 end QUIET    what the reads come to
 //!     then dead answers           the steps after these, where `with` or a row says `first`
-//!     put open lf begin %R1Q,0,0: ..    what is put; `begin` are the eight null procedures of a beginning, in a row, each once
+//!     put open lf begin %R1Q,0,0: ..    what is put; `begin` are the eight null procedures of a synchronization, in a row, each once
 //!     ends 10a 11x 2!             cycle, place and a letter for each record: answered, a warning, unreadable and elsewhere (each
 //!                                 with its values after it), late, lost (x), skipped or missed; where `with` says `stamped`, `@` and
-//!                                 the moment at which its request went out, if it did; `!` behind a cycle that overran
+//!                                 the moment at which its request was sent, if it was; `!` after a cycle that overran
 //!     end fault 46                the fault, if there is one
 //!     counts answered 3 ..        how many commands ended how, where `with` says `counted`
 //!     log ..                      what the log has, over a link with one; without tasks the link only hears
@@ -110,7 +110,7 @@ fn play_rows(alloc: Global, case: &Case<'_>, run: &Run<'_>, wrong: &mut Told) {
     }
 }
 
-// Plays a row: runs with its word, and where something else comes than the row has, tells that.
+// Plays a row: runs with its word, and reports what came if that is something else than the row has.
 fn play_row(alloc: Global, case: &Case<'_>, row: &str, run: &Run<'_>, wrong: &mut Told) {
     let mut came = Told::new(alloc);
     let word = row.split_once(": ").map_or(row, |cut| cut.0);

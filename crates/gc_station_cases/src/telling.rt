@@ -1,4 +1,4 @@
-//! A station over any link, made to tell its acts.
+//! A station over any link, whose acts are recorded.
 
 ghost use Rattle.std.specs.Prelude.{Some};
 ghost use Rattle.gc_station.specs.Runs.{Ran};

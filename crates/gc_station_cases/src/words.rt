@@ -1,16 +1,16 @@
 //! The words of steps. Milliseconds come after `@`, and are 5 if none do.
 //!
-//!     BEGUN              the beginning is answered: the replies of its eight null procedures come, the last of them 15 later
+//!     BEGUN              the synchronization is answered: the replies of its eight null procedures come, the last of them 15 later
 //!     QUIET              nothing comes for the quiet time
 //!     GIVEN_UP           nothing comes until a deadline
 //!     #3@30              the reply of a null procedure with this id comes
 //!     <%R1P,0,1:\r@99    these bytes come
 //!     <<%R1P,0,1:0\r\n   these bytes come in two pieces, where `split` says
 //!     silence@70         nothing comes for so long
-//!     reply@1            the reply to the request that went out last comes, with its number among all of them
+//!     reply@1            the reply to the request that was sent last comes, with its number among all of them
 //!     back@500           the clock goes back
 //!     dead, noise        nothing comes any more, or lines that are no replies, until the connection is closed
-//!     answers            from now on the request that went out last is answered, if it isn't yet
+//!     answers            from now on the request that was sent last is answered, if it isn't yet
 //!     end, failure, no_moment   the other end closes, the read fails, or the clock can't be read after the read
 
 use crate::script::Step;
@@ -29,33 +29,24 @@ fn meaning_of(word: &str) -> Option<&'static str> {
 /// Adds the steps of words, and returns whether each is known, and each step has room. `split`: after how many bytes a line of a
 /// word `<<` is cut in two.
 pub fn push_words<'a>(steps: &mut Vec<Step<'a>>, words: &'a str, split: u64) -> bool {
-    let mut rest = words;
     let mut are_known = true;
-    for _ in 0..words.len() {
-        if rest.is_empty() {
-            break;
+    for word in words.split(' ') {
+        if word.is_empty() {
+            continue;
         }
-        let (word, behind) = cut_word(rest);
         are_known &= match meaning_of(word) {
             Some(meaning) => push_named(steps, meaning),
             None => push_word(steps, word, split),
         };
-        rest = behind;
     }
     are_known
 }
 
 // Adds the steps of `meaning`, the words that a name stands for.
 fn push_named(steps: &mut Vec<Step<'_>>, meaning: &'static str) -> bool {
-    let mut rest = meaning;
     let mut are_known = true;
-    for _ in 0..meaning.len() {
-        if rest.is_empty() {
-            break;
-        }
-        let (word, behind) = cut_word(rest);
+    for word in meaning.split(' ') {
         are_known &= push_word(steps, word, 0);
-        rest = behind;
     }
     are_known
 }
@@ -115,11 +106,6 @@ fn id_of(id: &str) -> Option<u8> {
         [digit] => Some(*digit),
         _ => None,
     }
-}
-
-/// The first word, and what comes after the blank that ends it.
-pub fn cut_word(words: &str) -> (&str, &str) {
-    words.split_once(' ').unwrap_or((words, ""))
 }
 
 /// The number that digits write.

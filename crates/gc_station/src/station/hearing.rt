@@ -5,8 +5,8 @@ ghost use Rattle.std.specs.Option.{option_to_list};
 ghost use Rattle.gc_lines.specs.Frames.{line_in};
 ghost use Rattle.gc_lines.specs.Lent.{lent_seen, IsLineWithin};
 ghost use Rattle.gc_lines.specs.Ports.{FailsWith};
-ghost use Rattle.gc_station.specs.Model.{Model, is_heard, with_progress, lines_came, piece_came, piece_asked, after_piece, piece_at, moved};
-ghost use Rattle.gc_station.specs.Progressing.{lines_asked};
+ghost use Rattle.gc_station.specs.Model.{Model, is_heard, with_progress, lines_came, piece_came, piece_synchronizing, after_piece, piece_at, moved};
+ghost use Rattle.gc_station.specs.Progressing.{lines_synchronizing};
 ghost use Rattle.gc_station.specs.Stations.{Refines, Took, Made, ComesTo, seen};
 ghost use Rattle.gc_station.specs.declared.progress.Action.TheVariants.{Read};
 ghost use Rattle.gc_texts.specs.declared.tasks.Task.{Task};
@@ -66,7 +66,7 @@ impl Station {
     // null procedure.
     fn hear_null(&mut self, frame: Lent<'_>)
         requires { IsLineWithin frame }
-        ensures { self.new ≡ record self.old { progress = lines_asked self.old.progress (option_to_list (line_in (lent_seen frame.entry))) } }
+        ensures { self.new ≡ record self.old { progress = lines_synchronizing self.old.progress (option_to_list (line_in (lent_seen frame.entry))) } }
     {
         if let Lent::Line(line) = frame {
             self.progress.hear(line);
@@ -75,7 +75,7 @@ impl Station {
 
     // Hears the lines of a piece, in order, while the station synchronizes.
     fn listen_null(&mut self, piece: &[u8])
-        ensures { (s : Model) → Refines self.old s → Refines self.new (piece_asked piece.now s) }
+        ensures { (s : Model) → Refines self.old s → Refines self.new (piece_synchronizing piece.now s) }
     {
         let mut cut = Line::new();
         let mut at = 0;

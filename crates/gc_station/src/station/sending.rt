@@ -1,15 +1,14 @@
 //! What a station sends: the line feed that clears half a request, and requests.
 
 ghost use Rattle.std.specs.Prelude.{◌≡◌, ℕ, ◌<◌, ◌≤◌, ◌++◌, List, [], ◌∷◌, false, length, drop, Option};
-ghost use Rattle.gc_client.specs.Rule.{sends};
 ghost use Rattle.gc_client.specs.declared.window.TheConstants.{WINDOW};
 ghost use Rattle.gc_catalogue.specs.declared.asked.Asked.TheVariants.{Table};
 ghost use Rattle.gc_catalogue.specs.declared.call.Call.TheVariants.{NullProc};
 ghost use Rattle.gc_links.specs.Acts.{Tells, put_as, IsPart};
-ghost use Rattle.gc_station.specs.Deciding.{later, has_begun};
+ghost use Rattle.gc_station.specs.Deciding.{has_begun};
 ghost use Rattle.gc_station.specs.Records.{Record};
 ghost use Rattle.gc_station.specs.Requests.{command_at};
-ghost use Rattle.gc_station.specs.Model.{request_text, null_text, client_sent, mark_setup};
+ghost use Rattle.gc_station.specs.Model.{request_text, null_text, mark_setup, sent_to};
 ghost use Rattle.gc_station.specs.Stations.{IsPaired, Does, cut_progress, setup_asked, seen};
 ghost use Rattle.gc_station.specs.declared.progress.Action.TheVariants.{Clear, Ask, Prepare, Send, Flush};
 
@@ -89,10 +88,7 @@ impl Station {
         ensures tells { Tells (L.acts link.old) (L.acts link.new) (put_as result (request_text self.old.client.ids command.now.call) ∷ []) }
         ensures part { IsPart result (request_text self.old.client.ids command.now.call) }
         ensures asks { self.new ≡ record self.old {
-          client = record self.old.client {
-            ids =
-                client_sent self.old.client.ids (sends self.old.client.width self.old.client.ids command.now.target command.now.call (later self.old.progress.moment.elapsed wait));
-          };
+          client = record self.old.client { ids = sent_to self.old.client.width self.old.client.ids command.now self.old.progress.moment.elapsed wait };
           marks = record { items = self.old.marks.items ++ mark ∷ [] };
         } }
     {

@@ -1,13 +1,11 @@
 //! Commands that a station doesn't send: one that is recorded as skipped or missed, and further attempts that aren't needed.
 
-ghost use Rattle.std.specs.Prelude.{◌≡◌, ℕ, ◌<◌, ◌≤◌, ◌++◌, List, length, Option, None, OnOk, false, if◌then◌else◌};
+ghost use Rattle.std.specs.Prelude.{◌≡◌, ℕ, ◌<◌, ◌≤◌, ◌++◌, List, length, Option, OnOk, false};
 ghost use Rattle.std.specs.Io.KnownBytes.{Appends};
 ghost use Rattle.gc_lines.specs.Ports.{FailsWith};
 ghost use Rattle.gc_links.specs.Acts.{Told};
-ghost use Rattle.gc_texts.specs.Endings.{Missed, Skipped};
-ghost use Rattle.gc_station.specs.Attempts.{listed_after};
 ghost use Rattle.gc_station.specs.Records.{Record, texts_of, WritesAll};
-ghost use Rattle.gc_station.specs.Model.{mark_next, skips, moved};
+ghost use Rattle.gc_station.specs.Model.{listed_unsent, skips, moved};
 ghost use Rattle.gc_station.specs.Stations.{Does, Made, seen};
 ghost use Rattle.gc_station.specs.Tallies.{tallied};
 ghost use Rattle.gc_station.specs.declared.progress.Action.TheVariants.{Skip, Pass};
@@ -94,7 +92,7 @@ impl Station {
         ensures after { OnOk result (self.new ≡ record self.old {
           tally = tallied self.old.tally (skips plan.now commands.now self.old.progress (Told moment));
           well = false;
-          listed = listed_after self.old.listed (mark_next plan.now commands.now self.old.progress).expected None (if self.old.progress.missed then Missed else Skipped);
+          listed = listed_unsent plan.now commands.now self.old.progress self.old.listed;
         }) }
         ensures fails { FailsWith result (B.failed book.old) (B.failed book.new) }
         ensures form { B.text book.new ≡ B.text book.old }

@@ -1,4 +1,4 @@
--- `new` picks no turns. Assumes `Logic`.
+-- The ghost value of `new` has no snapshots. Assumes `Logic`.
 use Rattle.std.proofs.Common.{[], ◌∷◌, refl}
 use seplogic.Ra.Ura.{Ura}
 use mir.Syntax.{Fn}

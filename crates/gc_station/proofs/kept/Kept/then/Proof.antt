@@ -1,4 +1,4 @@
--- `then` picks the turns of what is new. Assumes `Logic`.
+-- The ghost value of `then` has one snapshot more. Assumes `Logic`.
 use Rattle.std.proofs.Common.{List, [], ◌∷◌, ◌++◌, refl}
 use seplogic.Ra.Ura.{Ura}
 use mir.Syntax.{Fn, Args, a_type}

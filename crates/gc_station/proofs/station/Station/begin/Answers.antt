@@ -17,7 +17,8 @@ returns-in-Ok g c text known =
       goes = λ s start stands so. (
         tt,
         stands_expired old c.begin_cycle.new.self (cycle_begun plan count m s.progress) c.expire.new.self c.min-self.result m s stands
-            (c.begin_cycle.ensures ∙ ap (λ n. cycle_begun plan n m old.progress) c.saturating_sub-count.ensures ∙ ap (cycle_begun plan count m) stands.progress) c.expire.ensures.client c.min-self.ensures,
+            (c.begin_cycle.ensures ∙ ap (λ n. cycle_begun plan n m old.progress) c.saturating_sub-count.ensures ∙ ap
+            (cycle_begun plan count m) stands.progress) c.expire.ensures.client c.min-self.ensures,
         so,
       );
     }

@@ -18,7 +18,18 @@ returns-clause-ends g c s start stands so =
     let loses = sym c.if-not-loses_all.false ∙ c.loses_all.ensures ∙ ap loses_all stands.progress in
     let t = settles_either (g.B.Book.text c.args.book.now) c.args.self.now _ c.write.new.self s x (map settlement_seen items) (length items) start (g.B.Book.taken c.write.new.book) c.write.result
     stands
-    (record { ids_are = ap (λ w. w.ids) client ∙ ap (λ y. y.client) seen; width = ap (λ w. w.width) client; marks = refl; assembler = refl; progress = refl; tally = refl; well = refl; listed = refl; fresh = refl })
+    (record {
+      ids_are = ap (λ w. w.ids) client ∙ ap (λ y. y.client) seen;
+      width = ap
+          (λ w. w.width) client;
+      marks = refl;
+      assembler = refl;
+      progress = refl;
+      tally = refl;
+      well = refl;
+      listed = refl;
+      fresh = refl;
+    })
     same
     (sym (length-map items settlement_seen) ∙ ap length same)
     (restarts_paired s.marks s.client stands.paired)

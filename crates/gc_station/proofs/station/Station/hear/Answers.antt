@@ -21,7 +21,18 @@ returns-clause-hears g c s start stands so =
     let reply = c.is_reply.ensures _ _ line _ (c.hear-hearing.ensures.heard short) in
     let t = settles_ok (g.B.Book.text c.args.book.now) c.args.self.now _ c.write.new.self s x (map settlement_seen items) (length items) start (g.B.Book.taken c.write.new.book)
     stands
-    (record { ids_are = ap (λ w. w.ids) client ∙ ap (λ y. y.client) seen; width = ap (λ w. w.width) client; marks = refl; assembler = refl; progress = refl; tally = refl; well = refl; listed = refl; fresh = refl })
+    (record {
+      ids_are = ap (λ w. w.ids) client ∙ ap (λ y. y.client) seen;
+      width = ap
+          (λ w. w.width) client;
+      marks = refl;
+      assembler = refl;
+      progress = refl;
+      tally = refl;
+      well = refl;
+      listed = refl;
+      fresh = refl;
+    })
     same
     (sym (length-map items settlement_seen) ∙ ap length same)
     (hears_paired s.marks s.client line (heard line) stands.paired)
@@ -33,7 +44,11 @@ returns-clause-hears g c s start stands so =
     let waits = c.waiting.ensures.waiting ∙ ap (λ (st : Station). length st.client.ids.waiting) after ∙ ap (λ w. length w.ids.waiting) client ∙ ap (λ y. length y.client.waiting) seen in
     let caught = with_caught c.write.new.self c.catch_up.new.self c.ends_with_table-of_table.result (ends_with_table x.settlements) c.waiting.result (length x.client.waiting) (settles x s) t.0
     table waits c.catch_up.ensures in
-    rw c.in-Line.is (with_noted (record c.write.new.self { progress = c.catch_up.new.self }) c.note_line.new.self c.is_reply.result (is_reply line) (line_settles x s) caught reply c.note_line.ensures, t.1)
+    rw c.in-Line.is (
+      with_noted (record c.write.new.self { progress = c.catch_up.new.self }) c.note_line.new.self c.is_reply.result
+          (is_reply line) (line_settles x s) caught reply c.note_line.ensures,
+      t.1,
+    )
 
 pub returns-in-Err-clause-hears : goal.returns-in-Err-clause-hears
 returns-in-Err-clause-hears g c s start stands so =
@@ -48,7 +63,18 @@ returns-in-Err-clause-hears g c s start stands so =
     (record c.args.self.now { client = c.hear-hearing.new.self; settled = c.hear-hearing.new.settled }) s x (map settlement_seen items) start
     (g.B.Book.taken c.write.new.book)
     stands
-    (record { ids_are = ap (λ w. w.ids) client ∙ ap (λ y. y.client) seen; width = ap (λ w. w.width) client; marks = refl; assembler = refl; progress = refl; tally = refl; well = refl; listed = refl; fresh = refl })
+    (record {
+      ids_are = ap (λ w. w.ids) client ∙ ap (λ y. y.client) seen;
+      width = ap
+          (λ w. w.width) client;
+      marks = refl;
+      assembler = refl;
+      progress = refl;
+      tally = refl;
+      well = refl;
+      listed = refl;
+      fresh = refl;
+    })
     same
     (λ are. c.in-Err.ensures.wrote s.reads start s.records are (so are)) in
     rw c.in-Line.is t
