@@ -1,5 +1,6 @@
--- One act of a rehearsed line: what it is to the station, and what it does to the line, are turns of a beginning, or moves of a client.
-use Rattle.std.proofs.Common.{◌≡◌, ◌⊎◌, inl, inr, ℕ, zero, ◌+◌, ◌<◌, ◌≤◌, Bool, true, false, List, [], ◌∷◌, ◌++◌, drop, length, map, Option, Some, None, refl, sym, ◌∙◌, ap, subst, arith, append_assoc, length-append}
+-- One act of a rehearsed line: what it is to the station, and what it does to the line, are turns of a synchronization, or
+-- moves of a client that has synchronized.
+use Rattle.std.proofs.Common.{◌≡◌, ◌⊎◌, inl, inr, ℕ, zero, ◌+◌, ◌<◌, ◌≤◌, Bool, false, List, [], ◌∷◌, ◌++◌, drop, length, map, Some, None, refl, sym, ◌∙◌, ap, subst, arith, append_assoc, length-append}
 use Rattle.std.specs.List.{filter_map}
 use Rattle.std.proofs.lemmas.List.{append_cancel_right, map-append}
 use Rattle.gc_lines.proofs.Plain.{plain_line}
@@ -10,7 +11,7 @@ use Rattle.gc_catalogue.specs.Texts.{request_line}
 use Rattle.gc_catalogue.specs.declared.asked.Asked.{Asked}
 use Rattle.gc_catalogue.specs.declared.asked.Asked.TheVariants.{Table}
 use Rattle.gc_catalogue.specs.declared.call.Call.TheVariants.{NullProc}
-use Rattle.gc_client.specs.Beginning.{left_by, left_by_one, is_answered}
+use Rattle.gc_client.specs.Beginning.{left_by}
 use Rattle.gc_client.specs.OneForOne as client
 use Rattle.gc_client.specs.declared.window.TheConstants.{WINDOW}
 use Rattle.gc_client.specs.Rule.{ById, heard, hears, sends}
@@ -30,13 +31,14 @@ use Rattle.gc_field.specs.Begin as begin
 use Rattle.gc_field.specs.Begin.{Aged, Model, UnderWay, leaves, turns}
 use Rattle.gc_field.specs.Beginnings.{on_line}
 use Rattle.gc_field.specs.Field as field
-use Rattle.gc_field.specs.Meaning.{IsHeard, IsDropped}
+use Rattle.gc_field.specs.Meaning.{IsHeard, IsDiscarded}
 use Rattle.gc_field.specs.SceneField.{KeepsAReply, scene_ends, scene_kept}
 use Rattle.gc_field.specs.Shown.{first_heard, shows}
 use Rattle.gc_field.specs.World.{Numbered, Request, World, down_delivered, requested, with_settled, without}
 use Rattle.gc_rehearsal.specs.Carrying.{Lines, Does, IsGiven, IsPut}
 use Rattle.gc_rehearsed.proofs.Courses.{FromBegin, FromClient, World7, move7, move_first, steps_move, steps_turn, turn_first}
 use Rattle.gc_rehearsed.proofs.Steps.{AreLinesOf, Holds, IsLineOf, IsOne, Lose_down, Lose_up, flow, lines_on, stepped, without_last}
+use Rattle.gc_field.proofs.BeginJoin.{IsSmall, small_left}
 
 -- Lines of bytes.
 
@@ -44,34 +46,34 @@ use Rattle.gc_rehearsed.proofs.Steps.{AreLinesOf, Holds, IsLineOf, IsOne, Lose_d
 pub one_line : (line : List ℕ) → IsOne line → lines_completed [] (with_end line) ≡ line ∷ []
 one_line line one = ap (λ fs. filter_map line_in fs) (plain_line line one.0 one.1).0
 
--- and nothing of it is left
+-- one line with its CR LF, read from the start of a line on, leaves no bytes of an unfinished line
 pub no_rest : (line : List ℕ) → IsOne line → rest_behind [] (with_end line) ≡ []
 no_rest line one = (plain_line line one.0 one.1).1
 
--- a line feed alone is no line
+-- a line feed alone is no line with its CR LF
 pub feed_no_line : (line : List ℕ) → 10 ∷ [] ≡ with_end line → ⊥
 feed_no_line line e =
     let n : length (with_end line) ≡ 1 = sym (ap length e) in
     let m : length (with_end line) ≡ length line + 2 = length-append line (13 ∷ 10 ∷ []) in
     omega (arith, n, m)
 
--- a line is told from its bytes
+-- two lines that are the same bytes with CR LF are the same
 pub same_line : (line other : List ℕ) → with_end line ≡ with_end other → line ≡ other
 same_line line other e = append_cancel_right line other (13 ∷ 10 ∷ []) e
 
--- lists of lines that are the same have the same head
+-- equal lists of lines have the same first line
 heads : (x y : List ℕ) (xs ys : List (List ℕ)) → x ∷ xs ≡ y ∷ ys → x ≡ y
 heads x y xs ys e = cc
 
--- and the same tail
+-- equal lists of lines have the same lines after the first
 tails : (x y : List ℕ) (xs ys : List (List ℕ)) → x ∷ xs ≡ y ∷ ys → xs ≡ ys
 tails x y xs ys e = cc
 
--- no line is not one
+-- an empty list of lines isn't one with a line
 no_none : (x : List ℕ) (xs : List (List ℕ)) → [] ≡ x ∷ xs → ⊥
 no_none x xs e = cc
 
--- what holds where the reply in front is lost
+-- what is in flight in the field is what is in flight on the line (`Holds`), also once the front reply is lost in both
 dropped : (u : UnderWay SceneState) (l : Lines) (line : List ℕ) (rest : List (List ℕ)) → Holds u l → l.down ≡ line ∷ rest → Holds (stepped u (Lose_down zero)) (record l { down = rest })
 dropped u l line rest holds front = record {
   up = holds.up;
@@ -81,44 +83,34 @@ dropped u l line rest holds front = record {
   good = holds.good;
 }
 
--- While the station begins.
+-- While the station synchronizes.
 
--- the ids of a word are ids
-abbrev pub AreIds : List ℕ → Type 0
-AreIds word = Each (λ i. i < 8) word
-
--- what is left of ids are ids
-pub ids_left : (word : List ℕ) (lines : List (List ℕ)) → AreIds word → AreIds (unanswered_after word lines)
+-- the ids that lines leave unanswered are below 8, if all were
+pub ids_left : (word : List ℕ) (lines : List (List ℕ)) → IsSmall word → IsSmall (unanswered_after word lines)
 ids_left word [] ids = ids
-ids_left word (line ∷ others) ids = ids_left (left_by word (heard line)) others (left word (heard line) ids) where
-  by_answer : (b : Bool) (asked : ℕ) (rest : List ℕ) → AreIds (asked ∷ rest) → AreIds (left_by_one b asked rest)
-  by_answer true asked rest ids = ids.1
-  by_answer false asked rest ids = ids
+ids_left word (line ∷ others) ids = ids_left (left_by word (heard line)) others (small_left word (heard line) ids)
 
-  left : (word : List ℕ) (o : Option ℕ) → AreIds word → AreIds (left_by word o)
-  left [] o ids = ids
-  left (asked ∷ rest) o ids = by_answer (is_answered (asked ∷ rest) o) asked rest ids
-
--- what comes of an act, in front of whatever follows it: these turns, and then what holds of the lines and of the word
+-- what an act comes to while the station synchronizes: from the state b the turns of the act lead to one with these lines in
+-- flight and these ids unanswered, and whatever follows from there follows from b after these turns
 abbrev pub TurnsTo : Model SceneState → List part.Turn → List ℕ → Lines → Type 0
 TurnsTo b turns word n =
     (show : List part.Turn) (steps : List (client.Step Asked)) (others : List Part) (m : Lines) (done : Bool)
     → ((c : Model SceneState) → Holds (leaves c) n → c.left ≡ word → FromBegin c show steps others m done) → FromBegin b (turns ++ show) steps others m done
 
--- nothing came of it
+-- an act that leaves the line as it is comes to no turns
 turns_none : (b : Model SceneState) (word : List ℕ) (l n : Lines) → b.left ≡ word → Holds (leaves b) l → n ≡ l → TurnsTo b [] word n
 turns_none b word l n left holds same show steps others m done on = on b (subst (Holds (leaves b)) (sym same) holds) left
 
--- the request that a beginning asks next
+-- the null procedure with this id, as a request
 abbrev asked_next : ℕ → Request
 asked_next id = record { id = id; call = Table NullProc }
 
--- a beginning once it has asked
+-- the state of a synchronization once it has sent the null procedure with this id
 abbrev once_asked : Model SceneState → ℕ → Model SceneState
 once_asked b id = record b { up = b.up ++ record { old = false; line = asked_next id } ∷ [] }
 
--- the null procedure of the first id goes out, and may be lost
-turns_asks : (b : Model SceneState) (asked : ℕ) (rest : List ℕ) (line : List ℕ) (l n : Lines) → b.left ≡ asked ∷ rest → AreIds (asked ∷ rest) → line ≡ request_line (Some asked) NullProc
+-- an act that sends the null procedure of the first id comes to the turn `Asks`, and one more if the request is lost
+turns_asks : (b : Model SceneState) (asked : ℕ) (rest : List ℕ) (line : List ℕ) (l n : Lines) → b.left ≡ asked ∷ rest → IsSmall (asked ∷ rest) → line ≡ request_line (Some asked) NullProc
     → Holds (leaves b) l → (n ≡ l) ⊎ (n ≡ record l { up = l.up ++ line ∷ [] }) → TurnsTo b (part.Asks ∷ []) (asked ∷ rest) n
 turns_asks b asked rest line l n left ids is holds came show steps others m done on =
     turn_first b begin.Asks show steps others m done tt (subst (λ (x : Model SceneState). FromBegin x show steps others m done) (sym out) (by_came came)) where
@@ -147,8 +139,8 @@ turns_asks b asked rest line l n left ids is holds came show steps others m done
             good = holds.good;
           })) left
 
--- bytes were put while the station begins: whole, or cut
-turns_put : (b : Model SceneState) (word : List ℕ) (bytes : List ℕ) (ts : List part.Turn) (l n : Lines) → b.left ≡ word → AreIds word → Holds (leaves b) l
+-- an act that puts bytes, whole or in part, while the station synchronizes comes to the turns that it means
+turns_put : (b : Model SceneState) (word : List ℕ) (bytes : List ℕ) (ts : List part.Turn) (l n : Lines) → b.left ≡ word → IsSmall word → Holds (leaves b) l
     → IsAskedFor word bytes ts → IsPut l bytes n → (word ≡ [] → ⊥) → TurnsTo b ts word n
 turns_put b word bytes ts l n left ids holds (inl feed) (inl same) some = subst (λ (t : List part.Turn). TurnsTo b t word n) (sym feed.1) (turns_none b word l n left holds same)
 turns_put b word bytes ts l n left ids holds (inl feed) (inr sent) some = absurd (feed_no_line sent.0 (sym feed.0 ∙ sent.1))
@@ -160,11 +152,11 @@ turns_put b (asked ∷ rest) bytes ts l n left ids holds (inr asks) (inr sent) s
     subst (λ (t : List part.Turn). TurnsTo b t (asked ∷ rest) n) (sym asks.1)
     (turns_asks b asked rest sent.0 l n left ids (same_line sent.0 (request_line (Some asked) NullProc) (sym sent.1 ∙ asks.0)) holds (inr sent.2))
 
--- a beginning once the reply in front of these came
+-- the state of a synchronization once the front one of these replies came
 abbrev once_came : Model SceneState → Aged (List ℕ) → List (Aged (List ℕ)) → Model SceneState
 once_came b x q = record b { down = q; left = left_by b.left (heard x.line) }
 
--- a reply comes while the station begins
+-- an act that brings a reply while the station synchronizes comes to the turn that hears it
 turns_comes : (b : Model SceneState) (word : List ℕ) (q : List (Aged (List ℕ))) (line : List ℕ) (rest : List (List ℕ)) (l n : Lines) → b.down ≡ q → b.left ≡ word → Holds (leaves b) l
     → l.down ≡ line ∷ rest → n ≡ record l { down = rest } → TurnsTo b (part.Hears line ∷ []) (left_by word (heard line)) n
 turns_comes b word [] line rest l n is left holds front new show steps others m done on =
@@ -200,14 +192,14 @@ turns_comes b word (x ∷ q) line rest l n is left holds front new show steps ot
         good = holds.good;
       })
 
--- a reply comes while the station begins, and is dropped
+-- a reply that comes while the station synchronizes, and is discarded, comes to no turn of the station: the line loses it
 turns_drops : (b : Model SceneState) (word : List ℕ) (line : List ℕ) (rest : List (List ℕ)) (l n : Lines) → b.left ≡ word → Holds (leaves b) l
     → l.down ≡ line ∷ rest → n ≡ record l { down = rest } → TurnsTo b [] word n
 turns_drops b word line rest l n left holds front new show steps others m done on =
     steps_turn (Lose_down zero ∷ []) b show steps others m done (tt, tt)
     (λ c e k. on c (subst (λ u. Holds u n) (sym e) (subst (Holds (stepped (leaves b) (Lose_down zero))) (sym new) (dropped (leaves b) l line rest holds front))) (k ∙ left))
 
--- bytes came while the station begins
+-- a read that gave bytes while the station synchronizes comes to the turns that it means
 turns_gave : (b : Model SceneState) (word : List ℕ) (piece : List ℕ) (ts : List part.Turn) (behind : List ℕ) (l n : Lines) → b.left ≡ word → Holds (leaves b) l
     → IsTaken [] piece ts behind → IsGiven l piece n → (behind ≡ []) × TurnsTo b ts (unanswered_after word (heard_in ts)) n
 turns_gave b word piece ts behind l n left holds (inl taken) given =
@@ -218,19 +210,19 @@ turns_gave b word piece ts behind l n left holds (inl taken) given =
 turns_gave b word piece ts behind l n left holds (inr taken) given =
     (taken.1, subst (λ (t : List part.Turn). TurnsTo b t (unanswered_after word (heard_in t)) n) (sym taken.0) (turns_drops b word given.0 given.1 l n left holds given.2 given.4))
 
--- an act that is nothing to the line and no turn of a beginning
+-- an act that leaves the line as it is, and is no turn, comes to no turns
 turns_quiet : (b : Model SceneState) (word : List ℕ) (ts : List part.Turn) (behind rest : List ℕ) (l n : Lines) → b.left ≡ word → Holds (leaves b) l
     → (ts ≡ []) × (behind ≡ rest) → rest ≡ [] → n ≡ l → (behind ≡ []) × TurnsTo b ts (unanswered_after word (heard_in ts)) n
 turns_quiet b word ts behind rest l n left holds means empty same =
     (means.1 ∙ empty, subst (λ (t : List part.Turn). TurnsTo b t (unanswered_after word (heard_in t)) n) (sym means.0) (turns_none b word l n left holds same))
 
--- what is left of a word after bytes were put, which is all
+-- bytes that are put leave all ids of the word
 put_left : (word bytes : List ℕ) (ts : List part.Turn) → IsAskedFor word bytes ts → unanswered_after word (heard_in ts) ≡ word
 put_left word bytes ts (inl feed) = ap (λ (t : List part.Turn). unanswered_after word (heard_in t)) feed.1
 put_left word bytes ts (inr asks) = ap (λ (t : List part.Turn). unanswered_after word (heard_in t)) asks.1
 
--- an act while the station begins, which means these turns to it
-pub turns_act : (b : Model SceneState) (word : List ℕ) (act : Act) (ts : List part.Turn) (behind : List ℕ) (l n : Lines) → b.left ≡ word → AreIds word → Holds (leaves b) l
+-- an act while the station synchronizes comes to the turns that it means
+pub turns_act : (b : Model SceneState) (word : List ℕ) (act : Act) (ts : List part.Turn) (behind : List ℕ) (l n : Lines) → b.left ≡ word → IsSmall word → Holds (leaves b) l
     → (word ≡ [] → ⊥) → MeansTurns word [] act ts behind → Does l act n → (behind ≡ []) × TurnsTo b ts (unanswered_after word (heard_in ts)) n
 turns_act b word (Put bytes) ts behind l n left ids holds some means does =
     (means.1, subst (λ w. TurnsTo b ts w n) (sym (put_left word bytes ts means.0)) (turns_put b word bytes ts l n left ids holds means.0 does some))
@@ -246,36 +238,37 @@ turns_act b word Closed ts behind l n left ids holds some means does = turns_qui
 turns_act b word Opened ts behind l n left ids holds some means does = turns_quiet b word ts behind [] l n left holds means refl does
 turns_act b word Unopened ts behind l n left ids holds some means does = turns_quiet b word ts behind [] l n left holds means refl does
 
--- Once it has begun.
+-- Once it has synchronized.
 
--- what comes of an act, in front of whatever follows it: these steps of the client, and then what holds of the lines and of the client
+-- what an act comes to once the station has synchronized: from the world w the client's steps of the act lead to one with these
+-- lines in flight and this client, and whatever follows from there follows from w after these steps
 abbrev pub MovesTo : World7 → List (client.Step Asked) → ById Asked → Lines → Type 0
 MovesTo w ss c n =
     (steps : List (client.Step Asked)) (others : List Part) (m : Lines) (done : Bool)
     → ((v : World7) → Holds (on_line v.wire) n → v.client ≡ c → FromClient v steps others m done) → FromClient w (ss ++ steps) others m done
 
--- nothing came of it
+-- an act that leaves the line as it is comes to no steps
 pub moves_none : (w : World7) (c : ById Asked) (l n : Lines) → w.client ≡ c → Holds (on_line w.wire) l → n ≡ l → MovesTo w [] c n
 moves_none w c l n is holds same steps others m done on = on w (subst (Holds (on_line w.wire)) (sym same) holds) is
 
--- a moment is told, and then something else happens
+-- an act that reads a moment, and then comes to some steps, comes to the step that reads it and then these
 moves_told : (w : World7) (c : ById Asked) (now : ℕ) (ss : List (client.Step Asked)) (n : Lines) → w.client ≡ c
     → ((v : World7) → v.wire ≡ w.wire → v.client ≡ client_after c (client.Expire now ∷ []) → MovesTo v ss (client_after (client_after c (client.Expire now ∷ [])) ss) n)
     → MovesTo w (client.Expire now ∷ ss) (client_after c (client.Expire now ∷ ss)) n
 moves_told w c now ss n is later steps others m done on =
     move_first w (field.Tells now) (ss ++ steps) others m done tt (later (move7 w (field.Tells now)) refl (ap (λ x. (by_ids WINDOW scene_ends).expire x now) is) steps others m done on)
 
--- a moment is told, and nothing else happens
+-- an act that only reads a moment comes to the step that reads it
 pub moves_moment : (w : World7) (c : ById Asked) (now : ℕ) (l n : Lines) → w.client ≡ c → Holds (on_line w.wire) l → n ≡ l
     → MovesTo w (client.Expire now ∷ []) (client_after c (client.Expire now ∷ [])) n
 moves_moment w c now l n is holds same =
     moves_told w c now [] n is (λ v wire k. moves_none v (client_after c (client.Expire now ∷ [])) l n k (subst (λ x. Holds (on_line x) l) (sym wire) holds) same)
 
--- a world once the reply in front of these came
+-- the world once the front one of these replies came
 abbrev once_heard : World7 → Numbered (List ℕ) → List (Numbered (List ℕ)) → World7
 once_heard w x q = with_settled (record w.wire { down = q }) ((by_ids WINDOW scene_ends).reply w.client x)
 
--- a reply comes
+-- an act that brings a reply comes to the step that hears it
 moves_comes : (w : World7) (c : ById Asked) (q : List (Numbered (List ℕ))) (line : List ℕ) (rest : List (List ℕ)) (l n : Lines) → w.wire.down ≡ q → w.client ≡ c → Holds (on_line w.wire) l
     → l.down ≡ line ∷ rest → n ≡ record l { down = rest } → MovesTo w (client.Hear line ∷ []) (client_after c (client.Hear line ∷ [])) n
 moves_comes w c [] line rest l n is same holds front new steps others m done on =
@@ -311,16 +304,16 @@ moves_comes w c (x ∷ q) line rest l n is same holds front new steps others m d
         good = holds.good;
       })
 
--- a reply comes, and is dropped
+-- a reply that comes, and is discarded, comes to no step: the line loses it
 moves_drops : (w : World7) (c : ById Asked) (line : List ℕ) (rest : List (List ℕ)) (l n : Lines) → w.client ≡ c → Holds (on_line w.wire) l
     → l.down ≡ line ∷ rest → n ≡ record l { down = rest } → MovesTo w [] c n
 moves_drops w c line rest l n is holds front new steps others m done on =
     steps_move (Lose_down zero ∷ []) w steps others m done (tt, tt)
     (λ v e k. on v (subst (λ u. Holds u n) (sym e) (subst (Holds (stepped (on_line w.wire) (Lose_down zero))) (sym new) (dropped (on_line w.wire) l line rest holds front))) (k ∙ is))
 
--- bytes came
+-- a read that gave bytes comes to the steps that it means
 pub moves_gave : (w : World7) (c : ById Asked) (piece : List ℕ) (moment : Moment) (ss : List (client.Step Asked)) (behind : List ℕ) (l n : Lines) → w.client ≡ c → Holds (on_line w.wire) l
-    → IsHeard [] piece moment ss behind ⊎ IsDropped [] moment ss behind → IsGiven l piece n → (behind ≡ []) × MovesTo w ss (client_after c ss) n
+    → IsHeard [] piece moment ss behind ⊎ IsDiscarded [] moment ss behind → IsGiven l piece n → (behind ≡ []) × MovesTo w ss (client_after c ss) n
 moves_gave w c piece moment ss behind l n is holds (inl heard) given =
     let one = (subst (Each IsOne) given.2 holds.one).0 in
     let lines_are : lines_completed [] piece ≡ given.0 ∷ [] = ap (lines_completed []) given.3 ∙ one_line given.0 one in
@@ -338,15 +331,15 @@ moves_gave w c piece moment ss behind l n is holds (inr dropped) given = (
       (λ v wire k. moves_drops v (client_after c (client.Expire moment.elapsed ∷ [])) given.0 given.1 l n k (subst (λ x. Holds (on_line x) l) (sym wire) holds) given.2 given.4)),
 )
 
--- the request that a client sends next in a world
+-- the request that the client of a world sends next
 abbrev sent_next : World7 → ById Asked → Asked → Numbered Request
 sent_next w c call = record { number = length w.wire.sent; line = record { id = c.next; call = call } }
 
--- a world once its client has sent
+-- the world once its client has sent that request
 abbrev once_sent : World7 → ById Asked → ℕ → Asked → ℕ → World7
 once_sent w c target call deadline = requested w target call (Some (sending_of c target call deadline))
 
--- a request goes out, and may be lost
+-- an act that sends a request comes to the step that sends it; and the line loses the request if it is lost
 pub moves_sends : (w : World7) (c : ById Asked) (target : ℕ) (call : Asked) (deadline : ℕ) (line : List ℕ) (l n : Lines) → w.client ≡ c → length c.waiting < 7 → c.next < 8 → IsAskedFitting call
     → line ≡ asked_line (Some c.next) call → Holds (on_line w.wire) l → (n ≡ l) ⊎ (n ≡ record l { up = l.up ++ line ∷ [] })
     → MovesTo w (client.Send target call deadline ∷ []) (client_after c (client.Send target call deadline ∷ [])) n
@@ -370,7 +363,8 @@ moves_sends w c target call deadline line l n is room digit fits text holds came
       by_came : (n ≡ l) ⊎ (n ≡ record l { up = l.up ++ line ∷ [] }) → FromClient (once_sent w c target call deadline) steps others m done
       by_came (inl same) =
           steps_move (Lose_up (length (on_line w.wire).up) ∷ []) (once_sent w c target call deadline) steps others m done (tt, tt)
-          (λ v e k. on v (subst (λ u. Holds u n) (sym e) (subst (λ q. Holds (flow q (on_line w.wire).down w.wire.state) n) (sym lost) (subst (Holds (on_line w.wire)) (sym same) holds))) (k ∙ client_is))
+          (λ v e k. on v (subst (λ u. Holds u n) (sym e)
+          (subst (λ q. Holds (flow q (on_line w.wire).down w.wire.state) n) (sym lost) (subst (Holds (on_line w.wire)) (sym same) holds))) (k ∙ client_is))
       by_came (inr more) =
           on (once_sent w c target call deadline) (subst (Holds (on_line (once_sent w c target call deadline).wire)) (sym more) (record {
             up = subst (λ q. AreLinesOf q (l.up ++ line ∷ [])) (sym up_is) (lines_on (on_line w.wire).up l.up (sent_next w c call).line line holds.up of_line);

@@ -1,4 +1,5 @@
--- Courses of the line from a beginning or from a client on, in front of which something happens.
+-- What happens on the line from a synchronization, or from a client that has synchronized, on; and the same with one thing more
+-- before it.
 use Rattle.std.proofs.Common.{◌≡◌, ◌⊎◌, inl, inr, ℕ, ◌+◌, ◌≤◌, Bool, true, false, List, [], ◌∷◌, ◌++◌, map, Option, refl, sym, ◌∙◌, ap, subst, arith}
 use Rattle.gc_catalogue.specs.declared.asked.Asked.{Asked}
 use Rattle.gc_client.specs.Beginning.{the_word}
@@ -10,7 +11,7 @@ use Rattle.gc_station.specs.Parts as part
 use Rattle.gc_station.specs.Parts.{Part, nothing}
 use Rattle.gc_world.specs.Clients.{by_ids}
 use Rattle.gc_field.specs.Begin as begin
-use Rattle.gc_field.specs.Begin.{Aged, AreTurns, IsTurn, Model, UnderWay, begins, leaves, turned, turns}
+use Rattle.gc_field.specs.Begin.{AreTurns, IsTurn, Model, UnderWay, begins, leaves, turned, turns}
 use Rattle.gc_field.specs.Beginnings.{ArePossibleIf, AreRuns, Run, killed_if, left_by_run, left_if, on_line}
 use Rattle.gc_field.specs.Begun.{ids_begun}
 use Rattle.gc_field.specs.Field as field
@@ -23,20 +24,23 @@ use Rattle.gc_field.specs.World.{Numbered, Request, World}
 use Rattle.gc_rehearsal.specs.Carrying.{Lines}
 use Rattle.gc_rehearsed.proofs.Sides.{client_move, is_move, is_turn, leaves_turn, left_turn, line_move, move_of, seen_none, shows_none, turn_of}
 use Rattle.gc_rehearsed.proofs.Steps.{AreSteps, Holds, Step, all_stepped, flow, stepped}
+use Rattle.gc_field.proofs.InARow.{same_lines}
+use Rattle.gc_field.proofs.BeginWords.{not_over}
 
 -- a client's rule with the window of seven
 abbrev pub World7 : Type 0
 World7 = World (ById Asked) SceneState
 
--- the world after a move, and after moves
+-- the world after a move, over a scene's instrument
 abbrev pub move7 : World7 → Move SceneState → World7
 move7 w m = moves scene_ends (by_ids WINDOW scene_ends) w m
 
+-- the world after these moves, in order, over a scene's instrument
 abbrev pub moved7 : List (Move SceneState) → World7 → World7
 moved7 ms w = moved scene_ends (by_ids WINDOW scene_ends) ms w
 
--- runs over what is under way show these parts, are possible, and lead to these lines. The station behind the last one has begun
--- (`done`), or is killed while it begins, and then counts as one more
+-- runs over what is in flight show these parts, are possible, and lead to these lines. At the end of the last one the station has
+-- synchronized (`done`), or is killed while it synchronizes, and then counts as one more
 pub record Later (u : UnderWay SceneState) (rs : List (Run SceneState)) (ps : List Part) (m : Lines) (done : Bool) : Type 0 where
   pub show : AreShownAs scene_ends u rs ps
   pub may : AreRuns WINDOW scene_ends KeepsAReply scene_kept u rs
@@ -44,13 +48,13 @@ pub record Later (u : UnderWay SceneState) (rs : List (Run SceneState)) (ps : Li
   pub few : AreFew scene_ends 0 u rs
   pub ends : killed_over scene_ends 0 u rs ≤ unbegun 0 done
 
--- where some ids of a beginning aren't answered, nothing follows it, and the station hasn't begun at the end
+-- if some ids of a synchronization aren't answered, no run follows it, and the station hasn't synchronized at the end
 abbrev pub Rest : List ℕ → Bool → List (Run SceneState) → Type 0
 Rest [] done rs = Unit {0}
 Rest (asked ∷ word) done rs = (rs ≡ []) × (done ≡ false)
 
--- from a beginning on: its turns show `turns`, and the moves behind it `steps`; later runs show the other parts, and lead to these
--- lines
+-- from a synchronization on: its turns show `turns`, and the moves after it `steps`; later runs show the other parts, and lead to
+-- these lines
 pub record FromBegin (b : Model SceneState) (turns : List part.Turn) (steps : List (client.Step Asked)) (others : List Part) (m : Lines) (done : Bool) : Type 0 where
   pub ts : List (begin.Turn SceneState)
   pub ms : List (Move SceneState)
@@ -70,14 +74,25 @@ pub record FromClient (w : World7) (steps : List (client.Step Asked)) (others : 
   pub may : ArePossible scene_ends KeepsAReply scene_kept (by_ids WINDOW scene_ends) ms w
   pub later : Later (on_line (moved7 ms w).wire) rs others m done
 
--- In front.
+-- One thing more before what follows.
 
--- a turn in front
+-- one more turn before what follows a synchronization
 pub turn_first : (b : Model SceneState) (t : begin.Turn SceneState) (xs : List part.Turn) (steps : List (client.Step Asked)) (others : List Part) (m : Lines) (done : Bool)
     → IsTurn KeepsAReply scene_kept b t → FromBegin (turns scene_ends b t) xs steps others m done → FromBegin b (shows b t ++ xs) steps others m done
-turn_first b t xs steps others m done is f = record { ts = t ∷ f.ts; ms = f.ms; rs = f.rs; show = ap (λ l. shows b t ++ l) f.show; see = f.see; are = (is, f.are); may = f.may; later = f.later; rest = f.rest }
+turn_first b t xs steps others m done is f = record {
+  ts = t ∷ f.ts;
+  ms = f.ms;
+  rs = f.rs;
+  show = ap (λ l. shows b t ++ l) f.show;
+  see = f.see;
+  are =
+      (is, f.are);
+  may = f.may;
+  later = f.later;
+  rest = f.rest;
+}
 
--- steps in front of what follows a beginning
+-- steps of the line before what follows a synchronization
 pub steps_turn : (xs : List Step) (b : Model SceneState) (show : List part.Turn) (steps : List (client.Step Asked)) (others : List Part) (m : Lines) (done : Bool) → AreSteps xs (leaves b)
     → ((c : Model SceneState) → leaves c ≡ all_stepped xs (leaves b) → c.left ≡ b.left → FromBegin c show steps others m done) → FromBegin b show steps others m done
 steps_turn [] b show steps others m done are on = on b refl refl
@@ -88,7 +103,7 @@ steps_turn (x ∷ xs) b show steps others m done are on =
     (steps_turn xs (turns scene_ends b (turn_of x)) show steps others m done (subst (AreSteps xs) (sym one) are.1)
     (λ c e l. on c (e ∙ ap (all_stepped xs) one) (l ∙ left_turn b x))))
 
--- what the client sees of moves with one in front
+-- what the client sees of a move and the moves after it
 seen_first : (m : Move SceneState) (ms : List (Move SceneState)) → seen (m ∷ ms) ≡ seen (m ∷ []) ++ seen ms
 seen_first (field.Sends target call deadline) ms = refl
 seen_first (field.Tells now) ms = refl
@@ -99,12 +114,12 @@ seen_first field.Anew ms = refl
 seen_first (field.Changes state) ms = refl
 seen_first (field.Joins line) ms = refl
 
--- a move in front
+-- one more move before what follows a client
 pub move_first : (w : World7) (x : Move SceneState) (steps : List (client.Step Asked)) (others : List Part) (m : Lines) (done : Bool) → IsPossible KeepsAReply scene_kept w x
     → FromClient (move7 w x) steps others m done → FromClient w (seen (x ∷ []) ++ steps) others m done
 move_first w x steps others m done is f = record { ms = x ∷ f.ms; rs = f.rs; see = seen_first x f.ms ∙ ap (λ l. seen (x ∷ []) ++ l) f.see; may = (is, f.may); later = f.later }
 
--- steps in front of what follows a client
+-- steps of the line before what follows a client
 pub steps_move : (xs : List Step) (w : World7) (steps : List (client.Step Asked)) (others : List Part) (m : Lines) (done : Bool) → AreSteps xs (on_line w.wire)
     → ((v : World7) → on_line v.wire ≡ all_stepped xs (on_line w.wire) → v.client ≡ w.client → FromClient v steps others m done) → FromClient w steps others m done
 steps_move [] w steps others m done are on = on w refl refl
@@ -117,25 +132,20 @@ steps_move (x ∷ xs) w steps others m done are on =
 
 -- From one side to the other.
 
--- lines with a number, without it
+-- lines that are given a number, without it, are the same lines
 without_number : {Line : Type 0} (xs : List Line) → map (λ (x : Numbered Line). x.line) (map (λ x. record { number = 7; line = x }) xs) ≡ xs
 without_number [] = refl
 without_number (x ∷ xs) = ap (λ l. x ∷ l) (without_number xs)
 
--- old lines, without their marks
-without_mark : {Line : Type 0} (xs : List Line) → map (λ (x : Aged Line). x.line) (map (λ x. record { old = true; line = x }) xs) ≡ xs
-without_mark [] = refl
-without_mark (x ∷ xs) = ap (λ l. x ∷ l) (without_mark xs)
-
--- a client that begins finds under way what the beginning leaves
+-- a client that has just synchronized has in flight what the synchronization left
 pub begun_line : (u : UnderWay SceneState) → on_line (ids_begun u).wire ≡ u
 begun_line u = ap (λ q. flow q (on_line (ids_begun u).wire).down u.state) (without_number u.up) ∙ ap (λ q. flow u.up q u.state) (without_number u.down)
 
--- a beginning finds under way what is
+-- a synchronization starts over what is in flight
 pub begins_line : (u : UnderWay SceneState) → leaves (begins u) ≡ u
-begins_line u = ap (λ q. flow q (leaves (begins u)).down u.state) (without_mark u.up) ∙ ap (λ q. flow u.up q u.state) (without_mark u.down)
+begins_line u = ap (λ q. flow q (leaves (begins u)).down u.state) (same_lines u.up) ∙ ap (λ q. flow u.up q u.state) (same_lines u.down)
 
--- where all ids are answered, what follows the client follows the beginning
+-- if all ids are answered, what follows the client follows the synchronization
 pub begun_from : (b : Model SceneState) (show : List part.Turn) (steps : List (client.Step Asked)) (others : List Part) (m : Lines) (done : Bool) → b.left ≡ [] → show ≡ []
     → FromClient (ids_begun (leaves b)) steps others m done → FromBegin b show steps others m done
 begun_from b show steps others m done none quiet f = record {
@@ -154,22 +164,19 @@ begun_from b show steps others m done none quiet f = record {
 abbrev pub run : List (begin.Turn SceneState) → List (Move SceneState) → Run SceneState
 run ts ms = record { turns = ts; moves = ms }
 
--- some ids are not none
-not_nil : (id : ℕ) (ids : List ℕ) → id ∷ ids ≡ [] → ⊥
-not_nil id ids e = cc
-
 -- how many are killed in a row where one run follows `n`, by the ids that it leaves and its turns
 killed_first : (n : ℕ) (u : UnderWay SceneState) (r : Run SceneState) (left : List ℕ) (ts : List (begin.Turn SceneState)) (done : Bool) (rs : List (Run SceneState))
     → (turned scene_ends ts (begins u)).left ≡ left → r.turns ≡ ts → Rest left done rs
     → ((left ≡ []) × (killed_by scene_ends n u r ts ≡ 0)) ⊎ ((rs ≡ []) × (done ≡ false) × (killed_by scene_ends n u r ts ≤ n + 1))
-killed_first n u r [] [] done rs e same rest = absurd (not_nil _ _ e)
+killed_first n u r [] [] done rs e same rest = absurd (not_over _ _ e)
 killed_first n u r [] (t ∷ ts) done rs e same rest = inl (refl, ap (λ l. killed_if WINDOW scene_ends l n) (ap (λ xs. (turned scene_ends xs (begins u)).left) same ∙ e))
 killed_first n u r (asked ∷ word) [] done rs e same rest = inr (rest.0, rest.1, omega arith)
 killed_first n u r (asked ∷ word) (t ∷ ts) done rs e same rest =
     let one : killed_by scene_ends n u r (t ∷ ts) ≡ n + 1 = ap (λ l. killed_if WINDOW scene_ends l n) (ap (λ xs. (turned scene_ends xs (begins u)).left) same ∙ e) in
     inr (rest.0, rest.1, omega (arith, one))
 
--- runs from a beginning on: at most five in a row are killed while they begin, where that is so with one more if the last one hasn't begun
+-- of runs from a synchronization on, at most five in a row are killed while they synchronize, if that is so counting the station as
+-- one that has synchronized at its end (`done`) or hasn't
 pub few_from : (n : ℕ) (u : UnderWay SceneState) (show : List part.Turn) (steps : List (client.Step Asked)) (others : List Part) (m : Lines) (done : Bool)
     → (f : FromBegin (begins u) show steps others m done) → unbegun n done ≤ 5
     → AreFew scene_ends n u (run f.ts f.ms ∷ f.rs) × (killed_over scene_ends n u (run f.ts f.ms ∷ f.rs) ≤ unbegun n done)
@@ -177,11 +184,13 @@ few_from n u show steps others m done f small = by_end (killed_first n u (run f.
   none_killed : killed_by scene_ends n u (run f.ts f.ms) f.ts ≡ 0 → killed_by scene_ends n u (run f.ts f.ms) f.ts ≤ 5
   none_killed none = omega (arith, none)
 
-  by_done : (d : Bool) → killed_over scene_ends 0 (left_by_run WINDOW scene_ends u (run f.ts f.ms)) f.rs ≤ unbegun 0 d → killed_over scene_ends 0 (left_by_run WINDOW scene_ends u (run f.ts f.ms)) f.rs ≤ unbegun n d
+  by_done : (d : Bool) → killed_over scene_ends 0 (left_by_run WINDOW scene_ends u (run f.ts f.ms)) f.rs ≤ unbegun 0 d
+      → killed_over scene_ends 0 (left_by_run WINDOW scene_ends u (run f.ts f.ms)) f.rs ≤ unbegun n d
   by_done true h = h
   by_done false h = omega (arith, h)
 
-  by_end : (((turned scene_ends f.ts (begins u)).left ≡ []) × (killed_by scene_ends n u (run f.ts f.ms) f.ts ≡ 0)) ⊎ ((f.rs ≡ []) × (done ≡ false) × (killed_by scene_ends n u (run f.ts f.ms) f.ts ≤ n + 1))
+  by_end : (((turned scene_ends f.ts (begins u)).left ≡ []) × (killed_by scene_ends n u (run f.ts f.ms) f.ts ≡ 0))
+      ⊎ ((f.rs ≡ []) × (done ≡ false) × (killed_by scene_ends n u (run f.ts f.ms) f.ts ≤ n + 1))
       → AreFew scene_ends n u ((run f.ts f.ms) ∷ f.rs) × (killed_over scene_ends n u ((run f.ts f.ms) ∷ f.rs) ≤ unbegun n done)
   by_end (inl begun) = (
     (none_killed begun.1, subst (λ k. AreFew scene_ends k (left_by_run WINDOW scene_ends u (run f.ts f.ms)) f.rs) (sym begun.1) f.later.few),
@@ -193,12 +202,12 @@ few_from n u show steps others m done f small = by_end (killed_first n u (run f.
         subst (λ rs. killed_over scene_ends (killed_by scene_ends n u (run f.ts f.ms) f.ts) (left_by_run WINDOW scene_ends u (run f.ts f.ms)) rs ≤ unbegun n done) (sym killed.0) count,
       )
 
--- one is few
+-- a first station, killed or not, makes at most five in a row
 one_few : (done : Bool) → unbegun 0 done ≤ 5
 one_few true = omega arith
 one_few false = omega arith
 
--- where a part ends, what follows the next beginning follows the client
+-- where a part ends, what follows the next synchronization follows the client
 pub ended_from : (w : World7) (p : Part) (others : List Part) (m : Lines) (done : Bool) → FromBegin (begins (on_line w.wire)) p.turns p.steps others m done → FromClient w [] (p ∷ others) m done
 ended_from w p others m done f =
     let few = few_from 0 (on_line w.wire) p.turns p.steps others m done f (one_few done) in
@@ -210,7 +219,7 @@ ended_from w p others m done f =
       later = record { show = (f.show, f.see, f.later.show); may = ((f.are, f.may), f.later.may); holds = f.later.holds; few = few.0; ends = few.1 };
     }
 
--- at the end of a run that has begun, which is over, nothing happens any more
+-- at the end of a run that has synchronized and is over, nothing more happens
 pub ended_over : (w : World7) (m : Lines) (done : Bool) → Holds (on_line w.wire) m → FromClient w [] (nothing ∷ []) m done
 ended_over w m done holds =
     record {
@@ -230,14 +239,14 @@ ended_over w m done holds =
       by_done true = omega arith
       by_done false = omega arith
 
--- nothing more happens to a client
+-- with no steps and no further parts, nothing more happens to a client
 pub ends_client : (w : World7) (m : Lines) (done : Bool) → Holds (on_line w.wire) m → FromClient w [] [] m done
 ends_client w m done holds = record { ms = []; rs = []; see = refl; may = tt; later = record { show = tt; may = tt; holds = holds; few = tt; ends = by_done done } } where
   by_done : (d : Bool) → 0 ≤ unbegun 0 d
   by_done true = omega arith
   by_done false = omega arith
 
--- nothing more happens in a beginning
+-- with no turns and no further parts, nothing more happens in a synchronization
 pub ends_begin : (b : Model SceneState) (m : Lines) → (b.left ≡ [] → ⊥) → Holds (leaves b) m → FromBegin b [] [] [] m false
 ends_begin b m some holds = by_left b.left refl where
   by_left : (left : List ℕ) → b.left ≡ left → FromBegin b [] [] [] m false

@@ -1,3 +1,4 @@
+mod Asked
 pub mod Steps
 pub mod Sides
 pub mod Courses

@@ -1,12 +1,11 @@
 -- A run of a station over a rehearsed line is one in the field: what happens on the line are turns and moves that show it.
-use Rattle.std.proofs.Common.{◌≡◌, ◌⊎◌, inl, inr, ℕ, zero, suc, ◌<◌, ◌&&◌, ◌||◌, not, Bool, true, false, if◌then◌else◌, List, [], ◌∷◌, ◌++◌, length, Option, Some, None, slice_get, refl, sym, ◌∙◌, ap, subst, arith, append-nil}
-use Rattle.std.specs.List.{AllByRecursion}
+use Rattle.std.proofs.Common.{◌≡◌, ◌⊎◌, inl, inr, ℕ, ◌<◌, ◌&&◌, ◌||◌, not, Bool, true, false, if◌then◌else◌, List, [], ◌∷◌, ◌++◌, length, Option, Some, None, refl, sym, ◌∙◌, ap, subst, append-nil}
 use Rattle.gc_lines.specs.Lines.{with_end}
 use Rattle.gc_catalogue.specs.Asked.{IsAskedFitting, asked_line}
 use Rattle.gc_catalogue.specs.declared.asked.Asked.{Asked}
 use Rattle.gc_catalogue.specs.declared.asked.Asked.TheVariants.{Table}
 use Rattle.gc_catalogue.specs.declared.call.Call.TheVariants.{NullProc}
-use Rattle.gc_client.specs.Beginning.{IsSubsequence, the_word}
+use Rattle.gc_client.specs.Beginning.{IsSubsequence}
 use Rattle.gc_client.specs.OneForOne as client
 use Rattle.gc_client.specs.OneForOne.{Wanted}
 use Rattle.gc_client.specs.Rule.{ById, fresh}
@@ -24,7 +23,6 @@ use Rattle.gc_station.specs.Progressing.{is_over, loses_all, turned}
 use Rattle.gc_station.specs.Scopes.{Scope}
 use Rattle.gc_station.proofs.Asked.{FirstHasNone, goes_begun, no_turns, word_of}
 use Rattle.gc_station.proofs.Booking.{client_after, course_at, sends_with_room, sent_by}
-use Rattle.gc_station.proofs.Words.{renews_only}
 use Rattle.gc_station.proofs.EachRun.{fine_after, fine_opening}
 use Rattle.gc_station.proofs.Facts.{action_for}
 use Rattle.gc_station.proofs.Invariant.{Invariant}
@@ -32,23 +30,25 @@ use Rattle.gc_station.proofs.Meant.{put_is}
 use Rattle.gc_station.proofs.Meant as meant
 use Rattle.gc_station.proofs.Parting.{keeps_action, leads}
 use Rattle.gc_station.proofs.Turns.{over_stays}
-use Rattle.gc_world.proofs.Options.{none_is_not, some_is}
+use Rattle.gc_station.proofs.Lists.{all_at}
+use Rattle.gc_station.proofs.Beginnings.{word_anew}
 use Rattle.gc_field.specs.Begin as begin
 use Rattle.gc_field.specs.Begin.{UnderWay, begins, leaves, none_under_way}
 use Rattle.gc_field.specs.Asking.{MeansTurns}
 use Rattle.gc_field.specs.Beginnings.{Run, on_line}
 use Rattle.gc_field.specs.Begun.{ids_begun}
 use Rattle.gc_field.specs.Runs.{IsInField, IsMeant, IsRunFaithful}
-use Rattle.gc_field.specs.Meaning.{IsHeard, IsDropped}
+use Rattle.gc_field.specs.Meaning.{IsHeard, IsDiscarded}
 use Rattle.gc_field.specs.SceneField.{KeepsAReply, scene_ends, scene_kept}
 use Rattle.gc_field.specs.SceneField as scene
 use Rattle.gc_field.specs.Shown.{AreShownAs}
 use Rattle.gc_field.proofs.Joining.{run_faithful}
-use Rattle.gc_field.proofs.Meant.{are_meant}
+use Rattle.gc_field.proofs.Meant.{is_meant}
 use Rattle.gc_field.proofs.SceneField.{scene_is_an_instrument}
+use Rattle.gc_field.proofs.BeginJoin.{IsSmall, word_small}
 use Rattle.gc_rehearsal.specs.Carrying.{Lines, Happening, Call, Reaches, Restarts, Passes, Repeats_up, Repeats_down, Loses_up, Loses_down, Loses_front, Does, IsOfLine, LeadAll, Leads, acts_of}
 use Rattle.gc_rehearsed.specs.Rehearsals.{AreAskable, IsRehearsed, RehearsalsAreFaithful}
-use Rattle.gc_rehearsed.proofs.Acted.{AreIds, MovesTo, TurnsTo, feed_no_line, ids_left, moves_gave, moves_moment, moves_none, moves_sends, same_line, turns_act}
+use Rattle.gc_rehearsed.proofs.Acted.{MovesTo, TurnsTo, feed_no_line, ids_left, moves_gave, moves_moment, moves_none, moves_sends, same_line, turns_act}
 use Rattle.gc_rehearsed.proofs.Courses.{FromBegin, FromClient, World7, begins_line, begun_from, begun_line, ended_from, ended_over, ends_begin, ends_client, run, steps_move, steps_turn}
 use Rattle.gc_rehearsed.proofs.Steps.{Holds, happens}
 
@@ -59,7 +59,7 @@ abbrev pub first : List Part → Part
 first [] = nothing
 first (p ∷ ps) = p
 
--- the parts behind the first
+-- the parts after the first
 abbrev pub others : List Part → List Part
 others [] = []
 others (p ∷ ps) = ps
@@ -74,7 +74,7 @@ pub parted : (ps : List Part) → HasSome ps → ps ≡ first ps ∷ others ps
 parted [] some = absurd some
 parted (p ∷ ps) some = refl
 
--- with a part in front there is a part
+-- with one part before others there is a part
 some_front : (p : Part) (b : Bool) (ps : List Part) → HasSome (in_front p b ps)
 some_front p true ps = tt
 some_front p false [] = tt
@@ -86,7 +86,7 @@ some_parts plan commands s [] = tt
 some_parts plan commands s (act ∷ acts) =
     some_front (acting plan commands s (action_at plan s) act) (ends_part plan commands s act) (parts_of plan commands (after plan commands s act) acts)
 
--- what follows a beginning shows these parts
+-- what follows a synchronization shows these parts
 abbrev pub OnBegin : begin.Model SceneState → Lines → List Part → Bool → Type 0
 OnBegin b m ps done = FromBegin b (first ps).turns (first ps).steps (others ps) m done
 
@@ -94,76 +94,49 @@ OnBegin b m ps done = FromBegin b (first ps).turns (first ps).steps (others ps) 
 abbrev pub OnClient : World7 → Lines → List Part → Bool → Type 0
 OnClient w m ps done = FromClient w (first ps).steps (others ps) m done
 
--- an act while the station begins is in front of what follows the turns that it means
+-- an act while the station synchronizes comes before what follows the turns that it means
 begin_first : (b : begin.Model SceneState) (p : Part) (word : List ℕ) (n m : Lines) (ps : List Part) (done : Bool) → HasSome ps → p.steps ≡ [] → TurnsTo b p.turns word n
     → ((c : begin.Model SceneState) → Holds (leaves c) n → c.left ≡ word → OnBegin c m ps done) → OnBegin b m (in_front p false ps) done
 begin_first b p word n m [] done some none to on = absurd some
 begin_first b p word n m (q ∷ ps) done some none to on =
     subst (λ (ss : List (client.Step Asked)). FromBegin b (p.turns ++ q.turns) (ss ++ q.steps) ps m done) (sym none) (to q.turns q.steps ps m done on)
 
--- an act of a client is in front of what follows its steps
+-- an act of a client comes before what follows its steps
 client_first : (w : World7) (p : Part) (c : ById Asked) (n m : Lines) (ps : List Part) (done : Bool) → HasSome ps → MovesTo w p.steps c n
     → ((v : World7) → Holds (on_line v.wire) n → v.client ≡ c → OnClient v m ps done) → OnClient w m (in_front p false ps) done
 client_first w p c n m [] done some to on = absurd some
 client_first w p c n m (q ∷ ps) done some to on = to q.steps ps m done on
 
--- the last act of a part is in front of other parts
+-- the last act of a part comes before the other parts
 client_last : (w : World7) (p : Part) (c : ById Asked) (n m : Lines) (ps : List Part) (done : Bool) → MovesTo w p.steps c n
     → ((v : World7) → Holds (on_line v.wire) n → FromClient v [] ps m done) → OnClient w m (in_front p true ps) done
 client_last w p c n m ps done to on =
     subst (λ (ss : List (client.Step Asked)). FromClient w ss ps m done) (append-nil p.steps) (to [] ps m done (λ v holds is. on v holds))
 
--- the next beginning is behind the last act of a part
+-- the next synchronization comes after the last act of a part
 client_anew : (v : World7) (m : Lines) (ps : List Part) (done : Bool) → HasSome ps → OnBegin (begins (on_line v.wire)) m ps done → FromClient v [] ps m done
 client_anew v m [] done some f = absurd some
 client_anew v m (q ∷ ps) done some f = ended_from v q ps m done f
 
 -- What commands ask.
 
--- what all elements of a list have, each of them has
-all_at : {A : Type 0} (P : A → Type 0) (xs : List A) (k : ℕ) (x : A) → AllByRecursion P xs → slice_get xs k ≡ Some x → P x
-all_at P [] k x all e = absurd (none_is_not x e)
-all_at P (y ∷ xs) zero x all e = subst P (some_is y x e) all.0
-all_at P (y ∷ xs) (suc k) x all e = all_at P xs k x all.1 e
-
--- what a request asks that is of its mark's command, or a null procedure, fits
+-- what a request asks that is of its mark's command, or a null procedure, has numbers that lie in their types
 asked_fits : (commands : List Task) (mark : Option _) (a : Wanted Asked) → AreAskable commands → IsOf commands mark a → IsAskedFitting a.call
 asked_fits commands None a askable is = subst (λ (x : Wanted Asked). IsAskedFitting x.call) (sym is) tt
 asked_fits commands (Some mark) a askable is =
     subst (λ (x : Wanted Asked). IsAskedFitting x.call) (sym is.2) (all_at (λ (task : Task). (utc : ℕ) → IsAskedFitting (call_at task utc)) commands mark.place is.0 askable is.1 mark.sent)
 
--- what a client sends by one step, where its window has room
+-- what a client sends by one send, if its window has room
 sent_one : (c : ById Asked) (target : ℕ) (call : Asked) (deadline : ℕ) → length c.waiting < 7 → sent_by c (client.Send target call deadline ∷ []) ≡ record { target = target; call = call } ∷ []
 sent_one c target call deadline room = ap (λ o. (client.sent_on (course_at c) target call o).sent ++ []) (sends_with_room c target call deadline room)
 
--- what comes of two things is what comes of those that they are
-both_are : {A B C : Type 0} (f : A → B → C) {renew o : A} (act told : B) (word : C) → o ≡ renew → act ≡ told → f renew told ≡ word → f o act ≡ word
-both_are f act told word is same e = ap (λ x. f x act) is ∙ ap (f _) same ∙ e
-
--- what is lost at the end of an act changes nothing in the progress: in the word
-losing_word : (b : Bool) (t : Model) → (losing b t).progress.word ≡ t.progress.word
-losing_word true t = refl
-losing_word false t = refl
-
--- in whether the station has begun
-losing_begun : (b : Bool) (t : Model) → has_begun (losing b t).progress ≡ has_begun t.progress
-losing_begun true t = refl
-losing_begun false t = refl
-
--- and in whether all that waits is lost
+-- the loss of what is outstanding, at the end of an act, changes nothing in whether all of it is lost
 losing_loses : (b : Bool) (t : Model) → loses_all (losing b t).progress ≡ loses_all t.progress
 losing_loses true t = refl
 losing_loses false t = refl
 
 module _ (plan : Plan) (commands : List Task) (askable : AreAskable commands) where
-  -- what an act means, by whether the station has begun
-  means_at : (s : Model) (act : Act) (b : Bool) → has_begun s.progress ≡ b → Invariant plan commands s → Performs commands s (action_at plan s) act
-      → IsMeant b s act (if b then doing plan commands s (action_at plan s) act else beginning s (action_at plan s) act) (after plan commands s act)
-  means_at s act b e fine obeys =
-      subst (λ x. IsMeant x s act (if x then doing plan commands s (action_at plan s) act else beginning s (action_at plan s) act) (after plan commands s act)) e
-      (are_meant plan commands s (act ∷ []) fine (obeys, tt)).0
-
-  -- bytes are put once the station has begun
+  -- an act that puts bytes, once the station has synchronized, comes to the steps that it means
   moves_put : (s : Model) (act : Act) (bytes : List ℕ) (w : World7) (l n : Lines) → Invariant plan commands s → w.client ≡ s.client → Holds (on_line w.wire) l
       → (let p = putting plan commands s (action_at plan s) in AreOf commands p.marks (sent_by s.client p.steps))
       → meant.IsPut s bytes (putting plan commands s (action_at plan s)) → (n ≡ l) ⊎ ((line : List ℕ) × (bytes ≡ with_end line) × (n ≡ record l { up = l.up ++ line ∷ [] }))
@@ -182,7 +155,7 @@ module _ (plan : Plan) (commands : List Task) (askable : AreAskable commands) wh
         by_came (inr sent) fits =
             moves_sends w s.client x.target x.call x.deadline sent.0 l n is x.room fine.digit fits (same_line sent.0 (asked_line (Some s.client.next) x.call) (sym sent.1 ∙ x.text)) holds (inr sent.2)
 
-  -- what goes out by an act once the station has begun are commands, or a null procedure
+  -- what an act sends once the station has synchronized is of its mark's command, or a null procedure
   sends_of : (s : Model) (act : Act) → Invariant plan commands s → Performs commands s (action_at plan s) act → has_begun s.progress ≡ true
       → AreOf commands (doing plan commands s (action_at plan s) act).marks (sent_by s.client (doing plan commands s (action_at plan s) act).steps)
   sends_of s act fine obeys begun =
@@ -191,35 +164,35 @@ module _ (plan : Plan) (commands : List Task) (askable : AreAskable commands) wh
       subst (λ (b : Bool). AreOf commands (if b then doing plan commands s o act else beginning s o act).marks (sent_by s.client (if b then doing plan commands s o act else beginning s o act).steps))
       begun books.wrote.sent
 
-  -- an act once the station has begun
+  -- an act once the station has synchronized comes to the steps that it means
   moves_act : (s : Model) (act : Act) (w : World7) (l n : Lines) → Invariant plan commands s → Performs commands s (action_at plan s) act → has_begun s.progress ≡ true → s.rest ≡ []
       → w.client ≡ s.client → Holds (on_line w.wire) l → Does l act n
       → ((after plan commands s act).rest ≡ []) × MovesTo w (doing plan commands s (action_at plan s) act).steps (client_after s.client (doing plan commands s (action_at plan s) act).steps) n
   moves_act s (Put bytes) w l n fine obeys begun rest is holds does = (
-    (means_at s (Put bytes) true begun fine obeys).1.1 ∙ rest,
+    (is_meant plan commands s (Put bytes) true begun fine obeys).1.1 ∙ rest,
     moves_put s (Put bytes) bytes w l n fine is holds (sends_of s (Put bytes) fine obeys begun) (put_is plan commands s (Put bytes) bytes fine obeys refl begun) does,
   )
   moves_act s (Cut bytes count) w l n fine obeys begun rest is holds does = (
-    (means_at s (Cut bytes count) true begun fine obeys).1.1 ∙ rest,
+    (is_meant plan commands s (Cut bytes count) true begun fine obeys).1.1 ∙ rest,
     moves_put s (Cut bytes count) bytes w l n fine is holds (sends_of s (Cut bytes count) fine obeys begun) (put_is plan commands s (Cut bytes count) bytes fine obeys refl begun) (inl does),
   )
   moves_act s (Gave piece moment) w l n fine obeys begun rest is holds does =
       let p = doing plan commands s (action_at plan s) (Gave piece moment) in
       let behind = (after plan commands s (Gave piece moment)).rest in
-      let means = (means_at s (Gave piece moment) true begun fine obeys).1 in
-      moves_gave w s.client piece moment p.steps behind l n is holds (subst (λ r. IsHeard r piece moment p.steps behind ⊎ IsDropped r moment p.steps behind) rest means) does
-  moves_act s (Told moment) w l n fine obeys begun rest is holds does = ((means_at s (Told moment) true begun fine obeys).1.1 ∙ rest, moves_moment w s.client moment.elapsed l n is holds does)
-  moves_act s (Silent moment) w l n fine obeys begun rest is holds does = ((means_at s (Silent moment) true begun fine obeys).1.1 ∙ rest, moves_moment w s.client moment.elapsed l n is holds does)
-  moves_act s Untold w l n fine obeys begun rest is holds does = ((means_at s Untold true begun fine obeys).1.1 ∙ rest, moves_none w s.client l n is holds does)
-  moves_act s Ended w l n fine obeys begun rest is holds does = ((means_at s Ended true begun fine obeys).1.1 ∙ rest, moves_none w s.client l n is holds does)
-  moves_act s Broke w l n fine obeys begun rest is holds does = ((means_at s Broke true begun fine obeys).1.1 ∙ rest, moves_none w s.client l n is holds does)
-  moves_act s Closed w l n fine obeys begun rest is holds does = ((means_at s Closed true begun fine obeys).1.1, moves_none w s.client l n is holds does)
-  moves_act s Opened w l n fine obeys begun rest is holds does = ((means_at s Opened true begun fine obeys).1.1 ∙ rest, moves_none w s.client l n is holds does)
-  moves_act s Unopened w l n fine obeys begun rest is holds does = ((means_at s Unopened true begun fine obeys).1.1 ∙ rest, moves_none w s.client l n is holds does)
+      let means = (is_meant plan commands s (Gave piece moment) true begun fine obeys).1 in
+      moves_gave w s.client piece moment p.steps behind l n is holds (subst (λ r. IsHeard r piece moment p.steps behind ⊎ IsDiscarded r moment p.steps behind) rest means) does
+  moves_act s (Told moment) w l n fine obeys begun rest is holds does = ((is_meant plan commands s (Told moment) true begun fine obeys).1.1 ∙ rest, moves_moment w s.client moment.elapsed l n is holds does)
+  moves_act s (Silent moment) w l n fine obeys begun rest is holds does = ((is_meant plan commands s (Silent moment) true begun fine obeys).1.1 ∙ rest, moves_moment w s.client moment.elapsed l n is holds does)
+  moves_act s Untold w l n fine obeys begun rest is holds does = ((is_meant plan commands s Untold true begun fine obeys).1.1 ∙ rest, moves_none w s.client l n is holds does)
+  moves_act s Ended w l n fine obeys begun rest is holds does = ((is_meant plan commands s Ended true begun fine obeys).1.1 ∙ rest, moves_none w s.client l n is holds does)
+  moves_act s Broke w l n fine obeys begun rest is holds does = ((is_meant plan commands s Broke true begun fine obeys).1.1 ∙ rest, moves_none w s.client l n is holds does)
+  moves_act s Closed w l n fine obeys begun rest is holds does = ((is_meant plan commands s Closed true begun fine obeys).1.1, moves_none w s.client l n is holds does)
+  moves_act s Opened w l n fine obeys begun rest is holds does = ((is_meant plan commands s Opened true begun fine obeys).1.1 ∙ rest, moves_none w s.client l n is holds does)
+  moves_act s Unopened w l n fine obeys begun rest is holds does = ((is_meant plan commands s Unopened true begun fine obeys).1.1 ∙ rest, moves_none w s.client l n is holds does)
 
   -- Whole runs.
 
-  -- where nothing is lost, the client is the one after the steps of the act
+  -- if nothing is lost, the client is the one after the steps of the act
   client_on : (s : Model) (act : Act) → Invariant plan commands s → Performs commands s (action_at plan s) act → has_begun s.progress ≡ true
       → loses_all (after plan commands s act).progress ≡ false → (after plan commands s act).client ≡ client_after s.client (doing plan commands s (action_at plan s) act).steps
   client_on s act fine obeys begun keeps =
@@ -230,19 +203,11 @@ module _ (plan : Plan) (commands : List Task) (askable : AreAskable commands) wh
       ap (λ b. (losing b t).client) same
       ∙ sym (subst (λ (b : Bool). client_after s.client (if b then doing plan commands s o act else beginning s o act).steps ≡ t.client) begun books.client)
 
-  -- the model after an act, before what waits is lost
+  -- the model after an act, before what is outstanding is lost
   abbrev moved_by : Model → Act → Model
   moved_by s act = moved plan commands (action_at plan s) (with_progress turned s) act
 
-  -- where the station begins anew, all ids of the word are left
-  word_anew : (s : Model) (act : Act) → Performs commands s (action_at plan s) act → has_begun s.progress ≡ true → has_begun (after plan commands s act).progress ≡ false
-      → (after plan commands s act).progress.word ≡ the_word
-  word_anew s act obeys begun begins =
-      let t = moved_by s act in
-      let it = renews_only plan commands s (action_at plan s) act obeys begun (sym (losing_begun (loses_all t.progress) t) ∙ begins) in
-      losing_word (loses_all t.progress) t ∙ both_are (λ x y. (moved plan commands x (with_progress turned s) y).progress.word) act (Told it.1) the_word it.0 it.2 refl
-
-  -- while the station begins, an act leaves the client new
+  -- while the station synchronizes, an act leaves the client new
   client_new : (s : Model) (act : Act) → Invariant plan commands s → Performs commands s (action_at plan s) act → has_begun s.progress ≡ false → (after plan commands s act).client ≡ fresh
   client_new s act fine obeys begins = by_loss (loses_all (moved_by s act).progress) where
     kept : (moved_by s act).client ≡ fresh
@@ -257,11 +222,11 @@ module _ (plan : Plan) (commands : List Task) (askable : AreAskable commands) wh
   some_left [] e none = cc
   some_left (asked ∷ rest) e none = cc
 
-  -- an act is one
+  -- a list with an act isn't empty
   no_act : (act : Act) (acts : List Act) → act ∷ acts ≡ [] → ⊥
   no_act act acts e = cc
 
-  -- where no act happens, what happens on the line is in front of what follows
+  -- what happens on the line without an act comes before what follows
   goes_idly : (hs : List Happening) (w : World7) (l m : Lines) (steps : List (client.Step Asked)) (more : List Part) (done : Bool) → acts_of hs ≡ [] → Holds (on_line w.wire) l → LeadAll l hs m
       → ((v : World7) → Holds (on_line v.wire) m → FromClient v steps more m done) → FromClient w steps more m done
   goes_idly [] w l m steps more done none holds all on = on w (subst (Holds (on_line w.wire)) (sym all) holds)
@@ -270,9 +235,9 @@ module _ (plan : Plan) (commands : List Task) (askable : AreAskable commands) wh
       let xs = happens (on_line w.wire) l all.0 h (λ act e. cc) holds all.1 in
       steps_move xs.steps w steps more m done xs.are (λ v e k. goes_idly hs v all.0 m steps more done none (subst (λ u. Holds u all.0) (sym e) xs.holds) all.2 on)
 
-  -- From a beginning and from a client on.
+  -- From a synchronization and from a client on.
 
-  -- nothing is in a word of which none is left
+  -- an empty word is a subsequence of any ids
   word_none : (s : Model) → has_begun s.progress ≡ true → s.progress.word ≡ []
   word_none s begun = word_of s.progress.word begun
 
@@ -281,28 +246,26 @@ module _ (plan : Plan) (commands : List Task) (askable : AreAskable commands) wh
   first_none [] none = refl
   first_none (p ∷ ps) none = none
 
-  -- the ids of the whole word are ids
-  pub all_ids : AreIds the_word
-  all_ids = (omega arith, (omega arith, (omega arith, (omega arith, (omega arith, (omega arith, (omega arith, (omega arith, tt))))))))
-
-  -- where the run is over no act is left
+  -- if the run is over no act is left
   none_over : (t : Model) (acts : List Act) → is_over t.progress ≡ true → Runs plan commands t acts → acts ≡ []
   none_over t [] over runs = refl
   none_over t (act ∷ acts) over runs = absurd (over_stays plan commands t act over runs.0)
 
-  -- from a beginning on, what happens on the line shows what the station sees in a run
+  -- from a synchronization on, what happens on the line shows what the station sees in a run
   abbrev FromBeginOf : List Happening → Lines → Type 0
   FromBeginOf hs m =
       (s : Model) (b : begin.Model SceneState) (l : Lines) → Invariant plan commands s → s.rest ≡ [] → has_begun s.progress ≡ false → b.left ≡ s.progress.word
-      → AreIds s.progress.word → Holds (leaves b) l → LeadAll l hs m → Runs plan commands s (acts_of hs) → OnBegin b m (parts_of plan commands s (acts_of hs)) (has_begun (after_all plan commands s (acts_of hs)).progress)
+      → IsSmall s.progress.word → Holds (leaves b) l → LeadAll l hs m → Runs plan commands s (acts_of hs)
+      → OnBegin b m (parts_of plan commands s (acts_of hs)) (has_begun (after_all plan commands s (acts_of hs)).progress)
 
   -- from a client on, what happens on the line shows what the station sees in a run
   abbrev FromClientOf : List Happening → Lines → Type 0
   FromClientOf hs m =
       (s : Model) (w : World7) (l : Lines) → Invariant plan commands s → s.rest ≡ [] → has_begun s.progress ≡ true → w.client ≡ s.client
-      → Holds (on_line w.wire) l → LeadAll l hs m → Runs plan commands s (acts_of hs) → OnClient w m (parts_of plan commands s (acts_of hs)) (has_begun (after_all plan commands s (acts_of hs)).progress)
+      → Holds (on_line w.wire) l → LeadAll l hs m → Runs plan commands s (acts_of hs)
+      → OnClient w m (parts_of plan commands s (acts_of hs)) (has_begun (after_all plan commands s (acts_of hs)).progress)
 
-  -- an act while the station begins, in front of what happens later
+  -- an act while the station synchronizes, before what happens later
   act_begin : (act : Act) (hs : List Happening) (m : Lines) → FromBeginOf hs m → FromClientOf hs m → FromBeginOf (Call act ∷ hs) m
   act_begin act hs m later_begin later_client s b l fine rest begins left ids holds all runs =
       let o = action_at plan s in
@@ -313,23 +276,27 @@ module _ (plan : Plan) (commands : List Task) (askable : AreAskable commands) wh
       (begin_first b p (unanswered_after s.progress.word (heard_in p.turns)) all.0 m (parts_of plan commands t (acts_of hs)) done (some_parts plan commands t (acts_of hs)) means.0 to.1
       (λ c h k. next c h (k ∙ sym means.2) (has_begun t.progress) refl)) where
         means : IsMeant false s act (beginning s (action_at plan s) act) (after plan commands s act)
-        means = means_at s act false begins fine runs.0
+        means = is_meant plan commands s act false begins fine runs.0
 
-        to : ((after plan commands s act).rest ≡ []) × TurnsTo b (beginning s (action_at plan s) act).turns (unanswered_after s.progress.word (heard_in (beginning s (action_at plan s) act).turns)) all.0
+        to : ((after plan commands s act).rest ≡ [])
+            × TurnsTo b (beginning s (action_at plan s) act).turns (unanswered_after s.progress.word (heard_in (beginning s (action_at plan s) act).turns)) all.0
         to = turns_act b s.progress.word act (beginning s (action_at plan s) act).turns (after plan commands s act).rest l all.0 left ids holds (some_left s.progress.word begins)
             (subst (λ r. MeansTurns s.progress.word r act (beginning s (action_at plan s) act).turns (after plan commands s act).rest) rest means.1) all.1
 
         next : (c : begin.Model SceneState) → Holds (leaves c) all.0 → c.left ≡ (after plan commands s act).progress.word → (x : Bool) → has_begun (after plan commands s act).progress ≡ x
             → OnBegin c m (parts_of plan commands (after plan commands s act) (acts_of hs)) (has_begun (after_all plan commands (after plan commands s act) (acts_of hs)).progress)
         next c h k false e =
-            later_begin (after plan commands s act) c all.0 (fine_after plan commands s act fine) to.0 e k (subst AreIds (sym means.2) (ids_left s.progress.word (heard_in (beginning s (action_at plan s) act).turns) ids)) h all.2 runs.1
+            later_begin (after plan commands s act) c all.0 (fine_after plan commands s act fine) to.0 e k
+            (subst IsSmall (sym means.2) (ids_left s.progress.word (heard_in (beginning s (action_at plan s) act).turns) ids)) h all.2 runs.1
         next c h k true e =
             let u = after plan commands s act in
             let ps = parts_of plan commands u (acts_of hs) in
-            begun_from c (first ps).turns (first ps).steps (others ps) m (has_begun (after_all plan commands u (acts_of hs)).progress) (k ∙ word_none u e) (first_none ps (no_turns plan commands u (acts_of hs) e))
-            (later_client u (ids_begun (leaves c)) all.0 (fine_after plan commands s act fine) to.0 e (sym (client_new s act fine runs.0 begins)) (subst (λ v. Holds v all.0) (sym (begun_line (leaves c))) h) all.2 runs.1)
+            begun_from c (first ps).turns (first ps).steps (others ps) m (has_begun (after_all plan commands u (acts_of hs)).progress)
+            (k ∙ word_none u e) (first_none ps (no_turns plan commands u (acts_of hs) e))
+            (later_client u (ids_begun (leaves c)) all.0 (fine_after plan commands s act fine) to.0 e (sym (client_new s act fine runs.0 begins))
+            (subst (λ v. Holds v all.0) (sym (begun_line (leaves c))) h) all.2 runs.1)
 
-  -- an act once the station has begun, in front of what happens later
+  -- an act once the station has synchronized, before what happens later
   act_client : (act : Act) (hs : List Happening) (m : Lines) → FromBeginOf hs m → FromClientOf hs m → FromClientOf (Call act ∷ hs) m
   act_client act hs m later_begin later_client s w l fine rest begun is holds all runs =
       let o = action_at plan s in
@@ -347,9 +314,9 @@ module _ (plan : Plan) (commands : List Task) (askable : AreAskable commands) wh
             → FromClient v [] (parts_of plan commands (after plan commands s act) (acts_of hs)) m (has_begun (after_all plan commands (after plan commands s act) (acts_of hs)).progress)
         anew v h lost false e =
             let u = after plan commands s act in
-            let word = word_anew s act runs.0 begun e in
+            let word = word_anew plan commands s act runs.0 begun e in
             client_anew v m (parts_of plan commands u (acts_of hs)) (has_begun (after_all plan commands u (acts_of hs)).progress) (some_parts plan commands u (acts_of hs))
-            (later_begin u (begins (on_line v.wire)) all.0 (fine_after plan commands s act fine) to.0 e (sym word) (subst AreIds (sym word) all_ids)
+            (later_begin u (begins (on_line v.wire)) all.0 (fine_after plan commands s act fine) to.0 e (sym word) (subst IsSmall (sym word) word_small)
             (subst (λ q. Holds q all.0) (sym (begins_line (on_line v.wire))) h) all.2 runs.1)
         anew v h lost true e =
             let u = after plan commands s act in
@@ -391,7 +358,7 @@ module _ (plan : Plan) (commands : List Task) (askable : AreAskable commands) wh
             steps_move xs.steps w _ _ m _ xs.are (λ v e k. later.1 s v all.0 fine rest begun (k ∙ is) (subst (λ u. Holds u all.0) (sym e) xs.holds) all.2 runs),
       )
 
--- a reply that isn't kept is no other
+-- if the instrument retains no reply, its state is a good one (`KeepsAReply`)
 pub none_kept : (state : SceneState) → state.base.kept ≡ None → KeepsAReply state
 none_kept state none = subst scene.IsHeard (sym none) tt
 
@@ -403,7 +370,7 @@ rehearsed plan commands scope acts of_line askable runs =
     let start : Lines = record { up = []; down = []; state = c.start } in
     let good = none_kept c.start c.none in
     let s = opening plan scope in
-    let g = (both plan commands askable c.happened of_line.0).0 s (begins u) start (fine_opening plan commands scope) refl refl refl (all_ids plan commands askable)
+    let g = (both plan commands askable c.happened of_line.0).0 s (begins u) start (fine_opening plan commands scope) refl refl refl word_small
     (record { up = tt; down = refl; one = tt; state = refl; good = good }) c.leads (subst (Runs plan commands s) (sym c.acts_are) runs) in
     let f = subst (λ told. OnBegin (begins u) of_line.0 (parts_of plan commands s told) (has_begun (after_all plan commands s told).progress)) c.acts_are g in
     let parts = parted (parts_of plan commands s acts) (some_parts plan commands s acts) in

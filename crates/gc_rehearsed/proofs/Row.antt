@@ -7,6 +7,7 @@ use Rattle.gc_client.specs.OneForOne as client
 use Rattle.gc_links.specs.Acts.{Act, Put, Gave}
 use Rattle.gc_scenes.specs.SceneState.{SceneState}
 use Rattle.gc_station.proofs.EachRun.{fine_opening}
+use Rattle.gc_station.proofs.SentAt.{act_head, act_tail}
 use Rattle.gc_station.specs.Deciding.{has_begun}
 use Rattle.gc_station.specs.Model.{Runs, after_all, opening}
 use Rattle.gc_station.specs.Parts as part
@@ -19,15 +20,16 @@ use Rattle.gc_field.specs.SceneField.{KeepsAReply, scene_ends, scene_kept}
 use Rattle.gc_field.specs.Shown.{AreShownAs}
 use Rattle.gc_field.proofs.InARow.{in_a_row}
 use Rattle.gc_field.proofs.SceneField.{scene_is_an_instrument}
+use Rattle.gc_field.proofs.BeginJoin.{word_small}
 use Rattle.gc_rehearsal.specs.Carrying.{Lines, Happening, Call, Reaches, Restarts, Passes, Repeats_up, Repeats_down, Loses_up, Loses_down, Loses_front, Does, IsOfLine, IsQuiet, LeadAll, acts_of}
-use Rattle.gc_rehearsed.specs.Rehearsals.{AreRehearsed, FewEndUnbegun, IsLife, RowsOfRehearsalsAreFaithful, Station, has_begun_at_its_end, programs, told_by, unbegun}
+use Rattle.gc_rehearsed.specs.Rehearsals.{AreRehearsed, FewEndUnbegun, RunsAndStops, RowsOfRehearsalsAreFaithful, Station, has_begun_at_its_end, programs, acts_of_all, unbegun}
 use Rattle.gc_rehearsed.proofs.Courses.{FromBegin, begins_line, few_from, run, steps_turn}
-use Rattle.gc_rehearsed.proofs.Rehearsed.{OnBegin, all_ids, both, first, none_kept, others, parted, some_parts}
+use Rattle.gc_rehearsed.proofs.Rehearsed.{OnBegin, both, first, none_kept, others, parted, some_parts}
 use Rattle.gc_rehearsed.proofs.Steps.{Holds, happens}
 
 -- Cutting what happened.
 
--- what happened up to an act, and what happened behind it
+-- what happened on a line, cut in two: what happened up to the end of the acts `xs`, and what happened after that
 record Cut (hs : List Happening) (xs ys : List Act) (l m : Lines) : Type 0 where
   front : List Happening
   back : List Happening
@@ -37,29 +39,21 @@ record Cut (hs : List Happening) (xs ys : List Act) (l m : Lines) : Type 0 where
   leads : LeadAll l front middle
   later : LeadAll middle back m
 
--- lists of acts that are the same have the same head
-head_act : (x y : Act) (xs ys : List Act) → x ∷ xs ≡ y ∷ ys → x ≡ y
-head_act x y xs ys e = cc
-
--- and the same tail
-tail_act : (x y : Act) (xs ys : List Act) → x ∷ xs ≡ y ∷ ys → xs ≡ ys
-tail_act x y xs ys e = cc
-
--- no act is none
+-- an empty list of acts isn't one with an act
 none_act : (x : Act) (xs : List Act) → [] ≡ x ∷ xs → ⊥
 none_act x xs e = cc
 
--- what happened is cut behind its first acts
+-- what happened can be cut after its first acts
 cut : (hs : List Happening) (xs ys : List Act) (l m : Lines) → acts_of hs ≡ xs ++ ys → LeadAll l hs m → Cut hs xs ys l m
 cut hs [] ys l m e all = record { front = []; back = hs; middle = l; fronts = refl; backs = e; leads = refl; later = all }
 cut [] (x ∷ xs) ys l m e all = absurd (none_act x (xs ++ ys) e)
 cut (Call act ∷ hs) (x ∷ xs) ys l m e all =
-    let rest = cut hs xs ys all.0 m (tail_act act x (acts_of hs) (xs ++ ys) e) all.2 in
+    let rest = cut hs xs ys all.0 m (act_tail act x (acts_of hs) (xs ++ ys) e) all.2 in
     record {
       front = Call act ∷ rest.front;
       back = rest.back;
       middle = rest.middle;
-      fronts = ap (λ a. a ∷ acts_of rest.front) (head_act act x (acts_of hs) (xs ++ ys) e) ∙ ap (λ told. x ∷ told) rest.fronts;
+      fronts = ap (λ a. a ∷ acts_of rest.front) (act_head act x (acts_of hs) (xs ++ ys) e) ∙ ap (λ told. x ∷ told) rest.fronts;
       backs = rest.backs;
       leads = (all.0, all.1, rest.leads);
       later = rest.later;
@@ -70,13 +64,13 @@ cut (h ∷ hs) (x ∷ xs) ys l m e all =
 
 -- Between two stations.
 
--- a quiet act does nothing
+-- a quiet act leaves the line as it is
 quiet_same : (act : Act) (l n : Lines) → IsQuiet act → Does l act n → n ≡ l
 quiet_same (Put bytes) l n quiet does = absurd quiet
 quiet_same (Gave bytes moment) l n quiet does = absurd quiet
 quiet_same act l n quiet does = does
 
--- what happens between two stations is in front of the second one's beginning
+-- what happens between two stations comes before the second one's synchronization
 idle_first : (hs : List Happening) (b : begin.Model SceneState) (l n : Lines) (show : List part.Turn) (steps : List (client.Step Asked)) (more : List Part) (m : Lines) (done : Bool)
     → AllByRecursion IsQuiet (acts_of hs) → Holds (leaves b) l → LeadAll l hs n
     → ((c : begin.Model SceneState) → Holds (leaves c) n → c.left ≡ b.left → FromBegin c show steps more m done) → FromBegin b show steps more m done
@@ -90,36 +84,37 @@ idle_first (h ∷ hs) b l n show steps more m done quiet holds all on =
 
 -- The row.
 
--- what comes of stations in a row: a list of runs for each, which are in the field
+-- stations in a row are in the field: there is a list of runs for each, and these are programs in a row
 record Goes (n : ℕ) (u : UnderWay SceneState) (xs : List Station) : Type 0 where
   runs : List (List (Run SceneState))
   each : length runs ≡ length xs
   field : AreInARow scene_ends KeepsAReply scene_kept n u (programs xs runs)
 
--- stations in a row are in the field where fewer count as killed in it
+-- few stations in a row end while they synchronize, also if fewer were killed before the first
 fewer : (k n : ℕ) (xs : List Station) → k ≤ n → FewEndUnbegun n xs → FewEndUnbegun k xs
 fewer k n [] less few = tt
-fewer k n (x ∷ xs) less few = let one = fewer_one (has_begun_at_its_end x) in ((let f = few.0 in omega (arith, one, f)), fewer (unbegun k (has_begun_at_its_end x)) (unbegun n (has_begun_at_its_end x)) xs one few.1) where
-  fewer_one : (b : Bool) → unbegun k b ≤ unbegun n b
-  fewer_one true = omega arith
-  fewer_one false = omega (arith, less)
+fewer k n (x ∷ xs) less few = let one = fewer_one (has_begun_at_its_end x) in
+    ((let f = few.0 in omega (arith, one, f)), fewer (unbegun k (has_begun_at_its_end x)) (unbegun n (has_begun_at_its_end x)) xs one few.1) where
+      fewer_one : (b : Bool) → unbegun k b ≤ unbegun n b
+      fewer_one true = omega arith
+      fewer_one false = omega (arith, less)
 
--- the stations go on in the field, over what is under way
+-- stations one after the other over a rehearsed line are in the field (`Goes`), over what is in flight
 row : (n : ℕ) (xs : List Station) (hs : List Happening) (before : List Act) (u : UnderWay SceneState) (l m : Lines) → AllByRecursion IsQuiet before → Holds u l → LeadAll l hs m
-    → acts_of hs ≡ before ++ told_by xs → AllByRecursion IsLife xs → FewEndUnbegun n xs → Goes n u xs
+    → acts_of hs ≡ before ++ acts_of_all xs → AllByRecursion RunsAndStops xs → FewEndUnbegun n xs → Goes n u xs
 row n [] hs before u l m quiet holds all told lives few = record { runs = []; each = refl; field = tt }
 row n (x ∷ xs) hs before u l m quiet holds all told lives few =
     let s = opening x.plan x.scope in
     let ps = parts_of x.plan x.commands s x.acts in
     let done = has_begun_at_its_end x in
-    let one = cut hs before (told_by (x ∷ xs)) l m told all in
-    let two = cut one.back x.acts (x.behind ++ told_by xs) one.middle m one.backs one.later in
+    let one = cut hs before (acts_of_all (x ∷ xs)) l m told all in
+    let two = cut one.back x.acts (x.behind ++ acts_of_all xs) one.middle m one.backs one.later in
     let f : OnBegin (begins u) two.middle ps done =
     idle_first one.front (begins u) l one.middle (first ps).turns (first ps).steps (others ps) two.middle done (subst (AllByRecursion IsQuiet) (sym one.fronts) quiet)
     (subst (λ v. Holds v l) (sym (begins_line u)) holds) one.leads
     (λ c h k. subst (λ acts. OnBegin c two.middle (parts_of x.plan x.commands s acts) (has_begun (after_all x.plan x.commands s acts).progress)) two.fronts
     ((both x.plan x.commands lives.0.askable two.front two.middle).0 s c one.middle (fine_opening x.plan x.commands x.scope) refl refl k
-    (all_ids x.plan x.commands lives.0.askable) h two.leads (subst (Runs x.plan x.commands s) (sym two.fronts) lives.0.runs))) in
+    word_small h two.leads (subst (Runs x.plan x.commands s) (sym two.fronts) lives.0.runs))) in
     let rs = run f.ts f.ms ∷ f.rs in
     let killed = few_from n u (first ps).turns (first ps).steps (others ps) two.middle done f few.0 in
     let rest = row (killed_over scene_ends n u rs) xs two.back x.behind (left_over scene_ends u rs) two.middle m lives.0.quiet f.later.holds two.later two.backs lives.1
@@ -138,7 +133,7 @@ row n (x ∷ xs) hs before u l m quiet holds all told lives few =
       );
     }
 
--- nothing under way is a row
+-- with nothing in flight, `IsRow` holds
 none_row : (state : SceneState) → IsRow (none_under_way state)
 none_row state = record { low = 1; numbers = []; some = omega arith; rising = tt; few = tt; ids = refl }
 

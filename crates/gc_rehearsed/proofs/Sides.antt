@@ -1,4 +1,5 @@
--- Steps of the line on both sides of a beginning: as turns while a station begins, and as moves once it has begun.
+-- Steps of the line before and after the end of a synchronization: as turns while a station synchronizes, and as moves once it
+-- has.
 use Rattle.std.proofs.Common.{◌≡◌, ℕ, ◌<◌, ◌≤◌, Bool, true, false, List, [], ◌∷◌, ◌++◌, length, map, nat_lt, Option, refl, sym, ◌∙◌, ap, subst}
 use Rattle.std.proofs.lemmas.Bool.{ltb-false}
 use Rattle.std.proofs.lemmas.List.{map-append}
@@ -20,9 +21,9 @@ use Rattle.gc_field.specs.World as world
 use Rattle.gc_field.specs.World.{Numbered, Request, Wire, World, without, doubled, idle, up_delivered, with_up, with_down}
 use Rattle.gc_rehearsed.proofs.Steps.{Step, Reach, Lose_up, Repeat_up, Lose_down, Repeat_down, Start, Change, IsStep, flow, reached, stepped}
 
--- While a station begins.
+-- While a station synchronizes.
 
--- the turn of a step
+-- the turn that a step of the line is
 abbrev pub turn_of : Step → begin.Turn SceneState
 turn_of Reach = begin.Reaches
 turn_of (Lose_up k) = begin.Up_lose k
@@ -40,7 +41,7 @@ leaves_reach b (x ∷ rest) =
     let reply : Aged (List ℕ) = record { old = x.old; line = h.reply } in
     ap (λ d. flow (map (λ y. y.line) rest) d h.state) (map-append (λ (y : Aged (List ℕ)). y.line) b.down (reply ∷ []))
 
--- what a turn leaves is what its step leaves
+-- a step leaves in flight what its turn leaves
 pub leaves_turn : (b : Model SceneState) (x : Step) → leaves (turns scene_ends b (turn_of x)) ≡ stepped (leaves b) x
 leaves_turn b Reach = leaves_reach b b.up
 leaves_turn b (Lose_up k) = ap (λ q. flow q (leaves b).down b.state) (sym (without_map (λ (y : Aged Request). y.line) k b.up))
@@ -50,7 +51,7 @@ leaves_turn b (Repeat_down k) = ap (λ q. flow (leaves b).up q b.state) (sym (do
 leaves_turn b Start = refl
 leaves_turn b (Change state) = refl
 
--- a step shows nothing to the station
+-- the turn of a step shows nothing to the station
 pub shows_none : (b : Model SceneState) (x : Step) → shows b (turn_of x) ≡ []
 shows_none b Reach = refl
 shows_none b (Lose_up k) = refl
@@ -65,7 +66,7 @@ left_reach : (b : Model SceneState) (q : List (Aged Request)) → (begin.reaches
 left_reach b [] = refl
 left_reach b (x ∷ rest) = refl
 
--- a step answers no id
+-- the turn of a step answers no id
 pub left_turn : (b : Model SceneState) (x : Step) → (turns scene_ends b (turn_of x)).left ≡ b.left
 left_turn b Reach = left_reach b b.up
 left_turn b (Lose_up k) = refl
@@ -75,7 +76,7 @@ left_turn b (Repeat_down k) = refl
 left_turn b Start = refl
 left_turn b (Change state) = refl
 
--- a step that is possible is a turn that is
+-- the turn of a possible step is possible
 pub is_turn : (b : Model SceneState) (x : Step) → IsStep (leaves b) x → IsTurn KeepsAReply scene_kept b (turn_of x)
 is_turn b Reach is = tt
 is_turn b (Lose_up k) is = tt
@@ -85,9 +86,9 @@ is_turn b (Repeat_down k) is = tt
 is_turn b Start is = tt
 is_turn b (Change state) is = is
 
--- Once it has begun.
+-- Once it has synchronized.
 
--- the move of a step
+-- the move that a step of the line is
 abbrev pub move_of : Step → Move SceneState
 move_of Reach = field.OnLine world.Up_deliver
 move_of (Lose_up k) = field.OnLine (world.Up_lose k)
@@ -105,17 +106,17 @@ line_reach w (x ∷ rest) =
     let reply : Numbered (List ℕ) = record { number = x.number; line = h.reply } in
     ap (λ d. flow (map (λ y. y.line) rest) d h.state) (map-append (λ (y : Numbered (List ℕ)). y.line) w.down (reply ∷ []))
 
--- what a change of the requests leaves, which may be impossible where it changes nothing
+-- what is in flight after a change of the requests (q); if it isn't possible (b is false), it changes nothing
 line_up : (w : Wire SceneState) (q : List (Numbered Request)) (b : Bool) → (b ≡ false → q ≡ w.up) → on_line (with_up w q b) ≡ flow (map (λ x. x.line) q) (on_line w).down w.state
 line_up w q true same = refl
 line_up w q false same = ap (λ (l : List (Numbered Request)). flow (map (λ x. x.line) l) (on_line w).down w.state) (sym (same refl))
 
--- what a change of the replies leaves, which may be impossible where it changes nothing
+-- what is in flight after a change of the replies (q); if it isn't possible (b is false), it changes nothing
 line_down : (w : Wire SceneState) (q : List (Numbered (List ℕ))) (b : Bool) → (b ≡ false → q ≡ w.down) → on_line (with_down w q b) ≡ flow (on_line w).up (map (λ x. x.line) q) w.state
 line_down w q true same = refl
 line_down w q false same = ap (λ (l : List (Numbered (List ℕ))). flow (on_line w).up (map (λ x. x.line) l) w.state) (sym (same refl))
 
--- what a move leaves on the line is what its step leaves
+-- a step leaves in flight what its move leaves
 pub line_move : (w : World (ById Asked) SceneState) (x : Step) → on_line (moves scene_ends (by_ids WINDOW scene_ends) w (move_of x)).wire ≡ stepped (on_line w.wire) x
 line_move w Reach = line_reach w.wire w.wire.up
 line_move w (Lose_up k) =
@@ -137,7 +138,7 @@ line_move w (Repeat_down k) =
 line_move w Start = refl
 line_move w (Change state) = refl
 
--- the client has no part in a step
+-- the move of a step leaves the client
 pub client_move : (w : World (ById Asked) SceneState) (x : Step) → (moves scene_ends (by_ids WINDOW scene_ends) w (move_of x)).client ≡ w.client
 client_move w Reach = refl
 client_move w (Lose_up k) = refl
@@ -147,7 +148,7 @@ client_move w (Repeat_down k) = refl
 client_move w Start = refl
 client_move w (Change state) = refl
 
--- a step that is possible is a move that is
+-- the move of a possible step is possible
 pub is_move : (w : World (ById Asked) SceneState) (x : Step) → IsStep (on_line w.wire) x → IsPossible KeepsAReply scene_kept w (move_of x)
 is_move w Reach is = tt
 is_move w (Lose_up k) is = tt
@@ -157,7 +158,7 @@ is_move w (Repeat_down k) is = tt
 is_move w Start is = tt
 is_move w (Change state) is = is
 
--- the client sees nothing of a step
+-- the client sees nothing of the move of a step
 pub seen_none : (x : Step) → seen (move_of x ∷ []) ≡ []
 seen_none Reach = refl
 seen_none (Lose_up k) = refl

@@ -1,4 +1,5 @@
--- What happens on a rehearsed line, as steps of what is under way in the field: requests with their ids, replies, and the instrument.
+-- What happens on a rehearsed line, as steps of what is in flight in the field: requests with their ids, replies, and the
+-- instrument.
 use Rattle.std.proofs.Common.{◌≡◌, ◌⊎◌, inl, inr, ℕ, zero, suc, ◌<◌, ◌≤◌, List, [], ◌∷◌, ◌++◌, length, map, Option, Some, None, refl, sym, ◌∙◌, ap, subst}
 use Rattle.gc_lines.specs.Lines.{IsPlain}
 use Rattle.gc_links.specs.Acts.{Act}
@@ -10,17 +11,17 @@ use Rattle.gc_scenes.specs.SceneReplying.{IsPlayed}
 use Rattle.gc_scenes.specs.SceneState.{SceneState, scene_restarted, at}
 use Rattle.gc_world.specs.Order.{Each}
 use Rattle.gc_world.proofs.Options.{some_is}
+use Rattle.gc_world.proofs.Rows.{each_append}
 use Rattle.gc_field.specs.Begin.{UnderWay}
 use Rattle.gc_field.specs.Instrument.{MayBecome}
 use Rattle.gc_field.specs.SceneField.{KeepsAReply, scene_handed, scene_kept}
 use Rattle.gc_field.specs.World.{Request, without, doubled}
-use Rattle.gc_field.proofs.BeginLists.{each_append}
 use Rattle.gc_field.proofs.SceneField.{scene_is_an_instrument}
 use Rattle.gc_rehearsal.specs.Carrying.{Lines, Happening, Call, Reaches, Restarts, Passes, Repeats_up, Repeats_down, Loses_up, Loses_down, Loses_front, HasReached, IsRepeated, Leads, MaySendOut}
 
--- What is under way.
+-- What is in flight.
 
--- this is the line of the request, and it reads back
+-- this is the line of the request, whose id and numbers lie in their types
 pub record IsLineOf (r : Request) (line : List ℕ) : Type 0 where
   pub text : line ≡ asked_line (Some r.id) r.call
   pub id : r.id < 8
@@ -32,15 +33,15 @@ AreLinesOf [] [] = Unit {0}
 AreLinesOf (r ∷ rs) (line ∷ lines) = IsLineOf r line × AreLinesOf rs lines
 AreLinesOf _ _ = ⊥
 
--- the bytes are one line
+-- these bytes are one line: plain bytes, at most 512
 abbrev pub IsOne : List ℕ → Type 0
 IsOne line = IsPlain line × (length line ≤ 512)
 
--- what is under way, with this instrument
+-- what is in flight, with the instrument in this state
 abbrev pub flow : List Request → List (List ℕ) → SceneState → UnderWay SceneState
 flow up down state = record { up = up; down = down; state = state }
 
--- what is under way in the field is what is under way on the line
+-- what is in flight in the field is what is in flight on the line
 pub record Holds (u : UnderWay SceneState) (l : Lines) : Type 0 where
   pub up : AreLinesOf u.up l.up
   pub down : u.down ≡ l.down
@@ -60,12 +61,12 @@ pub data Step : Type 0 where
   Start : Step
   Change : (state : SceneState) → Step
 
--- what is under way once the request in front reached the instrument
+-- what is in flight once the front request reached the instrument
 abbrev pub reached : UnderWay SceneState → List Request → UnderWay SceneState
 reached u [] = u
 reached u (r ∷ rest) = flow rest (u.down ++ (scene_handed u.state r.id r.call).reply ∷ []) (scene_handed u.state r.id r.call).state
 
--- what is under way after a step
+-- what is in flight after a step
 abbrev pub stepped : UnderWay SceneState → Step → UnderWay SceneState
 stepped u Reach = reached u u.up
 stepped u (Lose_up k) = record u { up = without k u.up }
@@ -75,7 +76,7 @@ stepped u (Repeat_down k) = record u { down = doubled k u.down }
 stepped u Start = record u { state = scene_restarted u.state }
 stepped u (Change state) = record u { state = state }
 
--- what is under way after steps
+-- what is in flight after these steps, in order
 abbrev pub all_stepped : List Step → UnderWay SceneState → UnderWay SceneState
 all_stepped [] u = u
 all_stepped (x ∷ xs) u = all_stepped xs (stepped u x)
@@ -90,7 +91,7 @@ abbrev pub AreSteps : List Step → UnderWay SceneState → Type 0
 AreSteps [] u = Unit {0}
 AreSteps (x ∷ xs) u = IsStep u x × AreSteps xs (stepped u x)
 
--- steps lead from what is under way in the field to what is under way on the line
+-- steps lead from what is in flight in the field to what is in flight on the line
 pub record Steps (u : UnderWay SceneState) (m : Lines) : Type 0 where
   pub steps : List Step
   pub are : AreSteps steps u
@@ -98,24 +99,24 @@ pub record Steps (u : UnderWay SceneState) (m : Lines) : Type 0 where
 
 -- Lists.
 
--- the last element is lost
+-- without the last element, a list with one more at its end is the list
 pub without_last : {A : Type 0} (xs : List A) (x : A) → without (length xs) (xs ++ x ∷ []) ≡ xs
 without_last [] x = refl
 without_last (y ∷ xs) x = ap (λ l. y ∷ l) (without_last xs x)
 
--- the last element comes twice
+-- to repeat the last element is to add it once more at the end
 pub doubled_last : {A : Type 0} (xs : List A) (x : A) → doubled (length xs) (xs ++ x ∷ []) ≡ (xs ++ x ∷ []) ++ x ∷ []
 doubled_last [] x = refl
 doubled_last (y ∷ xs) x = ap (λ l. y ∷ l) (doubled_last xs x)
 
--- lines of requests, and of one more
+-- the lines of requests, and of one more, are those of the longer list
 pub lines_on : (rs : List Request) (lines : List (List ℕ)) (r : Request) (line : List ℕ) → AreLinesOf rs lines → IsLineOf r line → AreLinesOf (rs ++ r ∷ []) (lines ++ line ∷ [])
 lines_on [] [] r line all one = (one, tt)
 lines_on [] (x ∷ lines) r line all one = absurd all
 lines_on (s ∷ rs) [] r line all one = absurd all
 lines_on (s ∷ rs) (x ∷ lines) r line all one = (all.0, lines_on rs lines r line all.1 one)
 
--- where the last of these lines comes twice, the last request does
+-- if the last of these lines comes twice, so does the last request
 pub lines_twice : (rs : List Request) (front : List (List ℕ)) (line : List ℕ) → AreLinesOf rs (front ++ line ∷ [])
     → (k : ℕ) × AreLinesOf (doubled k rs) ((front ++ line ∷ []) ++ line ∷ [])
 lines_twice [] [] line all = absurd all
@@ -133,17 +134,17 @@ played_as s r line is = subst (λ x. IsPlayed s x (scene_handed s r.id r.call).s
 
 -- What happens.
 
--- all requests are lost, one after the other
+-- steps lose all requests, one after the other
 lose_all_up : (rs : List Request) (down : List (List ℕ)) (state : SceneState) → (xs : List Step) × AreSteps xs (flow rs down state) × (all_stepped xs (flow rs down state) ≡ flow [] down state)
 lose_all_up [] down state = ([], tt, refl)
 lose_all_up (r ∷ rs) down state = let rest = lose_all_up rs down state in (Lose_up zero ∷ rest.0, (tt, rest.1), rest.2)
 
--- all replies are lost, one after the other
+-- steps lose all replies, one after the other
 lose_all_down : (up : List Request) (down : List (List ℕ)) (state : SceneState) → (xs : List Step) × AreSteps xs (flow up down state) × (all_stepped xs (flow up down state) ≡ flow up [] state)
 lose_all_down up [] state = ([], tt, refl)
 lose_all_down up (x ∷ down) state = let rest = lose_all_down up down state in (Lose_down zero ∷ rest.0, (tt, rest.1), rest.2)
 
--- the reply sets out, or it is lost
+-- a reply is sent on its way, or is lost at once, by steps
 sends_out : (rs : List Request) (down : List (List ℕ)) (s t : SceneState) (reply : List ℕ) (r : Request) (up' down' : List (List ℕ)) (t' : SceneState)
     → reply ≡ (scene_handed s r.id r.call).reply → t' ≡ (scene_handed s r.id r.call).state → KeepsAReply (scene_handed s r.id r.call).state
     → AreLinesOf rs up' → Each IsOne down → MaySendOut down (Some reply) down'
@@ -175,7 +176,7 @@ sends_out rs down s t reply r up' down' t' is state good lines one (inr out) =
       };
     }
 
--- a request reaches the instrument
+-- the front request reaches the instrument by steps
 reaches : (rs : List Request) (down : List (List ℕ)) (s : SceneState) (l m : Lines) → Holds (flow rs down s) l → HasReached l m → Steps (flow rs down s) m
 reaches [] down s l m holds h = absurd (subst (AreLinesOf []) h.front holds.up)
 reaches (r ∷ rs) down s l m holds h = by_reply h.reply refl where
@@ -195,14 +196,15 @@ reaches (r ∷ rs) down s l m holds h = by_reply h.reply refl where
       (scene_is_an_instrument.is.stays_good s r.id r.call holds.good lines.0.id) lines.1 (subst (Each IsOne) (sym holds.down) holds.one)
       (subst (λ x. MaySendOut x (Some reply) m.down) (sym holds.down) (subst (λ x. MaySendOut l.down x m.down) e h.sends))
 
--- what happens on the line, and is no act, are steps
+-- what happens on the line, and is no act, happens by steps
 pub happens : (u : UnderWay SceneState) (l m : Lines) (h : Happening) → ((act : Act) → h ≡ Call act → ⊥) → Holds u l → Leads l h m → Steps u m
 happens u l m (Call act) never holds leads = absurd (never act refl)
 happens u l m Reaches never holds leads = reaches u.up u.down u.state l m holds leads
 happens u l m Restarts never holds leads = record {
   steps = Start ∷ [];
   are = (tt, tt);
-  holds = subst (Holds (stepped u Start)) (sym leads) (record { up = holds.up; down = holds.down; one = holds.one; state = ap scene_restarted holds.state; good = scene_is_an_instrument.is.starts_good u.state holds.good });
+  holds = subst (Holds (stepped u Start)) (sym leads)
+      (record { up = holds.up; down = holds.down; one = holds.one; state = ap scene_restarted holds.state; good = scene_is_an_instrument.is.starts_good u.state holds.good });
 }
 happens u l m (Passes moment) never holds leads = record {
   steps = Change (at moment u.state) ∷ [];

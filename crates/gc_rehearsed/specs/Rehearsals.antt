@@ -19,28 +19,32 @@ use Rattle.gc_field.specs.Runs.{IsInField, IsRunFaithful}
 use Rattle.gc_field.specs.SceneField.{KeepsAReply, scene_ends, scene_kept}
 use Rattle.gc_rehearsal.specs.Carrying.{IsOfLine, IsQuiet}
 
--- the numbers of what each of these commands asks lie in their types, whenever it goes out
-abbrev pub AreAskable : List Task → Type 0
-AreAskable commands = AllByRecursion (λ task. (utc : ℕ) → IsAskedFitting (call_at task utc)) commands
+-- the numbers of what a command asks lie in their types, whenever it is sent
+abbrev pub IsAskable : Task → Type 0
+IsAskable task = (utc : ℕ) → IsAskedFitting (call_at task utc)
 
--- a run of a station over a rehearsed line, from its first act on, is one in the field: something happens on the line of the field, and to an
--- instrument, that shows the station what it saw; and the run is faithful
+-- those of each of these commands do
+abbrev pub AreAskable : List Task → Type 0
+AreAskable commands = AllByRecursion IsAskable commands
+
+-- a run of a station over a rehearsed line, from its first act on, is one in the field: something happens on the line of the field,
+-- and to an instrument, that shows the station what it saw; and the run is faithful
 pub record IsRehearsed (plan : Plan) (commands : List Task) (scope : Scope) (acts : List Act) : Type 0 where
   pub under_way : UnderWay SceneState
   pub runs : List (Run SceneState)
   pub field : IsInField scene_ends KeepsAReply scene_kept plan commands scope acts under_way runs
   pub faithful : IsRunFaithful scene_ends KeepsAReply scene_kept plan commands scope acts under_way runs
 
--- each run of a station over a rehearsed line on which nothing was under way before is one in the field, and so faithful: nothing is asked of
--- the line, of the station's moments or of its plan
+-- each run of a station over a rehearsed line on which nothing was in flight before is one in the field, and so faithful: nothing is
+-- asked of the line, of the station's moments or of its plan
 abbrev pub RehearsalsAreFaithful : Type 0
 RehearsalsAreFaithful =
     (plan : Plan) (commands : List Task) (scope : Scope) (acts : List Act) → IsOfLine acts → AreAskable commands → Runs plan commands (opening plan scope) acts → IsRehearsed plan commands scope acts
 
 -- Stations one after the other.
 
--- a station that ran over a rehearsed line: its plan, its commands, and what its link told; and what was told behind that run and before
--- the next, as a close where the book failed
+-- a station that ran over a rehearsed line: its plan, its commands, and the acts of its link; and the acts after that run and
+-- before the next, such as a close after the book failed
 pub record Station : Type 0 where
   pub plan : Plan
   pub commands : List Task
@@ -48,38 +52,39 @@ pub record Station : Type 0 where
   pub acts : List Act
   pub behind : List Act
 
--- what the link told while these stations ran, in order
-abbrev pub told_by : List Station → List Act
-told_by [] = []
-told_by (x ∷ xs) = x.acts ++ (x.behind ++ told_by xs)
+-- the acts of the link while these stations ran, in order
+abbrev pub acts_of_all : List Station → List Act
+acts_of_all [] = []
+acts_of_all (x ∷ xs) = x.acts ++ (x.behind ++ acts_of_all xs)
 
--- a station's acts are a run of it, and behind them nothing went out and nothing came
-pub record IsLife (x : Station) : Type 0 where
+-- a station's acts are a run of it, and after them nothing was sent and nothing came
+pub record RunsAndStops (x : Station) : Type 0 where
   pub askable : AreAskable x.commands
   pub runs : Runs x.plan x.commands (opening x.plan x.scope) x.acts
   pub quiet : AllByRecursion IsQuiet x.behind
 
--- the stations in the field, where this happens in each of their runs
+-- these stations as programs of the field, with what happens on the line in each of their runs
 abbrev pub programs : List Station → List (List (Run SceneState)) → List (Program SceneState)
 programs (x ∷ xs) (rs ∷ rss) = record { plan = x.plan; commands = x.commands; scope = x.scope; acts = x.acts; runs = rs } ∷ programs xs rss
 programs _ _ = []
 
--- how many stations in a row have been killed while they began, where `n` were before one that has begun at its end (`true`), or not
+-- how many stations in a row were killed while they synchronized, where `n` were before one that had synchronized at its end
+-- (`true`), or hadn't
 abbrev pub unbegun : ℕ → Bool → ℕ
 unbegun n true = 0
 unbegun n false = n + 1
 
--- whether a station has begun at the end of its acts: the eighth null procedure of its last beginning is answered
+-- whether a station has synchronized at the end of its acts: the eighth null procedure of its last synchronization is answered
 abbrev pub has_begun_at_its_end : Station → Bool
 has_begun_at_its_end x = has_begun (state_after x.plan x.commands x.scope x.acts).progress
 
--- fewer than six of these stations in a row end while they begin, counted with the `n` before the first
+-- fewer than six of these stations in a row end while they synchronize, counted with the `n` before the first
 abbrev pub FewEndUnbegun : ℕ → List Station → Type 0
 FewEndUnbegun n [] = Unit {0}
 FewEndUnbegun n (x ∷ xs) = (unbegun n (has_begun_at_its_end x) ≤ 5) × FewEndUnbegun (unbegun n (has_begun_at_its_end x)) xs
 
--- stations in a row are these in the field, in which nothing was under way before the first: with a list of runs for each, they are in the
--- field, and each of them is faithful
+-- stations in a row are in the field, with nothing in flight before the first: with a list of runs for each, they are programs in a
+-- row (`AreInARow`), and each of them is faithful
 pub record AreRehearsed (xs : List Station) : Type 0 where
   pub start : SceneState
   pub runs : List (List (Run SceneState))
@@ -87,7 +92,7 @@ pub record AreRehearsed (xs : List Station) : Type 0 where
   pub field : AreInARow scene_ends KeepsAReply scene_kept 0 (none_under_way start) (programs xs runs)
   pub faithful : AreFaithful scene_ends KeepsAReply scene_kept (none_under_way start) (programs xs runs)
 
--- stations that run one after the other over a rehearsed line, which keeps what it likes of what is under way at a close, are stations in a row
--- in the field, and so each is faithful, as long as fewer than six in a row end while they begin
+-- stations that run one after the other over a rehearsed line, which keeps what it likes of what is in flight at a close, are
+-- stations in a row in the field, and so each is faithful, as long as fewer than six in a row end while they synchronize
 abbrev pub RowsOfRehearsalsAreFaithful : Type 0
-RowsOfRehearsalsAreFaithful = (xs : List Station) → IsOfLine (told_by xs) → AllByRecursion IsLife xs → FewEndUnbegun 0 xs → AreRehearsed xs
+RowsOfRehearsalsAreFaithful = (xs : List Station) → IsOfLine (acts_of_all xs) → AllByRecursion RunsAndStops xs → FewEndUnbegun 0 xs → AreRehearsed xs

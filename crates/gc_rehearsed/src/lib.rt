@@ -1,4 +1,7 @@
 //! What holds of a station over the line of a rehearsal.
 #![tactic(auto)]
 
+mod askable;
 pub mod laws;
+
+pub use askable::are_askable;

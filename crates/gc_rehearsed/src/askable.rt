@@ -1,0 +1,23 @@
+//! That a station's commands can be asked: the numbers of what each asks lie in their types. Rust says so of every `Task`; here it is said
+//! for the laws.
+
+ghost use Rattle.gc_rehearsed.specs.Rehearsals.{AreAskable, IsAskable};
+
+use gc_catalogue::encode_asked;
+use gc_texts::Task;
+
+// The numbers of what a command asks lie in their types, whenever it goes out.
+fn is_askable(task: &Task)
+    ensures { IsAskable task.entry.now }
+{
+    let _ = encode_asked(None, &task.command.call);
+}
+
+/// The numbers of what each of these commands asks lie in their types, whenever it goes out.
+pub fn are_askable(commands: &[Task])
+    ensures { AreAskable commands.now }
+{
+    for task in commands {
+        is_askable(task);
+    }
+}
