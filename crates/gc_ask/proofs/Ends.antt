@@ -46,8 +46,8 @@ step_sent place text old new (Ok u) s reads ended source = step_none old new rea
 step_sent place text old new (Err e) s reads ended source = step_sends place text old new e s reads ended source
 
 -- a write never ends with `TooManyReads`
-pub sends_no : (place : ℕ) (text : List ℕ) (old new : Taken) (r : LinkEnd) → Sends place text old new r → r ≡ Err TooManyReads → ⊥
-sends_no place text old new r s is = subst (λ (e : LinkEnd). Sends place text old new e) is s
+pub sends_not_too_many : (place : ℕ) (text : List ℕ) (old new : Taken) (r : LinkEnd) → Sends place text old new r → r ≡ Err TooManyReads → ⊥
+sends_not_too_many place text old new r s is = subst (λ (e : LinkEnd). Sends place text old new e) is s
 
 -- waiting for a reply is a step of the end with the result of the waiting
 pub step_hears : (old new : Ports) (after : ℕ) (r : LinkEnd) → ReadEnds (source_of old) (source_of new) after r
@@ -86,9 +86,9 @@ reads_then old mid new given same gave = subst (λ (r : Option (List ℕ)). Cons
 
 -- where no read of a first step was the end, and none of a second, none of both together was. `old`, `mid` and `new` are the
 -- numbers of reads, `mid_end` and `new_end` say whether the last read was the end
-still_on : (old mid new : ℕ) (mid_end new_end : Bool) → old ≤ mid → mid ≤ new → (old < mid → mid_end ≡ false) → (mid < new → new_end ≡ false)
+none_in_both : (old mid new : ℕ) (mid_end new_end : Bool) → old ≤ mid → mid ≤ new → (old < mid → mid_end ≡ false) → (mid < new → new_end ≡ false)
     → (new ≡ mid → new_end ≡ mid_end) → old < new → new_end ≡ false
-still_on old mid new mid_end new_end grows more going on same below = by_order (le_cases mid new more) where
+none_in_both old mid new mid_end new_end grows more going on same below = by_order (le_cases mid new more) where
   -- a number that isn't above another is below it or equal
   le_cases : (a b : ℕ) → a ≤ b → (a < b) ⊎ (b ≡ a)
   le_cases a b h = elim (ltb a b) as (λ v. ltb a b ≡ v → (a < b) ⊎ (b ≡ a)) [
@@ -111,15 +111,15 @@ pub sound_start : (old : Ports) → Sound old old
 sound_start old = record { ends = ((λ some. absurd (omega (arith, some))), refl, refl); grows = omega arith }
 
 -- where an end was sound, and no read of a step after that was the end of its input, no read at all was
-on : (old mid new : Ports) (r : LinkEnd) → Sound old mid → StepEnds mid new r → (mid.reads < new.reads → new.ended ≡ false) → old.reads < new.reads → new.ended ≡ false
-on old mid new r g s more = still_on old.reads mid.reads new.reads mid.ended new.ended g.grows s.grows g.ends.0 more s.same
+none_ended : (old mid new : Ports) (r : LinkEnd) → Sound old mid → StepEnds mid new r → (mid.reads < new.reads → new.ended ≡ false) → old.reads < new.reads → new.ended ≡ false
+none_ended old mid new r g s more = none_in_both old.reads mid.reads new.reads mid.ended new.ended g.grows s.grows g.ends.0 more s.same
 
 -- where an end was sound, and then made a step with this result, its whole use ended with this result
 link_step : (old mid new : Ports) (r : LinkEnd) → Sound old mid → StepEnds mid new r → LinkEnds old new r
-link_step old mid new (Ok u) g s = (on old mid new (Ok u) g s s.ends.0, s.ends.1 ∙ g.ends.1, s.ends.2 ∙ g.ends.2)
-link_step old mid new (Err Read) g s = (on old mid new (Err Read) g s s.ends.0, s.ends.1, s.ends.2 ∙ g.ends.2)
-link_step old mid new (Err (Write count part)) g s = (on old mid new (Err (Write count part)) g s s.ends.0, s.ends.1 ∙ g.ends.1, s.ends.2)
-link_step old mid new (Err TooManyReads) g s = (on old mid new (Err TooManyReads) g s s.ends.0, s.ends.1 ∙ g.ends.1, s.ends.2 ∙ g.ends.2)
+link_step old mid new (Ok u) g s = (none_ended old mid new (Ok u) g s s.ends.0, s.ends.1 ∙ g.ends.1, s.ends.2 ∙ g.ends.2)
+link_step old mid new (Err Read) g s = (none_ended old mid new (Err Read) g s s.ends.0, s.ends.1, s.ends.2 ∙ g.ends.2)
+link_step old mid new (Err (Write count part)) g s = (none_ended old mid new (Err (Write count part)) g s s.ends.0, s.ends.1 ∙ g.ends.1, s.ends.2)
+link_step old mid new (Err TooManyReads) g s = (none_ended old mid new (Err TooManyReads) g s s.ends.0, s.ends.1 ∙ g.ends.1, s.ends.2 ∙ g.ends.2)
 link_step old mid new (Err LinkClosed) g s = (omega (arith, g.grows, s.ends.0), s.ends.1, s.ends.2 ∙ g.ends.1, s.ends.3 ∙ g.ends.2)
 link_step old mid new (Err other) g s = absurd s.ends
 

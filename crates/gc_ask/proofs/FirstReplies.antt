@@ -198,39 +198,39 @@ taken_line a b (Some line) settled t = (line, refl, t.0, t.1, t.2)
 
 -- Reading on.
 
--- reading goes on: after the bytes `start`, which were left from before, `given` came. Of all these, `heard_so` were heard
--- and settle nothing, and `ahead` weren't heard yet. `kept` is what the assembler keeps now. The client is `from` before and
+-- reading goes on: after the bytes `start`, which were left from before, `given` came. Of all these, `looked_at` were looked
+-- at and settle nothing, and `ahead` weren't looked at yet. `kept` is what the assembler keeps now. The client is `from` before and
 -- `to` after, which are the same
 pub record Reading (rest start given ahead : List ℕ) (kept : Kept) (from to : ById Call) : Type 0 where
-  pub heard_so : List ℕ
-  pub order : start ++ given ≡ heard_so ++ ahead
-  pub quiet : IsQuiet rest heard_so kept from to
+  pub looked_at : List ℕ
+  pub order : start ++ given ≡ looked_at ++ ahead
+  pub quiet : IsQuiet rest looked_at kept from to
 
 -- where all that was ahead settles nothing, and one more piece was read, the reading goes on with that piece
 pub reading_more : (rest start given ahead piece : List ℕ) (kept kept' : Kept) (a b c : ById Call) → (r : Reading rest start given ahead kept a b)
-    → IsQuiet (rest_behind rest r.heard_so) ahead kept' b c
+    → IsQuiet (rest_behind rest r.looked_at) ahead kept' b c
     → Reading rest start (given ++ piece) piece kept' a c
 reading_more rest start given ahead piece kept kept' a b c r q = record {
-  heard_so = r.heard_so ++ ahead;
+  looked_at = r.looked_at ++ ahead;
   order = sym (append_assoc start given piece) ∙ ap (λ zs. zs ++ piece) r.order;
-  quiet = quiet_then rest r.heard_so ahead kept kept' a b c r.quiet q;
+  quiet = quiet_then rest r.looked_at ahead kept kept' a b c r.quiet q;
 }
 
 -- where all that is ahead settles nothing either, nothing that was given does
-pub reading_quiet : (rest start given ahead : List ℕ) (kept kept' : Kept) (a b c : ById Call) → (r : Reading rest start given ahead kept a b) → IsQuiet (rest_behind rest r.heard_so) ahead kept' b c
+pub reading_quiet : (rest start given ahead : List ℕ) (kept kept' : Kept) (a b c : ById Call) → (r : Reading rest start given ahead kept a b) → IsQuiet (rest_behind rest r.looked_at) ahead kept' b c
     → (first_reply a (lines_behind rest (start ++ given)) ≡ None) × (c ≡ a)
 reading_quiet rest start given ahead kept kept' a b c r q =
-    let all = quiet_then rest r.heard_so ahead kept kept' a b c r.quiet q in
+    let all = quiet_then rest r.looked_at ahead kept kept' a b c r.quiet q in
     (ap (λ zs. first_reply a (lines_behind rest zs)) r.order ∙ all.none, all.same)
 
--- where the bytes that are ahead settle a request after those that were heard, all bytes since the start settle it
+-- where the bytes that are ahead settle a request after those that were looked at, all bytes since the start settle it
 pub reading_settles : (rest start given ahead left : List ℕ) (kept kept' : Kept) (a b c : ById Call) (settled : List (Settlement Call))
     → (r : Reading rest start given ahead kept a b) → Settles b (record
-    { rest = rest_behind rest r.heard_so; bytes = ahead; left = left; kept = kept'; client = c; settled = settled })
+    { rest = rest_behind rest r.looked_at; bytes = ahead; left = left; kept = kept'; client = c; settled = settled })
     → Settles a (record { rest = rest; bytes = start ++ given; left = left; kept = kept'; client = c; settled = settled })
 reading_settles rest start given ahead left kept kept' a b c settled r s =
     subst (λ (zs : List ℕ). Settles a (record { rest = rest; bytes = zs; left = left; kept = kept'; client = c; settled = settled })) (sym r.order)
-    (settles_then rest r.heard_so ahead left kept kept' a b c settled r.quiet s)
+    (settles_then rest r.looked_at ahead left kept kept' a b c settled r.quiet s)
 
 -- Nothing more was given.
 

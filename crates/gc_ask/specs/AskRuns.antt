@@ -1,11 +1,12 @@
 -- A command text that is read whole and asked: this project's own.
 use Rattle.std.specs.Prelude.{◌≡◌, false, ℕ, ◌+◌, ◌*◌, ◌-◌, ◌≤◌, ◌⊎◌, List, length, Result, Err}
 use Rattle.std.specs.Io.KnownBytes.{Consumes}
-use Rattle.gc_lines.specs.Answering.{Ports}
-use Rattle.gc_ask.specs.Asking.{Taken, Written, Asks, LinkEnds, EndsWith}
+use Rattle.gc_lines.specs.Answering.{Ports, ports_of}
+use Rattle.gc_lines.specs.declared.ports.Source.{Ghosts as Source}
+use Rattle.gc_lines.specs.declared.ports.Sink.{Ghosts as Sink}
+use Rattle.gc_ask.specs.Asking.{Taken, Written, Asks, LinkEnds, EndsWith, RunsText, taken_by}
 use Rattle.gc_ask.specs.declared.unheard.TheConstants.{ROOM}
-use Rattle.gc_texts.specs.Texts.{end_reads}
-use Rattle.gc_texts.specs.WholeTexts.{Input, GivesCommands, RefusesCommands}
+use Rattle.gc_texts.specs.WholeTexts.{Input}
 use Rattle.gc_texts.specs.declared.commands.Command.{Command}
 use Rattle.gc_texts.specs.declared.fault.RunFault.{RunFault}
 use Rattle.gc_texts.specs.declared.fault.RunFault.TheVariants.{TooManyReads}
@@ -14,6 +15,10 @@ use Rattle.gc_texts.specs.declared.fault.RunFault.TheVariants.{TooManyReads}
 pub record Seen : Type 0 where
   pub link : Ports
   pub sink : Taken
+
+-- what is seen of a link with these ports, and of this sink of the settlements, by the ghost members of their traits
+abbrev pub seen_of_link : {I O K : Type 0} → Source I → I → Sink O → O → Sink K → K → Seen
+seen_of_link of_source source of_sink sink of_told told = record { link = ports_of of_source source of_sink sink; sink = taken_by of_told told }
 
 -- what a link and the sink of the settlements had taken before, and have taken now
 abbrev pub written : Seen → Seen → Written
@@ -41,18 +46,11 @@ pub record AsksOverOne (commands : List Command) (most : ℕ) (old new : Taken) 
 -- a run over a source of commands, a link and a sink: the text was refused, and then nothing was read of the link, sent or written; or
 -- its commands were asked
 abbrev pub AskRuns : (text_old text_new : Input) → (most : ℕ) → (old new : Seen) → Result (Unit {0}) RunFault → Type 0
-AskRuns text_old text_new most old new result =
-    (given : List ℕ) × Consumes text_old.remaining text_new.remaining given
-    × (text_new.reads ≤ text_old.reads + length given + end_reads text_new.ended)
-    × (((fault : RunFault) × (result ≡ Err fault) × RefusesCommands given text_old text_new fault × (new ≡ old))
-    ⊎ ((commands : List Command) × GivesCommands given text_old text_new commands × AsksOver commands most old new result))
+AskRuns text_old text_new most old new result = RunsText text_old text_new result (new ≡ old) (λ commands. AsksOver commands most old new result)
 
 -- a run over a source of commands, a connection that it makes, and a sink: the text was refused, or it was read and no connection
--- could be had, with a fault of which `IsNone` holds, and in both cases nothing was written; or its commands were asked over the connection
-abbrev pub AskRunsAt : (IsNone : RunFault → Type 0) → (text_old text_new : Input) → (most : ℕ) → (old new : Taken) → Result (Unit {0}) RunFault → Type 0
-AskRunsAt IsNone text_old text_new most old new result =
-    (given : List ℕ) × Consumes text_old.remaining text_new.remaining given
-    × (text_new.reads ≤ text_old.reads + length given + end_reads text_new.ended)
-    × (((fault : RunFault) × (result ≡ Err fault) × RefusesCommands given text_old text_new fault × (new ≡ old))
-    ⊎ ((commands : List Command) × GivesCommands given text_old text_new commands
-    × (((fault : RunFault) × (result ≡ Err fault) × IsNone fault × (new ≡ old)) ⊎ AsksOverOne commands most old new result)))
+-- could be had, and in both cases nothing was written; or its commands were asked over the connection. `unconnected e` says that e
+-- is a fault that comes where no connection can be had
+abbrev pub AskRunsAt : (unconnected : RunFault → Type 0) → (text_old text_new : Input) → (most : ℕ) → (old new : Taken) → Result (Unit {0}) RunFault → Type 0
+AskRunsAt unconnected text_old text_new most old new result = RunsText text_old text_new result (new ≡ old) (λ commands.
+    ((fault : RunFault) × (result ≡ Err fault) × unconnected fault × (new ≡ old)) ⊎ AsksOverOne commands most old new result)

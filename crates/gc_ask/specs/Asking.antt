@@ -1,7 +1,7 @@
 -- Requests that are asked one at a time, each once the one before it is settled: this project's own. Request lines are the
 -- manual's. Below, `given` are all bytes that the link gave, and `w` is what the link and the sink of the settlements took;
 -- `earlier`, `command` and `later` are a split of the commands in their order.
-use Rattle.std.specs.Prelude.{◌≡◌, ℕ, ◌+◌, ◌%◌, ◌<◌, Bool, true, false, List, [], ◌∷◌, ◌++◌, length, take, Option, Some, None, Result, Ok, Err, if◌then◌else◌}
+use Rattle.std.specs.Prelude.{◌≡◌, ℕ, ◌+◌, ◌%◌, ◌<◌, ◌⊎◌, Bool, true, false, List, [], ◌∷◌, ◌++◌, length, take, Option, Some, None, Result, Ok, Err, if◌then◌else◌}
 use Rattle.std.specs.Io.KnownBytes.{Appends}
 use Rattle.gc_lines.specs.Answering.{Ports, all_of}
 use Rattle.gc_lines.specs.Frames.{lines}
@@ -13,6 +13,7 @@ use Rattle.gc_client.specs.declared.window.TheConstants.{IDS}
 use Rattle.gc_client.specs.declared.pending.Pending.{Pending}
 use Rattle.gc_client.specs.Rule.{ById, Settlement, pending_of, lost, heard, fits, hears}
 use Rattle.gc_texts.specs.Settlements.{settlement_line, settlement_lines}
+use Rattle.gc_texts.specs.WholeTexts.{Input, Gave, GivesCommands, RefusesCommands}
 use Rattle.gc_texts.specs.declared.commands.Command.{Command}
 use Rattle.gc_texts.specs.declared.fault.RunFault.{RunFault}
 use Rattle.gc_texts.specs.declared.fault.RunFault.TheVariants.{Read, Write, TooManyReads, LinkClosed, Output}
@@ -168,3 +169,10 @@ abbrev pub EndsWith : (over : LinkEnd → Type 0) → (sink_old sink_new : Bool)
 EndsWith over sink_old sink_new (Err Output) = (sink_new ≡ true) × ((link : LinkEnd) × over link)
 EndsWith over sink_old sink_new (Ok x) = over (Ok x) × (sink_new ≡ sink_old)
 EndsWith over sink_old sink_new (Err e) = over (Err e) × (sink_new ≡ sink_old)
+
+-- a run over a source of commands, with this result: the text was refused, and `unused` holds; or it gave commands, of which
+-- `claim` holds
+abbrev pub RunsText : (text_old text_new : Input) → LinkEnd → (unused : Type 0) → (claim : List Command → Type 0) → Type 0
+RunsText text_old text_new result unused claim = Gave text_old text_new (λ given.
+    ((fault : RunFault) × (result ≡ Err fault) × RefusesCommands given text_old text_new fault × unused)
+    ⊎ ((commands : List Command) × GivesCommands given text_old text_new commands × claim commands))

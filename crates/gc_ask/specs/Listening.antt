@@ -14,13 +14,13 @@ use Rattle.gc_client.specs.declared.settlement.Settlement.{Settlement}
 use Rattle.gc_client.specs.Rule.{ById, heard, fits, hears}
 use Rattle.gc_client.specs.Settlements.{AreSettlements, settlement_seen}
 use Rattle.gc_texts.specs.Settlements.{lines_from, settlement_lines, ToldPart}
+use Rattle.gc_ask.specs.declared.ask.Asking.{Asking}
 use Rattle.gc_ask.specs.declared.client_end.ClientEnd.{ClientEnd}
 use Rattle.gc_ask.specs.declared.unheard.TheConstants.{ROOM}
-use Rattle.gc_ask.specs.Asking.{Written, LinkEnd, first_reply, asked, waiting_for, request_text, request_texts, lost_of, AsksAll, TellsPart, EndsWith}
-use Rattle.gc_ask.specs.Links.{TakesRequest}
+use Rattle.gc_ask.specs.Asking.{Written, LinkEnd, first_reply, asked, waiting_for, request_text, request_texts, lost_of, AsksAll, TellsPart, EndsWith, RunsText}
+use Rattle.gc_ask.specs.Links.{BothStep, TakesRequest}
 use Rattle.gc_ask.specs.Looping.{BothEnd, SeenAtBoth, written_there}
-use Rattle.gc_texts.specs.Texts.{end_reads}
-use Rattle.gc_texts.specs.WholeTexts.{Input, GivesCommands, RefusesCommands}
+use Rattle.gc_texts.specs.WholeTexts.{Input}
 use Rattle.gc_texts.specs.declared.commands.Command.{Command}
 use Rattle.gc_texts.specs.declared.fault.RunFault.{RunFault}
 use Rattle.gc_texts.specs.declared.fault.RunFault.TheVariants.{Read, Write, TooManyReads, LinkClosed, Output}
@@ -64,10 +64,6 @@ abbrev pub heard_by : ClientEnd → (rest bytes left : List ℕ) → Heard
 heard_by end rest bytes left =
     record { rest = rest; bytes = bytes; left = left; kept = end.assembler; client = end.client.ids; settled = end.settled.items }
 
--- what the client's end of a link and the sink of the settlements had taken before, and have taken now
-abbrev pub took_meanwhile : (old new : Ports) → (sink_old sink_new : Option (List ℕ)) → Written
-took_meanwhile old new sink_old sink_new = record { link_old = old.taken; link_new = new.taken; sink_old = sink_old; sink_new = sink_new }
-
 -- a link gave some bytes, at most `ROOM` at each read; and whatever rest of a line the assembler had kept, `claim` holds of that
 -- rest and these bytes
 abbrev pub Gives : (old new : Ports) → Kept → ((rest given : List ℕ) → Type 0) → Type 0
@@ -78,16 +74,16 @@ Gives old new assembler claim =
 -- of the lines that came, `line` is the first to settle a request of this client; `front` are those before it, and what is
 -- left of the bytes is after it. The settlements and the client then are those of the client's rule, and the assembler keeps
 -- nothing
-pub record Settles (from : ById Call) (heard_so : Heard) : Type 0 where
+pub record Settles (from : ById Call) (hearing : Heard) : Type 0 where
   pub front : List (List ℕ)
   pub line : List ℕ
-  pub seen : lines_behind heard_so.rest heard_so.bytes ≡ front ++ line ∷ lines_behind [] heard_so.left
-  pub rests : rest_behind heard_so.rest heard_so.bytes ≡ rest_behind [] heard_so.left
+  pub seen : lines_behind hearing.rest hearing.bytes ≡ front ++ line ∷ lines_behind [] hearing.left
+  pub rests : rest_behind hearing.rest hearing.bytes ≡ rest_behind [] hearing.left
   pub none : first_reply from front ≡ None
   pub fits : fits from (heard line) ≡ true
-  pub stands : StandsFor heard_so.kept []
-  pub settles : AreSettlements heard_so.settled (hears from line (heard line)).settlements
-  pub client : heard_so.client ≡ (hears from line (heard line)).client
+  pub stands : StandsFor hearing.kept []
+  pub settles : AreSettlements hearing.settled (hears from line (heard line)).settlements
+  pub client : hearing.client ≡ (hears from line (heard line)).client
 
 -- what is left of a piece of which this many bytes were used; nothing where no number is given
 abbrev pub left_by : Option ℕ → List ℕ → List ℕ
@@ -97,14 +93,14 @@ left_by (Some used) piece = drop used piece
 -- what the lines of a piece did: none of them settled a request (`None`), or one did, and this many bytes were used by then
 -- (`Some`)
 abbrev pub Listens : ById Call → Heard → Option ℕ → Type 0
-Listens from heard_so None = IsQuiet heard_so.rest heard_so.bytes heard_so.kept from heard_so.client
-Listens from heard_so (Some used) = Settles from heard_so
+Listens from hearing None = IsQuiet hearing.rest hearing.bytes hearing.kept from hearing.client
+Listens from hearing (Some used) = Settles from hearing
 
 -- how a client's reading for a reply ended. `Ok`: a line settles its request. `Err`: no line that was read does, and the client
 -- is as before
 abbrev pub HearsReply : ById Call → Heard → Result (Unit {0}) RunFault → Type 0
-HearsReply from heard_so (Ok _) = Settles from heard_so
-HearsReply from heard_so (Err _) = (first_reply from (lines_behind heard_so.rest heard_so.bytes) ≡ None) × (heard_so.client ≡ from)
+HearsReply from hearing (Ok _) = Settles from hearing
+HearsReply from hearing (Err _) = (first_reply from (lines_behind hearing.rest hearing.bytes) ≡ None) × (hearing.client ≡ from)
 
 -- why reading a source ended, with `after` reads left. Only with `LinkClosed` was the last read the end of the input; with
 -- `Read` the source failed; with `TooManyReads` no read was left
@@ -121,20 +117,20 @@ ReadEnds old new after (Err _) = ⊥
 -- `Write`: the request was cut, or the reply at the other end was. Another fault: the request was sent whole, and where the
 -- link is alone, no line that came settles it. After each fault the client still waits
 abbrev pub Exchanges : (alone : Bool) → ℕ → Command → Heard → (old new : Option (List ℕ)) → LinkEnd → Type 0
-Exchanges alone place command heard_so old new (Ok _) = Appends old new (request_text place command) × Settles (waiting_for place command) heard_so
-Exchanges alone place command heard_so old new (Err (Write count part)) =
-    TakesRequest alone place (request_text place command) old new (Err (Write count part)) × (heard_so.client ≡ waiting_for place command)
-Exchanges alone place command heard_so old new (Err _) =
+Exchanges alone place command hearing old new (Ok _) = Appends old new (request_text place command) × Settles (waiting_for place command) hearing
+Exchanges alone place command hearing old new (Err (Write count part)) =
+    TakesRequest alone place (request_text place command) old new (Err (Write count part)) × (hearing.client ≡ waiting_for place command)
+Exchanges alone place command hearing old new (Err _) =
     Appends old new (request_text place command)
-    × (alone ≡ true → first_reply (waiting_for place command) (lines_behind heard_so.rest heard_so.bytes) ≡ None)
-    × (heard_so.client ≡ waiting_for place command)
+    × (alone ≡ true → first_reply (waiting_for place command) (lines_behind hearing.rest hearing.bytes) ≡ None)
+    × (hearing.client ≡ waiting_for place command)
 
 -- the sink failed as it took the line of a settlement. Where the link had ended well (left case), that is the settlement by the
 -- reply; after a fault of the link (right case), the one that says the command is lost
 abbrev pub TellsOne : ℕ → Command → Heard → Written → (over : LinkEnd → Type 0) → Type 0
-TellsOne place command heard_so w over =
+TellsOne place command hearing w over =
     (over (Ok tt) × Appends w.link_old w.link_new (request_text place command)
-    × Settles (waiting_for place command) heard_so × ToldPart place (map settlement_seen heard_so.settled) w.sink_old w.sink_new)
+    × Settles (waiting_for place command) hearing × ToldPart place (map settlement_seen hearing.settled) w.sink_old w.sink_new)
     ⊎ ((fault : RunFault) × over (Err fault)
     × ((part : ℕ) × Appends w.link_old w.link_new (take part (request_text place command)) × ToldPart place (lost_of command ∷ []) w.sink_old w.sink_new))
 
@@ -143,17 +139,24 @@ TellsOne place command heard_so w over =
 -- Another fault: the request was sent whole, and where the link is alone, no line that came settles it. After each fault but
 -- `Output` the sink took the line that says the command is lost
 abbrev pub AsksOne : (alone : Bool) → ℕ → Command → Heard → Written → (over : LinkEnd → Type 0) → LinkEnd → Type 0
-AsksOne alone place command heard_so w over (Ok _) =
+AsksOne alone place command hearing w over (Ok _) =
     Appends w.link_old w.link_new (request_text place command)
-    × Settles (waiting_for place command) heard_so × Appends w.sink_old w.sink_new (lines_from place (map settlement_seen heard_so.settled))
-AsksOne alone place command heard_so w over (Err (Write count part)) =
+    × Settles (waiting_for place command) hearing × Appends w.sink_old w.sink_new (lines_from place (map settlement_seen hearing.settled))
+AsksOne alone place command hearing w over (Err (Write count part)) =
     TakesRequest alone place (request_text place command) w.link_old w.link_new (Err (Write count part))
     × Appends w.sink_old w.sink_new (lines_from place (lost_of command ∷ []))
-AsksOne alone place command heard_so w over (Err Output) = TellsOne place command heard_so w over
-AsksOne alone place command heard_so w over (Err _) =
+AsksOne alone place command hearing w over (Err Output) = TellsOne place command hearing w over
+AsksOne alone place command hearing w over (Err _) =
     Appends w.link_old w.link_new (request_text place command)
-    × (alone ≡ true → first_reply (waiting_for place command) (lines_behind heard_so.rest heard_so.bytes) ≡ None)
+    × (alone ≡ true → first_reply (waiting_for place command) (lines_behind hearing.rest hearing.bytes) ≡ None)
     × Appends w.sink_old w.sink_new (lines_from place (lost_of command ∷ []))
+
+-- one command was asked over a link, with this result: what the link gave, and how that ended (`AsksOne`). `old` and `new` are what
+-- asking keeps from one command to the next
+abbrev pub AsksCommand : (alone : Bool) → ℕ → Command → (old new : Asking) → (seen_old seen_new : SeenAtBoth) → LinkEnd → Type 0
+AsksCommand alone place command old new seen_old seen_new result = Gives seen_old.client seen_new.client old.end.assembler (λ rest given.
+    AsksOne alone place command (heard_by new.end rest (old.ahead ++ given) new.ahead) (written_there seen_old seen_new)
+    (BothStep seen_old.client seen_new.client seen_old.instrument seen_new.instrument) result)
 
 -- Runs.
 
@@ -206,8 +209,4 @@ pub record AsksAt (alone : Bool) (commands : List Command) (most : ℕ) (old new
 
 -- a run over a source of commands and a link: the text was refused, and nothing else happened; or its commands were asked
 abbrev pub RunsAt : (alone : Bool) → (text_old text_new : Input) → (most : ℕ) → (old new : SeenAtBoth) → LinkEnd → Type 0
-RunsAt alone text_old text_new most old new result =
-    (given : List ℕ) × Consumes text_old.remaining text_new.remaining given
-    × (text_new.reads ≤ text_old.reads + length given + end_reads text_new.ended)
-    × (((fault : RunFault) × (result ≡ Err fault) × RefusesCommands given text_old text_new fault × (new ≡ old))
-    ⊎ ((commands : List Command) × GivesCommands given text_old text_new commands × AsksAt alone commands most old new result))
+RunsAt alone text_old text_new most old new result = RunsText text_old text_new result (new ≡ old) (λ commands. AsksAt alone commands most old new result)

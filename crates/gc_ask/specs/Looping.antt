@@ -9,10 +9,9 @@ use Rattle.gc_texts.specs.Settlements.{settlement_lines}
 use Rattle.gc_texts.specs.declared.commands.Command.{Command}
 use Rattle.gc_texts.specs.declared.fault.RunFault.{RunFault}
 use Rattle.gc_texts.specs.declared.fault.RunFault.TheVariants.{Read, Write, TooManyReads, LinkClosed, Output, Socket}
-use Rattle.gc_texts.specs.WholeTexts.{Input, GivesCommands, RefusesCommands}
+use Rattle.gc_texts.specs.WholeTexts.{Input}
 use Rattle.gc_ask.specs.declared.looped.Duplex.{Duplex}
-use Rattle.gc_ask.specs.Asking.{asked, lost_of, taken_by, request_text, request_texts, Taken, Written, LinkEnd, AsksAll, TellsPart, LinkEnds, EndsWith}
-use Rattle.gc_texts.specs.Texts.{end_reads}
+use Rattle.gc_ask.specs.Asking.{asked, lost_of, taken_by, request_text, request_texts, Taken, Written, LinkEnd, AsksAll, TellsPart, LinkEnds, EndsWith, RunsText}
 
 -- what came settles the commands `earlier`; `command` was sent, and is lost; `later` weren't sent. The sink took the lines of
 -- these settlements
@@ -91,11 +90,7 @@ pub record LoopsOver (commands : List Command) (old new : SeenAtBoth) (result : 
 -- a run over a source of commands, the two ends of a link and a sink: the text was refused, and then nothing was read of the link, sent or
 -- written; or its commands were asked
 abbrev pub LoopRuns : (text_old text_new : Input) → (old new : SeenAtBoth) → Result (Unit {0}) RunFault → Type 0
-LoopRuns text_old text_new old new result =
-    (given : List ℕ) × Consumes text_old.remaining text_new.remaining given
-    × (text_new.reads ≤ text_old.reads + length given + end_reads text_new.ended)
-    × (((fault : RunFault) × (result ≡ Err fault) × RefusesCommands given text_old text_new fault × (new ≡ old))
-    ⊎ ((commands : List Command) × GivesCommands given text_old text_new commands × LoopsOver commands old new result))
+LoopRuns text_old text_new old new result = RunsText text_old text_new result (new ≡ old) (λ commands. LoopsOver commands old new result)
 
 -- commands were asked, in at most `most` reads and with this result, over some connection with a simulator at its other end;
 -- neither end had failed, and nothing was read of them before
@@ -113,9 +108,5 @@ pub record LoopsOverOne (commands : List Command) (most : ℕ) (old new : Taken)
 -- a run over a source of commands, a connection that it makes to a simulator of its own, and a sink: the text was refused, or it was read
 -- and no connection could be had, and in both cases nothing was written; or its commands were asked over the connection
 abbrev pub LoopRunsAt : (text_old text_new : Input) → (most : ℕ) → (old new : Taken) → Result (Unit {0}) RunFault → Type 0
-LoopRunsAt text_old text_new most old new result =
-    (given : List ℕ) × Consumes text_old.remaining text_new.remaining given
-    × (text_new.reads ≤ text_old.reads + length given + end_reads text_new.ended)
-    × (((fault : RunFault) × (result ≡ Err fault) × RefusesCommands given text_old text_new fault × (new ≡ old))
-    ⊎ ((commands : List Command) × GivesCommands given text_old text_new commands
-    × (((result ≡ Err Socket) × (new ≡ old)) ⊎ LoopsOverOne commands most old new result)))
+LoopRunsAt text_old text_new most old new result = RunsText text_old text_new result (new ≡ old) (λ commands.
+    ((result ≡ Err Socket) × (new ≡ old)) ⊎ LoopsOverOne commands most old new result)

@@ -3,13 +3,12 @@
 
 ghost use Rattle.std.specs.Prelude.{◌≡◌, ◌+◌, ◌*◌, ◌-◌, ◌≤◌, ◌++◌, [], ℕ, List, length, Err};
 ghost use Rattle.std.specs.Io.KnownBytes.{Consumes};
-ghost use Rattle.gc_lines.specs.Answering.{ports_of};
 ghost use Rattle.gc_lines.specs.Assembler.{StandsFor};
 ghost use Rattle.gc_lines.specs.Lines.{with_end};
-ghost use Rattle.gc_ask.specs.AskRuns.{AskRuns};
+ghost use Rattle.gc_ask.specs.AskRuns.{AskRuns, seen_of_link};
 ghost use Rattle.gc_ask.specs.Asking.{EndsWith, idle, request_text, taken_by, waiting_for};
 ghost use Rattle.gc_ask.specs.Links.{BothStep, seen_at};
-ghost use Rattle.gc_ask.specs.Listening.{AsksAt, AsksOne, Exchanges, RunsAt, Gives, heard_by, took_meanwhile};
+ghost use Rattle.gc_ask.specs.Listening.{AsksAt, AsksCommand, Exchanges, RunsAt, Gives, heard_by};
 ghost use Rattle.gc_texts.specs.declared.fault.RunFault.{RunFault};
 ghost use Rattle.gc_texts.specs.declared.text.TheConstants.{TEXT_LIMIT};
 ghost use Rattle.gc_texts.specs.WholeTexts.{input_of};
@@ -100,9 +99,10 @@ impl Asking {
     ) -> Result<(), RunFault>
         requires idle { self.old.end.client.ids ≡ idle place }
         requires stands { (rest : List ℕ) × StandsFor self.old.end.assembler rest }
-        ensures asks { Gives (L.client link.old) (L.client link.new) self.old.end.assembler (λ rest given.
-            AsksOne L.alone place command.now (heard_by self.new.end rest (self.old.ahead ++ given) self.new.ahead) (took_meanwhile (L.client link.old) (L.client link.new) (K.taken sink.old) (K.taken sink.new))
-            (BothStep (L.client link.old) (L.client link.new) (L.instrument link.old) (L.instrument link.new)) result) }
+        ensures asks { AsksCommand L.alone place command.now self.old self.new
+            (seen_at (L.client link.old) (L.instrument link.old) (taken_by K.Sink sink.old))
+            (seen_at (L.client link.new) (L.instrument link.new) (taken_by K.Sink sink.new))
+            result }
         ensures ends { EndsWith (BothStep (L.client link.old) (L.client link.new) (L.instrument link.old) (L.instrument link.new))
             (K.failed sink.old) (K.failed sink.new) result }
         ensures grows { (L.client link.old).reads ≤ (L.client link.new).reads }
@@ -147,8 +147,8 @@ pub fn run_ask<S: Source, I: Source, O: Sink, K: Sink>(
     // Which text was read, and how its commands were asked: what the link took and gave, what the sink took, and which ports
     // have failed.
     ensures asks { AskRuns (input_of S.Source commands.old) (input_of S.Source commands.new) max_reads
-        (record { link = ports_of I.Source link_in.old O.Sink link_out.old; sink = taken_by K.Sink sink.old })
-        (record { link = ports_of I.Source link_in.new O.Sink link_out.new; sink = taken_by K.Sink sink.new })
+        (seen_of_link I.Source link_in.old O.Sink link_out.old K.Sink sink.old)
+        (seen_of_link I.Source link_in.new O.Sink link_out.new K.Sink sink.new)
         result }
 
     // At most 65,537 reads of the source were answered.

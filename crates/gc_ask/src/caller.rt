@@ -6,8 +6,8 @@ ghost use Rattle.gc_lines.specs.declared.served.Served.{Served};
 ghost use Rattle.gc_lines.specs.declared.served.ServeFault.{ServeFault};
 ghost use Rattle.gc_lines.specs.Answering.{ports_of};
 
+use crate::busy_clock::BusyClock;
 use crate::callers::CallerFault;
-use crate::hours::Hours;
 use crate::simulated::Simulates;
 use gc_instrument::ServeFault;
 use gc_lines::{PortFailed, Sink, Source};
@@ -50,15 +50,15 @@ impl<'a, R: Clock> End<'a, R> {
     }
 
     // Reads the connection, and notes when bytes came. What came while the instrument was busy comes first.
-    fn read_noted(&self, rt: &R, hours: &Hours, buf: &mut [u8]) -> io::Result<usize>
+    fn read_noted(&self, rt: &R, clock: &BusyClock, buf: &mut [u8]) -> io::Result<usize>
         ensures { IfOk result (λ n. n ≤ length buf.new) }
     {
-        let early = hours.take_early(buf);
+        let early = clock.take_early(buf);
         if early > 0 {
             return Ok(early);
         }
         let read = self.read_plain(buf);
-        hours.note_now(rt);
+        clock.note_now(rt);
         read
     }
 
@@ -72,12 +72,12 @@ impl<'a, R: Clock> End<'a, R> {
         }
     }
 
-    // Takes in what has come while the instrument was busy, as far as there is room for it.
-    fn take_in(&self, hours: &Hours) {
+    // Takes in what has come while the instrument was busy. 32 reads of 256 bytes are as much as `BusyClock` has room for.
+    fn take_in(&self, clock: &BusyClock) {
         let mut buf = [0u8; 256];
         for _ in 0..32 {
             match self.read_soon(&mut buf) {
-                Ok(Some(n)) if n > 0 => hours.keep_early(&buf[..n]),
+                Ok(Some(n)) if n > 0 => clock.keep_early(&buf[..n]),
                 _ => return,
             }
         }
@@ -89,22 +89,26 @@ impl<'a, R: Clock> End<'a, R> {
 pub(crate) struct Reply<'a, R> {
     rt: &'a R,
     end: &'a End<'a, R>,
-    hours: Option<&'a Hours>,
+    clock: Option<&'a BusyClock>,
 }
 
 impl<'a, R: Clock> Reply<'a, R> {
     /// The writing end of a connection.
-    pub(crate) fn new(rt: &'a R, end: &'a End<'a, R>, hours: Option<&'a Hours>) -> Reply<'a, R> {
-        Reply { rt, end, hours }
+    pub(crate) fn new(
+        rt: &'a R,
+        end: &'a End<'a, R>,
+        clock: Option<&'a BusyClock>,
+    ) -> Reply<'a, R> {
+        Reply { rt, end, clock }
     }
 }
 
 // Each write is sent at once, so there is nothing to flush.
 impl<'a, R: Clock> Write for Reply<'a, R> {
     fn write(&mut self, buf: &[u8]) -> io::Result<usize> {
-        if let Some(hours) = self.hours {
-            if hours.wait(self.rt) && hours.drops() {
-                self.end.take_in(hours);
+        if let Some(clock) = self.clock {
+            if clock.wait(self.rt) && clock.drops() {
+                self.end.take_in(clock);
             }
         }
         self.end.write_plain(buf)
@@ -121,23 +125,29 @@ impl<'a, R: Clock> Write for Reply<'a, R> {
 pub(crate) struct Caller<'a, R> {
     rt: &'a R,
     end: &'a End<'a, R>,
-    hours: Option<&'a Hours>,
+    clock: Option<&'a BusyClock>,
+    // How many reads were answered, and whether the last of them was the end.
     answered: u64,
     at_end: bool,
+    // Whether a read failed, and whether only because nothing came before its time-out.
     broken: bool,
     is_idle: bool,
 }
 
 impl<'a, R: Clock> Caller<'a, R> {
     /// The reading end of a connection that has its time-outs already. Nothing was read of it yet.
-    pub(crate) fn new(rt: &'a R, end: &'a End<'a, R>, hours: Option<&'a Hours>) -> Caller<'a, R> {
-        if let Some(hours) = hours {
-            hours.begin();
+    pub(crate) fn new(
+        rt: &'a R,
+        end: &'a End<'a, R>,
+        clock: Option<&'a BusyClock>,
+    ) -> Caller<'a, R> {
+        if let Some(clock) = clock {
+            clock.begin();
         }
         Caller {
             rt,
             end,
-            hours,
+            clock,
             answered: 0,
             at_end: false,
             broken: false,
@@ -169,7 +179,7 @@ impl<'a, R: Clock> Source for Caller<'a, R> {
             self.broken = true;
             return Err(PortFailed);
         }
-        let read = read_end(self.rt, self.end, self.hours, buf);
+        let read = read_end(self.rt, self.end, self.clock, buf);
         match read {
             Ok(n) => {
                 self.answered += 1;
@@ -193,13 +203,13 @@ impl<'a, R: Clock> Source for Caller<'a, R> {
 fn read_end<R: Clock>(
     rt: &R,
     end: &End<'_, R>,
-    hours: Option<&Hours>,
+    clock: Option<&BusyClock>,
     buf: &mut [u8],
 ) -> io::Result<usize>
     ensures { IfOk result (λ n. n ≤ length buf.new) }
 {
-    match hours {
-        Some(hours) => end.read_noted(rt, hours, buf),
+    match clock {
+        Some(clock) => end.read_noted(rt, clock, buf),
         None => end.read_plain(buf),
     }
 }

@@ -15,8 +15,8 @@ ghost use Rattle.gc_texts.specs.declared.fault.RunFault.{RunFault};
 
 use crate::address::Address;
 use crate::ask::ask_all;
+use crate::busy_clock::BusyClock;
 use crate::caller::{Caller, End, Reply};
-use crate::hours::Hours;
 use crate::instrument_end::InstrumentEnd;
 use crate::link::Alone;
 use crate::looped::Loop;
@@ -121,7 +121,7 @@ pub fn loop_tcp<R: Net<Listener = TcpListener, Stream = TcpStream>, S: Source, K
 }
 
 /// Listens at an address, accepts `connections` connections one after the other, and serves each with the instrument, which is
-/// restarted for it, in at most `max_reads` reads. `hours` is the clock of an instrument whose replies take time.
+/// restarted for it, in at most `max_reads` reads. `clock` is the clock of an instrument whose replies take time.
 ///
 /// `Socket` comes where a bind or an accept failed. A fault of a connection ends the call with it: `Read`, `Write` and
 /// `TooManyReads` as `serve` has them. The instrument is left in the state after the lines that it answered last.
@@ -130,7 +130,7 @@ pub fn serve_tcp<R: Net<Listener = TcpListener, Stream = TcpStream> + Clock, I: 
     address: Address<'_>,
     connections: u32,
     instrument: &mut I,
-    hours: Option<&Hours>,
+    clock: Option<&BusyClock>,
     max_reads: u32,
 ) -> Result<(), RunFault>
     requires some { 1 ≤ connections }
@@ -139,7 +139,7 @@ pub fn serve_tcp<R: Net<Listener = TcpListener, Stream = TcpStream> + Clock, I: 
     let Ok(listener) = address.listen(rt) else {
         return Err(RunFault::Socket);
     };
-    serve_on(rt, &listener, connections, instrument, hours, max_reads)
+    serve_on(rt, &listener, connections, instrument, clock, max_reads)
 }
 
 /// Accepts `connections` connections of a port one after the other, and serves each with the instrument, which is restarted for
@@ -152,7 +152,7 @@ pub fn serve_on<R: Clock, I: Simulates>(
     listener: &TcpListener,
     connections: u32,
     instrument: &mut I,
-    hours: Option<&Hours>,
+    clock: Option<&BusyClock>,
     max_reads: u32,
 ) -> Result<(), RunFault>
     requires { connections ≤ 1000 }
@@ -164,8 +164,8 @@ pub fn serve_on<R: Clock, I: Simulates>(
         let end = End::Stream(&stream, None);
         serve_connection(
             instrument,
-            &mut Caller::new(rt, &end, hours),
-            &mut ToWriter::new(Reply::new(rt, &end, hours)),
+            &mut Caller::new(rt, &end, clock),
+            &mut ToWriter::new(Reply::new(rt, &end, clock)),
             max_reads,
         )?;
     }

@@ -5,10 +5,10 @@ ghost use Rattle.gc_ask.specs.Keeping.{Kept, most_callers};
 ghost use Rattle.gc_ask.specs.Places.{fault_of_reason};
 ghost use Rattle.gc_links.specs.declared.device.Unusable.{Unusable};
 
+use crate::busy_clock::BusyClock;
 use crate::caller::{Caller, End, Reply, serve_caller};
 use crate::callers::{CallerFault, Callers, keep};
 use crate::connections::{fault_of, serve_connection};
-use crate::hours::Hours;
 use crate::kept_port::Keeping;
 use crate::simulated::Simulates;
 use gc_lines::ToWriter;
@@ -33,7 +33,7 @@ pub fn serve_device<R: Files<File = File> + Clock, I: Simulates>(
     path: &str,
     connections: u32,
     instrument: &mut I,
-    hours: Option<&Hours>,
+    clock: Option<&BusyClock>,
     max_reads: u32,
 ) -> Result<(), RunFault>
     requires { connections ≤ 1000 }
@@ -46,8 +46,8 @@ pub fn serve_device<R: Files<File = File> + Clock, I: Simulates>(
         let end = End::Device(&wire);
         serve_connection(
             instrument,
-            &mut Caller::new(rt, &end, hours),
-            &mut ToWriter::new(Reply::new(rt, &end, hours)),
+            &mut Caller::new(rt, &end, clock),
+            &mut ToWriter::new(Reply::new(rt, &end, clock)),
             max_reads,
         )?;
     }
@@ -65,7 +65,7 @@ pub fn keep_device<R: Files<File = File> + Clock, I: Simulates, E: Write>(
     path: &str,
     keeping: Keeping,
     instrument: &mut I,
-    hours: Option<&Hours>,
+    clock: Option<&BusyClock>,
     messages: &mut E,
 ) -> Result<bool, RunFault>
     ensures kept { IfOk result (λ told. Kept (most_callers keeping.connections) told None None (E.contents messages.old) (E.contents messages.new)) }
@@ -81,7 +81,7 @@ pub fn keep_device<R: Files<File = File> + Clock, I: Simulates, E: Write>(
         path,
         first,
         instrument,
-        hours,
+        clock,
         max_reads: keeping.max_reads,
     };
     Ok(keep(&mut callers, keeping.most(), messages))
@@ -95,7 +95,7 @@ struct DeviceCallers<'a, R, I> {
     // The device as it was opened already, for the first caller.
     first: Option<Wire<'a, R>>,
     instrument: &'a mut I,
-    hours: Option<&'a Hours>,
+    clock: Option<&'a BusyClock>,
     max_reads: u32,
 }
 
@@ -123,8 +123,8 @@ impl<'a, R: Files<File = File> + Clock, I> DeviceCallers<'a, R, I> {
         let end = End::Device(&wire);
         serve_caller(
             self.instrument,
-            &mut Caller::new(self.rt, &end, self.hours),
-            &mut ToWriter::new(Reply::new(self.rt, &end, self.hours)),
+            &mut Caller::new(self.rt, &end, self.clock),
+            &mut ToWriter::new(Reply::new(self.rt, &end, self.clock)),
             self.max_reads,
         )
     }

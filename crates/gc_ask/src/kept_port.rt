@@ -5,9 +5,9 @@ ghost use Rattle.gc_ask.specs.Keeping.{Kept, most_callers};
 ghost use Rattle.gc_texts.specs.declared.fault.RunFault.{RunFault};
 
 use crate::address::Address;
+use crate::busy_clock::BusyClock;
 use crate::caller::{Caller, End, Reply, serve_caller};
 use crate::callers::{CallerFault, Callers, keep};
-use crate::hours::Hours;
 use crate::simulated::Simulates;
 use gc_lines::ToWriter;
 use gc_links::accept;
@@ -43,8 +43,9 @@ impl Keeping {
     }
 }
 
-/// Listens at an address, and serves its connections one after the other, each with the instrument, which is restarted for it. `hours` is
-/// the clock of an instrument whose replies take time. A fault of a connection ends that connection alone; its line is written on `messages`. Returns whether all of these lines were written.
+/// Listens at an address, and serves its connections one after the other, each with the instrument, which is restarted for it.
+/// `clock` is the clock of an instrument whose replies take time. A fault of a connection ends that connection alone, and its
+/// line is written on `messages`. Returns whether all of these lines were written.
 ///
 /// `Socket` comes where the bind failed, and nothing was written. A connection that couldn't be accepted counts as one, with this
 /// fault, and a rest of a second follows it. The instrument is left in the state after the lines that it answered last.
@@ -53,7 +54,7 @@ pub fn keep_tcp<R: Net<Listener = TcpListener, Stream = TcpStream> + Clock, I: S
     address: Address<'_>,
     keeping: Keeping,
     instrument: &mut I,
-    hours: Option<&Hours>,
+    clock: Option<&BusyClock>,
     messages: &mut E,
 ) -> Result<bool, RunFault>
     ensures kept { IfOk result (λ told. Kept (most_callers keeping.connections) told None None (E.contents messages.old) (E.contents messages.new)) }
@@ -62,7 +63,7 @@ pub fn keep_tcp<R: Net<Listener = TcpListener, Stream = TcpStream> + Clock, I: S
     let Ok(listener) = address.listen(rt) else {
         return Err(RunFault::Socket);
     };
-    Ok(keep_on(rt, &listener, keeping, instrument, hours, messages))
+    Ok(keep_on(rt, &listener, keeping, instrument, clock, messages))
 }
 
 /// Serves the connections of a port that is bound, as `keep_tcp` does. Further callers wait in the system's queue. Returns
@@ -72,7 +73,7 @@ pub fn keep_on<R: Clock, I: Simulates, E: Write>(
     listener: &TcpListener,
     keeping: Keeping,
     instrument: &mut I,
-    hours: Option<&Hours>,
+    clock: Option<&BusyClock>,
     messages: &mut E,
 ) -> bool
     ensures { Kept (most_callers keeping.connections) result None None (E.contents messages.old) (E.contents messages.new) }
@@ -81,7 +82,7 @@ pub fn keep_on<R: Clock, I: Simulates, E: Write>(
         rt,
         listener,
         instrument,
-        hours,
+        clock,
         idle: Duration::from_secs(u64::from(keeping.idle.max(1))),
         max_reads: keeping.max_reads,
     };
@@ -94,7 +95,7 @@ struct PortCallers<'a, R, I> {
     rt: &'a R,
     listener: &'a TcpListener,
     instrument: &'a mut I,
-    hours: Option<&'a Hours>,
+    clock: Option<&'a BusyClock>,
     idle: Duration,
     max_reads: u32,
 }
@@ -114,11 +115,11 @@ impl<'a, R: Clock, I: Simulates> Callers for PortCallers<'a, R, I> {
             return Err(CallerFault::Socket);
         };
         let line = End::Stream(&stream, Some(self.idle));
-        let mut caller = Caller::new(self.rt, &line, self.hours);
+        let mut caller = Caller::new(self.rt, &line, self.clock);
         let end = serve_caller(
             self.instrument,
             &mut caller,
-            &mut ToWriter::new(Reply::new(self.rt, &line, self.hours)),
+            &mut ToWriter::new(Reply::new(self.rt, &line, self.clock)),
             self.max_reads,
         );
         match end {

@@ -3,12 +3,12 @@
 
 mod address;
 mod ask;
+mod busy_clock;
 mod caller;
 mod callers;
 mod client_end;
 mod connections;
 mod devices;
-mod hours;
 mod instrument_end;
 mod kept_port;
 pub mod laws;
@@ -20,12 +20,12 @@ mod unheard;
 
 pub use address::Address;
 pub use ask::run_ask;
+pub use busy_clock::BusyClock;
 pub use callers::{CallerFault, Callers, keep};
 pub use connections::{
     MOST_CONNECTIONS, ask_at, ask_tcp, fault_of, loop_tcp, loop_tcp_on, serve_on, serve_tcp,
 };
 pub use devices::{keep_device, serve_device};
-pub use hours::Hours;
 pub use kept_port::{Keeping, keep_on, keep_tcp};
 pub use looped::{Duplex, run_loop, run_loop_on};
 pub use simulated::Simulates;

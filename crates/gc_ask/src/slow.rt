@@ -8,7 +8,7 @@ ghost use Rattle.gc_lines.specs.Answering.{AppendsAnswer};
 ghost use Rattle.gc_lines.specs.declared.frame.Frame.{Frame};
 ghost use Rattle.gc_scenes.specs.Slow.{HearsSometime};
 
-use crate::hours::Hours;
+use crate::busy_clock::BusyClock;
 use crate::simulated::Simulates;
 use gc_instrument::{ServeFault, Served};
 use gc_lines::{Answers, Lent, Outgoing, Sink, Source, answer_frames, append};
@@ -18,7 +18,7 @@ use std::marker::Model;
 /// An instrument whose replies take time, and its clock.
 #[derive(Drop)]
 pub struct Slow<'a> {
-    hours: &'a Hours,
+    clock: &'a BusyClock,
     slow: SlowInstrument,
 }
 
@@ -32,10 +32,10 @@ impl<'a> Model for Slow<'a> {
 
 impl<'a> Slow<'a> {
     /// The instrument by this clock. The connections of its callers have to have the same one.
-    pub fn new(hours: &'a Hours, slow: SlowInstrument) -> Slow<'a>
+    pub fn new(clock: &'a BusyClock, slow: SlowInstrument) -> Slow<'a>
         ensures { result ≡ slow }
     {
-        Slow { hours, slow }
+        Slow { clock, slow }
     }
 
     // Appends the reply to a line that came at this moment, with CR LF, if there is one.
@@ -62,12 +62,12 @@ impl<'a> Answers for Slow<'a> {
         let Lent::Line(line) = frame else {
             return false;
         };
-        let hours = self.hours;
-        if !self.hear(line, hours.came(), text) {
+        let clock = self.clock;
+        if !self.hear(line, clock.came(), text) {
             return false;
         }
         let due = self.slow.free_from();
-        hours.note_busy(due);
+        clock.note_busy(due);
         true
     }
 }

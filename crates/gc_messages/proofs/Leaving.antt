@@ -1,5 +1,5 @@
 -- A file of rows that is left joins those that were left before, and the next file has taken nothing yet.
-use Rattle.std.proofs.Common.{◌≡◌, ℕ, List, [], ◌++◌, sym, ap, ◌∙◌, append_assoc}
+use Rattle.std.proofs.Common.{◌≡◌, ℕ, List, [], ◌++◌, ap, ◌∙◌}
 use Rattle.std.proofs.lemmas.List.{append-nil}
 use Rattle.gc_files.specs.Files.{Step}
 use Rattle.gc_files.specs.Rows.{appended}

@@ -55,7 +55,7 @@ pub fn refuse_place<E: Write>(serves: bool, messages: &mut E) -> io::Result<Exit
 }
 
 /// Reports how a run ended: with status 0, or with status 1 and the line of the fault.
-pub fn end_of<E: Write>(end: Result<(), RunFault>, messages: &mut E) -> io::Result<ExitCode>
+pub fn report_end<E: Write>(end: Result<(), RunFault>, messages: &mut E) -> io::Result<ExitCode>
     ensures told { IfOk result (λ status. Tells run_fault_text end (exit_status status) (E.contents messages.old) (E.contents messages.new)) }
     ensures bound { IfOk result (λ status. exit_status status ≤ 1) }
 {
@@ -69,7 +69,10 @@ pub fn end_of<E: Write>(end: Result<(), RunFault>, messages: &mut E) -> io::Resu
 }
 
 /// Reports how serving or checking ended: with status 0, or with status 1 and the line of the fault.
-pub fn tell_end<E: Write>(end: Result<Served, ServeFault>, messages: &mut E) -> io::Result<ExitCode>
+pub fn report_served<E: Write>(
+    end: Result<Served, ServeFault>,
+    messages: &mut E,
+) -> io::Result<ExitCode>
     ensures told { IfOk result (λ status. Tells fault_text end (exit_status status) (E.contents messages.old) (E.contents messages.new)) }
 {
     match end {

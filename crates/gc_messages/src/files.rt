@@ -75,7 +75,7 @@ impl FilesTold {
             None => true,
         };
         let is_astray = seen.is_astray && is_due;
-        if seen.is_astray == is_astray && seen == self.told && !is_astray {
+        if seen == self.told && !seen.is_astray {
             return None;
         }
         let news = FilesNews {

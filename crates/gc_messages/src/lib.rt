@@ -16,12 +16,12 @@ mod turns;
 mod unasked;
 
 pub use bounded::Bounded;
-pub use ending::{end_of, refuse_numbers, refuse_place, refuse_stale, tell_end};
+pub use ending::{refuse_numbers, refuse_place, refuse_stale, report_end, report_served};
 pub use files::{FilesNews, FilesSeen, FilesTold, LogSeen};
 pub use following::Followed;
 pub use lossy::Lossy;
 pub use noting::Noting;
-pub use oddity::{Noticed, Noticing, Oddities, Spot, tell_place};
+pub use oddity::{Noticed, Noticing, Oddities, tell_place};
 pub use spaces::report_spaces;
 pub use standard::{Places, Standard};
 pub use streams::Streams;

@@ -39,30 +39,26 @@ impl<'a, R> Noting<'a, R> {
 
     // Notes the outcome of a call on a path: that it succeeded, or the system's error.
     fn note<T: Drop>(&self, path: &str, had: io::Result<T>) -> io::Result<T> {
-        match had {
-            Ok(had) => {
-                self.last.set(None);
-                Ok(had)
-            }
-            Err(why) => {
-                let mut name = Bounded::new();
-                let _ = write!(name, "{path}");
-                self.last.set(Some(Refusal { name, why }));
-                Err(why)
-            }
-        }
+        let mut name = Bounded::new();
+        let _ = write!(name, "{path}");
+        self.note_named(name, had)
     }
 
     // Notes the outcome of a call on an address, as `note` does on a path.
     fn note_at<T: Drop>(&self, address: SocketAddr, had: io::Result<T>) -> io::Result<T> {
+        let mut name = Bounded::new();
+        let _ = write!(name, "{address}");
+        self.note_named(name, had)
+    }
+
+    // Notes the outcome of a call on what has this name.
+    fn note_named<T: Drop>(&self, name: Bounded<120>, had: io::Result<T>) -> io::Result<T> {
         match had {
             Ok(had) => {
                 self.last.set(None);
                 Ok(had)
             }
             Err(why) => {
-                let mut name = Bounded::new();
-                let _ = write!(name, "{address}");
                 self.last.set(Some(Refusal { name, why }));
                 Err(why)
             }

@@ -54,44 +54,6 @@ impl Noticed {
     }
 }
 
-/// If a station measures, and what is noticed there.
-#[derive(Clone, Copy)]
-pub struct Spot<'a> {
-    pub place: Place<'a>,
-    pub noticed: &'a Cell<Noticed>,
-}
-
-impl<'a> Spot<'a> {
-    /// Notes for which fault the run stopped.
-    pub fn stop(self, fault: RunFault) {
-        let seen = self.noticed.get();
-        self.noticed.set(Noticed {
-            fault: Some(fault),
-            ..seen
-        });
-    }
-
-    /// Whether no run stopped, or one stopped because its place couldn't be reached.
-    pub fn is_unreached(self) -> bool {
-        match self.noticed.get().fault {
-            None => true,
-            Some(fault) => matches!(
-                fault,
-                RunFault::Socket | RunFault::Forbidden | RunFault::NoTerminal
-            ),
-        }
-    }
-
-    /// Adds to the fault's line the place and the reason, if the run stopped for one of the faults that [`tell_place`]
-    /// explains.
-    pub fn report<E: Write>(self, messages: &mut E) -> io::Result<()> {
-        match self.noticed.get().fault {
-            Some(fault) => tell_place(self.place, fault, messages),
-            None => Ok(()),
-        }
-    }
-}
-
 /// Writes the place and a reason in words, for the faults of a connection that come without an error of the system's. For any
 /// other fault it writes nothing.
 pub fn tell_place<E: Write>(place: Place<'_>, fault: RunFault, messages: &mut E) -> io::Result<()> {

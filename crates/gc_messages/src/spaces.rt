@@ -19,7 +19,7 @@ pub fn report_spaces<E: Write>(text: &[u8], messages: &mut E) -> io::Result<()> 
     report_space(line, last, messages)
 }
 
-// Writes the line of a line that ends with this byte, if that is a space or a tab.
+// Writes the message on the line of a text with this number, whose last byte is `last`, if that is a space or a tab.
 fn report_space<E: Write>(line: u32, last: u8, messages: &mut E) -> io::Result<()> {
     if last != b' ' && last != b'\t' {
         return Ok(());

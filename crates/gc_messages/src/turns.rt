@@ -58,7 +58,7 @@ pub fn report_turns<E: Write>(text: &[u8], all: &Tasks, messages: &mut E) -> io:
     Ok(())
 }
 
-// Whether the commands after the line at the front of `rest` are the setup, where those before it are if `before` says so.
+// Whether the commands after the line at the front of `rest` are the setup. `before`: whether those before it are.
 fn is_at_start(rest: &[u8], before: bool) -> bool {
     if before {
         !rest.starts_with(b"each cycle")

@@ -1,6 +1,5 @@
-//! Targets of which a text says something that no command needs: if they are, though none of its commands asks for a direction,
-//! which a station reports at its start, because no answer is compared with these places; or a name, though no command asks
-//! them.
+//! Targets of which a text says something that no command needs. Where they are, though no command asks for their direction: no
+//! answer is compared with that, and a station reports it at its start. Or their name, though no command is for them.
 
 use gc_texts::Tasks;
 use std::io::{self, Write};
@@ -15,7 +14,7 @@ pub fn report_unasked<E: Write>(tasks: &Tasks, messages: &mut E) -> io::Result<(
     Ok(())
 }
 
-/// Writes a line for each target that has a name in the text, and that no command of the text asks.
+/// Writes a line for each target that has a name in the text, and for which the text has no command.
 pub fn report_unnamed<E: Write>(tasks: &Tasks, messages: &mut E) -> io::Result<()> {
     for name in tasks.names.as_slice() {
         if !tasks

@@ -21,7 +21,7 @@ ghost use Rattle.std.specs.Prelude.{◌≤◌};
 use crate::ends::{tell_cut_ends, tell_ends, told_word};
 use crate::streams::{accepted, at, bounded, hear};
 use arrayvec::ArrayVec;
-use gc_ask::{Address, Hours, Keeping, Slow, ask_at, ask_tcp, keep_on, serve_on, serve_tcp};
+use gc_ask::{Address, BusyClock, Keeping, Slow, ask_at, ask_tcp, keep_on, serve_on, serve_tcp};
 use gc_cases::{Case, Player, Rows, Told, bytes_behind, cut_word, play_rows};
 use gc_instrument::Instrument;
 use gc_links::Place;
@@ -225,7 +225,7 @@ impl<'a> Played<'a> {
             ms: small_number(ms, 9_999),
         };
         let drops = busy == "drop";
-        let (Ok(hours), Ok(begun)) = (Hours::new(self.rt, drops), Instant::now(self.rt)) else {
+        let (Ok(clock), Ok(begun)) = (BusyClock::new(self.rt, drops), Instant::now(self.rt)) else {
             return came.text("no clock");
         };
         let mut delays = ArrayVec::new();
@@ -241,13 +241,13 @@ impl<'a> Played<'a> {
             Ways::none(),
         );
         let slow = SlowInstrument::new(scene, delays, drops);
-        let mut instrument = Slow::new(&hours, slow);
+        let mut instrument = Slow::new(&clock, slow);
         let end = serve_on(
             self.rt,
             &self.listener,
             1,
             &mut instrument,
-            Some(&hours),
+            Some(&clock),
             99,
         );
         tell_end(end, came);

@@ -13,25 +13,21 @@ use Rattle.gc_lines.specs.declared.served.Served.{Served}
 use Rattle.gc_lines.specs.declared.served.ServeFault.{ServeFault}
 use Rattle.gc_texts.specs.Faults.{Tells}
 
--- an instrument with this opening state served a source, and the status and the messages tell how that ended
-pub record TellsServing (start : State) (old new : Ports) (status : ℕ) (told told' : Option (List ℕ)) : Type 0 where
+-- an instrument with this opening state served a source, and the status and the messages tell how that ended. `Serves` says
+-- what serving does to instruments with these states: `IsServing` to the table's, `IsSceneServing` to that of a scene with
+-- rules
+pub record TellsServing {S : Type 0} (Serves : S → S → Ports → Ports → ℕ → Result Served ServeFault → Type 0) (start : S) (old new : Ports) (status : ℕ)
+    (told told' : Option (List ℕ)) : Type 0 where
   pub end : Result Served ServeFault
-  pub after : State
-  pub serves : IsServing start after old new 4294967295 end
-  pub tells : Tells fault_text end status told told'
-
--- the instrument of a scene with rules, with this opening state, served a source, and the status and the messages tell how that ended
-pub record TellsRuled (start : SceneState) (old new : Ports) (status : ℕ) (told told' : Option (List ℕ)) : Type 0 where
-  pub end : Result Served ServeFault
-  pub after : SceneState
-  pub serves : IsSceneServing start after old new 4294967295 end
+  pub after : S
+  pub serves : Serves start after old new 4294967295 end
   pub tells : Tells fault_text end status told told'
 
 -- the scene was refused, or its instrument served a source, and how that ended is reported; it has rules only where a scene is named
 abbrev pub TellsExec : {Name : Type 0} → Option Name → Ports → Ports → ℕ → Option (List ℕ) → Option (List ℕ) → Type 0
 TellsExec scene old new status told told' =
-    RefusesScene scene old new status told told' ⊎ (((start : State) × IsOfScene scene start × TellsServing start old new status told told')
-    ⊎ ((scene ≡ None → ⊥) × ((start : SceneState) × TellsRuled start old new status told told')))
+    RefusesScene scene old new status told told' ⊎ (((start : State) × IsOfScene scene start × TellsServing IsServing start old new status told told')
+    ⊎ ((scene ≡ None → ⊥) × ((start : SceneState) × TellsServing IsSceneServing start old new status told told')))
 
 -- a log (`true`) or a stream (`false`) was checked, with this result
 abbrev pub ChecksInput : Bool → Ports → Ports → Result Served ServeFault → Type 0

@@ -7,7 +7,7 @@ use clap::Command;
 use gc_ask::ask_at;
 use gc_lines::{Sink, Source};
 use gc_links::Place;
-use gc_messages::{end_of, tell_place};
+use gc_messages::{report_end, tell_place};
 use gc_words::help::COMMANDS;
 use gc_words::{Argument, PLACE, command_of};
 use std::alloc::{AllocError, Global};
@@ -49,9 +49,9 @@ pub fn ask_place<
     ensures { IfOk result (λ status. exit_status status ≤ 1) }
 {
     let end = ask_at(rt, alloc, place, source, sink, u32::MAX);
-    let ended = end_of(end, messages);
+    let ended = report_end(end, messages);
     if let Err(fault) = end {
-        // Where this line can't be written, the fault's line stands all the same.
+        // If this line can't be written, the fault's line is written all the same.
         let _ = tell_place(place, fault, messages);
     }
     ended

@@ -8,7 +8,7 @@ ghost use Rattle.gc_lines.specs.Answering.{ports_of, HasEnded};
 use clap::Command;
 use gc_engines::{run_check, run_check_log};
 use gc_lines::{ServeFault, Served, Sink, Source};
-use gc_messages::tell_end;
+use gc_messages::report_served;
 use gc_words::help::VERDICTS;
 use gc_words::{Argument, FLAG, command_of};
 use std::alloc::{AllocError, Global};
@@ -53,7 +53,7 @@ pub fn check<S: Source, K: Sink, E: Write>(
         (exit_status status)) }
     ensures bound { IfOk result (λ status. exit_status status ≤ 1) }
 {
-    tell_end(check_input(log, source, sink), messages)
+    report_served(check_input(log, source, sink), messages)
 }
 
 // Checks a log where `log` is set, else a stream.

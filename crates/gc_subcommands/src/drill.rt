@@ -2,17 +2,15 @@
 
 ghost use Rattle.std.specs.Prelude.{◌≡◌, ◌≤◌, IfOk};
 ghost use Rattle.std.specs.Process.{exit_status};
-ghost use Rattle.gc_subcommands.specs.Drills.{TellsSchedule, TellsRuledSchedule, TellsWithin, TellsRuledWithin, TellsDrill, PlaysWhole, PlaysRuled, PlaysScene, AreReadWhole};
+ghost use Rattle.gc_subcommands.specs.Drills.{TellsSchedule, TellsWithin, TellsDrill, PlaysWhole, PlaysScene, AreReadWhole};
 ghost use Rattle.gc_lines.specs.Answering.{ports_of};
 
+use crate::drilled::Drilled;
 use crate::scene::{Staged, staged_of};
 use clap::{ArgMatches, Command};
 use gc_client::WINDOW;
-use gc_engines::{run_drill_on, run_drill_scene};
-use gc_instrument::Instrument;
 use gc_lines::{Sink, Source};
-use gc_messages::{end_of, refuse_numbers};
-use gc_scenes::SceneInstrument;
+use gc_messages::{refuse_numbers, report_end};
 use gc_words::help::EVENTS;
 use gc_words::{Argument, FLAG, SCENE, Takes, command_of};
 use std::alloc::{AllocError, Global};
@@ -102,7 +100,7 @@ pub fn drill_scene<R: Files, S: Source, K: Sink, E: Write>(
             drill_within(alloc, instrument, drilling, source, sink, messages)
         }
         Ok(Staged::Ruled(instrument)) => {
-            drill_ruled_within(alloc, instrument, drilling, source, sink, messages)
+            drill_within(alloc, instrument, drilling, source, sink, messages)
         }
         Err(refusal) => refusal.tell(messages),
     }
@@ -110,9 +108,9 @@ pub fn drill_scene<R: Files, S: Source, K: Sink, E: Write>(
 
 // Plays a schedule, and reports how that ended. A width out of its range is refused here, and by clap, though no clause of
 // clap's says so.
-fn drill_within<S: Source, K: Sink, E: Write>(
+fn drill_within<I: Drilled, S: Source, K: Sink, E: Write>(
     alloc: Global,
-    instrument: Instrument,
+    instrument: I,
     drilling: Drilling<'_>,
     source: &mut S,
     sink: &mut K,
@@ -120,7 +118,7 @@ fn drill_within<S: Source, K: Sink, E: Write>(
 ) -> io::Result<ExitCode>
     // Either the width was refused with status 2 and a line, and nothing was read or written; or the schedule was played, and
     // how that ended is reported.
-    ensures told { IfOk result (λ status. TellsWithin instrument drilling.entry
+    ensures told { IfOk result (λ status. TellsWithin I.text instrument drilling.entry
         (ports_of S.Source source.old K.Sink sink.old)
         (ports_of S.Source source.new K.Sink sink.new)
         (exit_status status) (E.contents messages.old) (E.contents messages.new)) }
@@ -129,7 +127,7 @@ fn drill_within<S: Source, K: Sink, E: Write>(
     ensures width { 1 ≤ drilling.entry.width → drilling.entry.width ≤ WINDOW → IfOk result (λ status. exit_status status ≤ 1) }
 
     // Status 0 only where the sink took the output of the text's events.
-    ensures done { IfOk result (λ status. exit_status status ≡ 0 → PlaysWhole instrument drilling.entry
+    ensures done { IfOk result (λ status. exit_status status ≡ 0 → PlaysWhole I.text instrument drilling.entry
         (ports_of S.Source source.old K.Sink sink.old)
         (ports_of S.Source source.new K.Sink sink.new)) }
 
@@ -149,9 +147,9 @@ fn drill_within<S: Source, K: Sink, E: Write>(
 }
 
 // Plays a schedule, and reports how that ended.
-fn drill<S: Source, K: Sink, E: Write>(
+fn drill<I: Drilled, S: Source, K: Sink, E: Write>(
     alloc: Global,
-    instrument: Instrument,
+    instrument: I,
     drilling: Drilling<'_>,
     source: &mut S,
     sink: &mut K,
@@ -161,13 +159,13 @@ fn drill<S: Source, K: Sink, E: Write>(
     requires most { drilling.width ≤ WINDOW }
 
     // The schedule was played, and the status and the messages report how that ended.
-    ensures told { IfOk result (λ status. TellsSchedule instrument drilling.entry
+    ensures told { IfOk result (λ status. TellsSchedule I.text instrument drilling.entry
         (ports_of S.Source source.old K.Sink sink.old)
         (ports_of S.Source source.new K.Sink sink.new)
         (exit_status status) (E.contents messages.old) (E.contents messages.new)) }
 
     // Status 0 only where the sink took the output of the text's events.
-    ensures done { IfOk result (λ status. exit_status status ≡ 0 → PlaysWhole instrument drilling.entry
+    ensures done { IfOk result (λ status. exit_status status ≡ 0 → PlaysWhole I.text instrument drilling.entry
         (ports_of S.Source source.old K.Sink sink.old)
         (ports_of S.Source source.new K.Sink sink.new)) }
 
@@ -177,96 +175,8 @@ fn drill<S: Source, K: Sink, E: Write>(
         (ports_of S.Source source.new K.Sink sink.new)) }
     ensures bound { IfOk result (λ status. exit_status status ≤ 1) }
 {
-    end_of(
-        run_drill_on(
-            alloc,
-            instrument,
-            source,
-            sink,
-            drilling.totals,
-            drilling.width,
-        ),
-        messages,
-    )
-}
-
-// Plays a schedule on the instrument of a scene with rules, as `drill_within` does on another.
-fn drill_ruled_within<S: Source, K: Sink, E: Write>(
-    alloc: Global,
-    instrument: SceneInstrument,
-    drilling: Drilling<'_>,
-    source: &mut S,
-    sink: &mut K,
-    messages: &mut E,
-) -> io::Result<ExitCode>
-    // Either the width was refused with status 2 and a line, and nothing was read or written; or the schedule was played, and
-    // how that ended is reported.
-    ensures told { IfOk result (λ status. TellsRuledWithin instrument drilling.entry
-        (ports_of S.Source source.old K.Sink sink.old)
-        (ports_of S.Source source.new K.Sink sink.new)
-        (exit_status status) (E.contents messages.old) (E.contents messages.new)) }
-
-    // A width from 1 to 7 isn't refused.
-    ensures width { 1 ≤ drilling.entry.width → drilling.entry.width ≤ WINDOW → IfOk result (λ status. exit_status status ≤ 1) }
-
-    // Status 0 only where the sink took the output of the text's events.
-    ensures done { IfOk result (λ status. exit_status status ≡ 0 → PlaysRuled instrument drilling.entry
-        (ports_of S.Source source.old K.Sink sink.old)
-        (ports_of S.Source source.new K.Sink sink.new)) }
-
-    // Status 0 only where the last read was the end, and the source has no byte left.
-    ensures whole { IfOk result (λ status. exit_status status ≡ 0 → AreReadWhole
-        (ports_of S.Source source.old K.Sink sink.old)
-        (ports_of S.Source source.new K.Sink sink.new)) }
-    ensures bound { IfOk result (λ status. exit_status status ≤ 2) }
-{
-    if drilling.width == 0 {
-        return refuse_numbers(messages);
-    }
-    if usize::from(drilling.width) > WINDOW {
-        return refuse_numbers(messages);
-    }
-    drill_ruled(alloc, instrument, drilling, source, sink, messages)
-}
-
-// Plays a schedule on the instrument of a scene with rules, and reports how that ended.
-fn drill_ruled<S: Source, K: Sink, E: Write>(
-    alloc: Global,
-    instrument: SceneInstrument,
-    drilling: Drilling<'_>,
-    source: &mut S,
-    sink: &mut K,
-    messages: &mut E,
-) -> io::Result<ExitCode>
-    requires least { 1 ≤ drilling.width }
-    requires most { drilling.width ≤ WINDOW }
-
-    // The schedule was played, and the status and the messages report how that ended.
-    ensures told { IfOk result (λ status. TellsRuledSchedule instrument drilling.entry
-        (ports_of S.Source source.old K.Sink sink.old)
-        (ports_of S.Source source.new K.Sink sink.new)
-        (exit_status status) (E.contents messages.old) (E.contents messages.new)) }
-
-    // Status 0 only where the sink took the output of the text's events.
-    ensures done { IfOk result (λ status. exit_status status ≡ 0 → PlaysRuled instrument drilling.entry
-        (ports_of S.Source source.old K.Sink sink.old)
-        (ports_of S.Source source.new K.Sink sink.new)) }
-
-    // Status 0 only where the last read was the end, and the source has no byte left.
-    ensures whole { IfOk result (λ status. exit_status status ≡ 0 → AreReadWhole
-        (ports_of S.Source source.old K.Sink sink.old)
-        (ports_of S.Source source.new K.Sink sink.new)) }
-    ensures bound { IfOk result (λ status. exit_status status ≤ 1) }
-{
-    end_of(
-        run_drill_scene(
-            alloc,
-            instrument,
-            source,
-            sink,
-            drilling.totals,
-            drilling.width,
-        ),
+    report_end(
+        instrument.play(alloc, source, sink, drilling.totals, drilling.width),
         messages,
     )
 }

@@ -2,14 +2,16 @@
 
 ghost use Rattle.std.specs.Prelude.{◌≡◌, ◌≤◌, None, IfOk, false};
 ghost use Rattle.std.specs.Process.{exit_status};
-ghost use Rattle.gc_subcommands.specs.Serves.{TellsServing, TellsRuled, TellsExec, IsDoneAtEnd, FailsByPorts};
+ghost use Rattle.gc_subcommands.specs.Serves.{TellsServing, TellsExec, IsDoneAtEnd, FailsByPorts};
+ghost use Rattle.gc_instrument.specs.Serving.{IsServing};
 ghost use Rattle.gc_lines.specs.Answering.{ports_of};
+ghost use Rattle.gc_scenes.specs.SceneServing.{IsSceneServing};
 
 use crate::scene::{Staged, staged_of};
 use clap::Command;
 use gc_instrument::{Instrument, serve};
 use gc_lines::{Sink, Source};
-use gc_messages::tell_end;
+use gc_messages::report_served;
 use gc_scenes::{SceneInstrument, serve_scene};
 use gc_words::help::REQUESTS;
 use gc_words::{Argument, SCENE, command_of};
@@ -77,7 +79,7 @@ fn exec<S: Source, K: Sink, E: Write>(
     messages: &mut E,
 ) -> io::Result<ExitCode>
     // The instrument served the source, and the status and the messages report how that ended.
-    ensures told { IfOk result (λ status. TellsServing instrument
+    ensures told { IfOk result (λ status. TellsServing IsServing instrument
         (ports_of S.Source source.old K.Sink sink.old)
         (ports_of S.Source source.new K.Sink sink.new)
         (exit_status status) (E.contents messages.old) (E.contents messages.new)) }
@@ -96,7 +98,7 @@ fn exec<S: Source, K: Sink, E: Write>(
         (exit_status status)) }
     ensures bound { IfOk result (λ status. exit_status status ≤ 1) }
 {
-    tell_end(serve(&mut instrument, source, sink, u32::MAX), messages)
+    report_served(serve(&mut instrument, source, sink, u32::MAX), messages)
 }
 
 // Serves with the instrument of a scene with rules, and reports how that ended.
@@ -107,7 +109,7 @@ fn exec_ruled<S: Source, K: Sink, E: Write>(
     messages: &mut E,
 ) -> io::Result<ExitCode>
     // The instrument served the source, and the status and the messages report how that ended.
-    ensures told { IfOk result (λ status. TellsRuled instrument
+    ensures told { IfOk result (λ status. TellsServing IsSceneServing instrument
         (ports_of S.Source source.old K.Sink sink.old)
         (ports_of S.Source source.new K.Sink sink.new)
         (exit_status status) (E.contents messages.old) (E.contents messages.new)) }
@@ -126,7 +128,7 @@ fn exec_ruled<S: Source, K: Sink, E: Write>(
         (exit_status status)) }
     ensures bound { IfOk result (λ status. exit_status status ≤ 1) }
 {
-    tell_end(
+    report_served(
         serve_scene(&mut instrument, source, sink, u32::MAX),
         messages,
     )

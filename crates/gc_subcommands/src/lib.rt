@@ -5,6 +5,7 @@
 pub mod ask;
 pub mod check;
 pub mod drill;
+mod drilled;
 pub mod exec;
 pub mod looped;
 mod refusal;

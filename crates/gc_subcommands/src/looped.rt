@@ -7,7 +7,7 @@ use crate::scene::{Staged, staged_of};
 use clap::Command;
 use gc_ask::loop_tcp_on;
 use gc_lines::{Answers, Sink, Source};
-use gc_messages::end_of;
+use gc_messages::report_end;
 use gc_texts::RunFault;
 use gc_words::help::COMMANDS;
 use gc_words::{Argument, SCENE, command_of};
@@ -82,7 +82,7 @@ fn loop_on<
     ensures { IfOk result (λ status. exit_status status ≤ 1) }
 {
     let end = loop_tcp_on(rt, alloc, instrument, source, sink, u32::MAX);
-    let ended = end_of(end, messages);
+    let ended = report_end(end, messages);
     if let Err(RunFault::Schedule { .. } | RunFault::InputTooLong) = end {
         let _ = tell_commands(scene, messages);
     }

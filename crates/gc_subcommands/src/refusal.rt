@@ -6,7 +6,7 @@ ghost use Rattle.std.specs.Process.{exit_status};
 ghost use Rattle.gc_subcommands.specs.Refusing.{refusal_fault, refusal_text};
 
 use gc_engines::{SceneTrouble, scene_trouble_of};
-use gc_messages::end_of;
+use gc_messages::report_end;
 use gc_texts::{RunFault, line_at};
 use std::io::{self, Write};
 use std::process::ExitCode;
@@ -49,7 +49,7 @@ impl Refusal {
         ensures { IfOk result (λ status. (exit_status status ≡ 1) × Appends (E.contents messages.old) (E.contents messages.new) (refusal_text self)) }
     {
         match self {
-            Refusal::Fault(fault) => end_of(Err(fault), messages),
+            Refusal::Fault(fault) => report_end(Err(fault), messages),
             Refusal::Line(line, trouble) => {
                 tell_line(line, trouble, messages)?;
                 Ok(ExitCode::from(1))

@@ -23,14 +23,18 @@ use std::fs::{File, Files};
 /// The instrument that a scene sets up: that of the execution table, or one with rules, where a line of the scene is one.
 #[derive(Drop)]
 pub(crate) enum Staged {
+    /// That of the execution table.
     Plain(Instrument),
+    /// One with rules.
     Ruled(SceneInstrument),
 }
 
 /// The instrument that a scene sets up for one who has a clock: also one whose replies take time, where a line says so.
 #[derive(Drop)]
 pub(crate) enum Timed {
+    /// One whose replies take no time.
     Still(Staged),
+    /// One whose replies take time.
     Slow(SlowInstrument),
 }
 
@@ -69,26 +73,26 @@ fn staged_in<S: Source>(alloc: Global, source: &mut S) -> Result<Staged, Refusal
         Ok(text) => text,
         Err(fault) => return Err(Refusal::Fault(fault)),
     };
-    match stage(alloc, text.as_slice()) {
+    match staged_text(alloc, text.as_slice()) {
         Ok(staged) => Ok(staged),
         Err(fault) => Err(Refusal::of(fault, text.as_slice(), false)),
     }
 }
 
 // The instrument of a scene's text: without rules, where each line is one of a scene without rules.
-fn stage(alloc: Global, text: &[u8]) -> Result<Staged, RunFault>
+fn staged_text(alloc: Global, text: &[u8]) -> Result<Staged, RunFault>
     ensures found { IfOk result (λ staged. IsStaged text.now staged) }
     ensures fault { IfErr result (λ e. StagedFault text.now e) }
 {
     match read_scene(alloc, text) {
         Ok(instrument) => Ok(Staged::Plain(instrument)),
-        Err(RunFault::Schedule { .. }) => ruled(alloc, text),
+        Err(RunFault::Schedule { .. }) => ruled_text(alloc, text),
         Err(fault) => Err(fault),
     }
 }
 
 // The instrument of the text of a scene with rules.
-fn ruled(alloc: Global, text: &[u8]) -> Result<Staged, RunFault>
+fn ruled_text(alloc: Global, text: &[u8]) -> Result<Staged, RunFault>
     ensures found { IfOk result (λ staged. IsStaged text.now staged) }
     ensures fault { IfErr result (λ e. SceneFaultOf IsStillLine text.now e) }
 {
@@ -131,26 +135,26 @@ fn timed_in<S: Source>(alloc: Global, source: &mut S) -> Result<Timed, Refusal>
         Ok(text) => text,
         Err(fault) => return Err(Refusal::Fault(fault)),
     };
-    match time(alloc, text.as_slice()) {
+    match timed_text(alloc, text.as_slice()) {
         Ok(timed) => Ok(timed),
         Err(fault) => Err(Refusal::of(fault, text.as_slice(), true)),
     }
 }
 
 // The instrument of a scene's text: one whose replies take no time, where no line says that they do.
-fn time(alloc: Global, text: &[u8]) -> Result<Timed, RunFault>
+fn timed_text(alloc: Global, text: &[u8]) -> Result<Timed, RunFault>
     ensures found { IfOk result (λ timed. IsTimed text.now timed) }
     ensures fault { IfErr result (λ e. TimedStagedFault text.now e) }
 {
-    match stage(alloc, text) {
+    match staged_text(alloc, text) {
         Ok(staged) => Ok(Timed::Still(staged)),
-        Err(RunFault::Schedule { .. }) => slowed(alloc, text),
+        Err(RunFault::Schedule { .. }) => slow_text(alloc, text),
         Err(fault) => Err(fault),
     }
 }
 
 // The instrument of the text of a scene with delays.
-fn slowed(alloc: Global, text: &[u8]) -> Result<Timed, RunFault>
+fn slow_text(alloc: Global, text: &[u8]) -> Result<Timed, RunFault>
     ensures found { IfOk result (λ timed. IsTimed text.now timed) }
     ensures fault { IfErr result (λ e. TimedFault text.now e) }
 {

@@ -8,11 +8,11 @@ use crate::looped::tell_scene;
 use crate::scene::{Staged, Timed, timed_of};
 use clap::{ArgMatches, Command};
 use gc_ask::{
-    Address, Hours, Keeping, MOST_CONNECTIONS, Simulates, Slow, keep_device, keep_tcp,
+    Address, BusyClock, Keeping, MOST_CONNECTIONS, Simulates, Slow, keep_device, keep_tcp,
     serve_device, serve_tcp,
 };
 use gc_links::Place;
-use gc_messages::{Standard, end_of, refuse_numbers, tell_place};
+use gc_messages::{Standard, refuse_numbers, report_end, tell_place};
 use gc_scenes::SlowInstrument;
 use gc_texts::RunFault;
 use gc_words::help::KEPT;
@@ -161,11 +161,11 @@ fn serve_slow<
 >(rt: &R, serving: Serving<'_>, slow: SlowInstrument, messages: &mut E) -> io::Result<ExitCode>
     ensures { IfOk result (λ status. exit_status status ≤ 2) }
 {
-    let Ok(hours) = Hours::new(rt, slow.drops()) else {
-        return end_of(Err(RunFault::Clock), messages);
+    let Ok(clock) = BusyClock::new(rt, slow.drops()) else {
+        return report_end(Err(RunFault::Clock), messages);
     };
-    let mut instrument = Slow::new(&hours, slow);
-    serve_with(rt, serving, &mut instrument, Some(&hours), messages)
+    let mut instrument = Slow::new(&clock, slow);
+    serve_with(rt, serving, &mut instrument, Some(&clock), messages)
 }
 
 // Serves or keeps a place with an instrument.
@@ -177,7 +177,7 @@ fn serve_with<
     rt: &R,
     serving: Serving<'_>,
     instrument: &mut I,
-    hours: Option<&Hours>,
+    clock: Option<&BusyClock>,
     messages: &mut E,
 ) -> io::Result<ExitCode>
     ensures { IfOk result (λ status. exit_status status ≤ 2) }
@@ -194,27 +194,27 @@ fn serve_with<
             place,
             connections.unwrap_or(1),
             instrument,
-            hours,
+            clock,
             messages,
         ),
-        Some(idle) => keep_place(rt, place, connections, idle, instrument, hours, messages),
+        Some(idle) => keep_place(rt, place, connections, idle, instrument, clock, messages),
     }
 }
 
 // Where an instrument is served: at an address, or on the device with this path.
 #[derive(Clone, Copy)]
-enum Spot<'a> {
+enum Endpoint<'a> {
     Address(Address<'a>),
     Device(&'a str),
 }
 
 // Where an instrument is served that has this place. `None`: on port 0, which clap refuses, though no clause of clap's says so.
-fn spot_of(place: Place<'_>) -> Option<Spot<'_>> {
+fn endpoint_of(place: Place<'_>) -> Option<Endpoint<'_>> {
     match place {
         Place::Port(0) => None,
-        Place::Port(port) => Some(Spot::Address(Address::Here(port))),
-        Place::Host(host) => Some(Spot::Address(Address::Named(host))),
-        Place::Device(path) => Some(Spot::Device(path)),
+        Place::Port(port) => Some(Endpoint::Address(Address::Here(port))),
+        Place::Host(host) => Some(Endpoint::Address(Address::Named(host))),
+        Place::Device(path) => Some(Endpoint::Device(path)),
     }
 }
 
@@ -229,19 +229,19 @@ fn serve_place<
     place: Place<'_>,
     connections: u32,
     instrument: &mut I,
-    hours: Option<&Hours>,
+    clock: Option<&BusyClock>,
     messages: &mut E,
 ) -> io::Result<ExitCode>
     ensures { IfOk result (λ status. exit_status status ≤ 2) }
 {
-    match spot_of(place) {
+    match endpoint_of(place) {
         None => refuse_numbers(messages),
-        Some(Spot::Address(address)) => {
-            serve_address(rt, address, connections, instrument, hours, messages)
+        Some(Endpoint::Address(address)) => {
+            serve_address(rt, address, connections, instrument, clock, messages)
         }
-        Some(Spot::Device(_)) if connections > MOST_CONNECTIONS => refuse_numbers(messages),
-        Some(Spot::Device(path)) => {
-            let end = serve_device(rt, path, connections, instrument, hours, u32::MAX);
+        Some(Endpoint::Device(_)) if connections > MOST_CONNECTIONS => refuse_numbers(messages),
+        Some(Endpoint::Device(path)) => {
+            let end = serve_device(rt, path, connections, instrument, clock, u32::MAX);
             tell_served(place, end, messages)
         }
     }
@@ -257,7 +257,7 @@ fn serve_address<
     address: Address<'_>,
     connections: u32,
     instrument: &mut I,
-    hours: Option<&Hours>,
+    clock: Option<&BusyClock>,
     messages: &mut E,
 ) -> io::Result<ExitCode>
     ensures { IfOk result (λ status. exit_status status ≤ 2) }
@@ -265,8 +265,8 @@ fn serve_address<
     if connections == 0 || connections > MOST_CONNECTIONS {
         return refuse_numbers(messages);
     }
-    end_of(
-        serve_tcp(rt, address, connections, instrument, hours, u32::MAX),
+    report_end(
+        serve_tcp(rt, address, connections, instrument, clock, u32::MAX),
         messages,
     )
 }
@@ -282,7 +282,7 @@ fn keep_place<
     connections: Option<u32>,
     idle: u32,
     instrument: &mut I,
-    hours: Option<&Hours>,
+    clock: Option<&BusyClock>,
     messages: &mut E,
 ) -> io::Result<ExitCode>
     ensures { IfOk result (λ status. exit_status status ≤ 2) }
@@ -295,12 +295,12 @@ fn keep_place<
         idle,
         max_reads: u32::MAX,
     };
-    let kept = match spot_of(place) {
+    let kept = match endpoint_of(place) {
         None => return refuse_numbers(messages),
-        Some(Spot::Address(address)) => {
-            keep_tcp(rt, address, keeping, instrument, hours, messages)
+        Some(Endpoint::Address(address)) => {
+            keep_tcp(rt, address, keeping, instrument, clock, messages)
         }
-        Some(Spot::Device(path)) => keep_device(rt, path, keeping, instrument, hours, messages),
+        Some(Endpoint::Device(path)) => keep_device(rt, path, keeping, instrument, clock, messages),
     };
     match kept {
         Ok(_) => Ok(ExitCode::SUCCESS),
@@ -316,9 +316,9 @@ fn tell_served<E: Write>(
 ) -> io::Result<ExitCode>
     ensures { IfOk result (λ status. exit_status status ≤ 1) }
 {
-    let ended = end_of(end, messages);
+    let ended = report_end(end, messages);
     if let Err(fault) = end {
-        // Where this line can't be written, the fault's line stands all the same.
+        // If this line can't be written, the fault's line is written all the same.
         let _ = tell_place(place, fault, messages);
     }
     ended

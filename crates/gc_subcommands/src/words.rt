@@ -10,8 +10,8 @@ use clap::{ArgMatches, Command, Error};
 use gc_links::Place;
 use gc_words::help::SCENES_AND_FAULTS;
 use gc_words::{
-    Choice, Recording, Settings, Site, VERSION, log_of, named_place, recording_of, station_command,
-    station_of,
+    Choice, Recording, Rehearsal, Settings, Site, VERSION, log_of, named_place, recording_of,
+    rehearsal_of, rehearse_command, station_command, station_of,
 };
 use std::alloc::{AllocError, Global};
 
@@ -22,6 +22,8 @@ pub enum Asked<'a> {
     Check { log: bool },
     Drill(Drilling<'a>),
     Serve(Serving<'a>),
+    /// Rehearses a station.
+    Rehearse(Rehearsal<'a>),
     /// Asks commands over a connection.
     Over(Asking<'a>),
     /// The word for the place is no place: no port or device to serve a simulator on where `serves` is set, else no place of an
@@ -66,10 +68,11 @@ pub enum Subcommand {
     Serve,
     Ask,
     Station,
+    Rehearse,
 }
 
 // The subcommands, in the order of the help.
-const SUBCOMMANDS: [Subcommand; 7] = [
+const SUBCOMMANDS: [Subcommand; 8] = [
     Subcommand::Exec,
     Subcommand::Check,
     Subcommand::Drill,
@@ -77,6 +80,7 @@ const SUBCOMMANDS: [Subcommand; 7] = [
     Subcommand::Serve,
     Subcommand::Ask,
     Subcommand::Station,
+    Subcommand::Rehearse,
 ];
 
 impl Subcommand {
@@ -90,6 +94,7 @@ impl Subcommand {
             Subcommand::Serve => "serve",
             Subcommand::Ask => "ask",
             Subcommand::Station => "station",
+            Subcommand::Rehearse => "rehearse",
         }
     }
 
@@ -106,7 +111,11 @@ impl Subcommand {
     /// Whether the subcommand reads a text from standard input.
     pub fn reads_a_text(self) -> bool {
         match self {
-            Subcommand::Drill | Subcommand::Loop | Subcommand::Ask | Subcommand::Station => true,
+            Subcommand::Drill
+            | Subcommand::Loop
+            | Subcommand::Ask
+            | Subcommand::Station
+            | Subcommand::Rehearse => true,
             Subcommand::Exec | Subcommand::Check | Subcommand::Serve => false,
         }
     }
@@ -121,6 +130,7 @@ impl Subcommand {
             Subcommand::Serve => serve_command(alloc, self.name()),
             Subcommand::Ask => ask_command(alloc, self.name()),
             Subcommand::Station => station_command(alloc, self.name()),
+            Subcommand::Rehearse => rehearse_command(alloc, self.name()),
         }
     }
 
@@ -140,6 +150,7 @@ impl Subcommand {
             Subcommand::Serve => serve_asked(words),
             Subcommand::Ask => ask_asked(words),
             Subcommand::Station => station_asked(words),
+            Subcommand::Rehearse => rehearse_asked(words),
         }
     }
 }
@@ -230,4 +241,15 @@ fn station_asked<'a>(words: &ArgMatches<'a>) -> Asked<'a> {
         station,
         recording: recording_of(words),
     })
+}
+
+// A rehearsal. `Unnumbered` and `Impatient` are as for a station.
+fn rehearse_asked<'a>(words: &ArgMatches<'a>) -> Asked<'a> {
+    let Some(rehearsal) = rehearsal_of(words) else {
+        return Asked::Unnumbered;
+    };
+    if rehearsal.station.choice.is_impatient() {
+        return Asked::Impatient;
+    }
+    Asked::Rehearse(rehearsal)
 }

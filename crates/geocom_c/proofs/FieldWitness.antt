@@ -35,7 +35,7 @@ alike : TreatsRawsAlike counting AnyState kept_by
 alike state id call good lt = inr (counted.keeps.always state id call good lt refl)
 
 -- the calls over an instrument that counts meet every premise of the laws
-any : (raw : RawCall) → AreInField counting AnyState kept_by (record { count = 27; keeps = None }) chain.begun (raw_second raw) (Raw raw) chain.first chain.second
+any : (raw : RawCall) → AreInField counting AnyState kept_by (record { count = 27; keeps = None }) chain.null_replies (raw_second raw) (Raw raw) chain.first chain.second
 unfolding header_at reply_at digits
 any raw =
     record {

@@ -88,7 +88,7 @@ pub fed_on : (width : ℕ) (x : Course Asked) (rest bytes left end : List ℕ) (
     → FedTo width f.reached f.now left new end → FedTo width x rest bytes new end
 fed_on width x rest bytes left end state new f g = record { reached = g.reached; now = g.now; stands = g.stands; same = g.same ∙ f.same; behind = g.behind ∙ f.behind }
 
--- what follows both if no place is found and if some place is found holds (`o` is the place, if one is found)
+-- `P` holds if it follows from there being no place, and from each place that there may be (`o` is the place, if there is one)
 pub either : {P : Type 0} (o : Option ℕ) → (o ≡ None → P) → ((at : ℕ) → o ≡ Some at → P) → P
 either None f g = f refl
 either (Some at) f g = g at refl
@@ -117,7 +117,7 @@ pub sent_course : (width : ℕ) (x : Course Asked) (rest : List ℕ) (call : Ask
 sent_course width x rest call target None sent s is = subst (λ (t : GeocomClient). StandsFor t (record { width = width; ids = x.client }) rest) (sym is.1) s
 sent_course width x rest call target (Some q) sent s is = is.1
 
--- what follows both where two numbers are equal and if they aren't holds
+-- `P` holds if it follows from two numbers being equal, and from their being different
 pub decided : {P : Type 0} (n m : ℕ) → (n ≡ m → P) → (n ≢ m → P) → P
 decided {P} n m f g = elim (eqb n m) as (λ v. eqb n m ≡ v → P) [
   | true ↦ λ e. f (eqb-true n m e)

@@ -5,7 +5,7 @@ use Rattle.std.proofs.Common.{ℕ, ◌≤◌, List, [], ◌∷◌, Option, refl}
 use Rattle.gc_instrument.specs.State.{KeptReply}
 use Rattle.gc_field.specs.World.{Ends}
 use Rattle.gc_field.specs.Begin.{AreLines, UnderWay}
-use Rattle.gc_field.specs.Beginnings.{AreFewKilled, AreRuns, IsRow, Run, killed_if, left_by_run, stood}
+use Rattle.gc_field.specs.Beginnings.{AreFewKilled, AreRuns, IsRow, Run, killed_if, left_by_run, after_turns}
 use Rattle.gc_field.specs.Instrument.{IsAnInstrument}
 use Rattle.gc_field.proofs.BegunRuns.{IsShort, goes, short_row, short_word}
 use Rattle.geocom_c.specs.Laws.{MayBegin}
@@ -18,8 +18,8 @@ module _ {State : Type 0} (ends : Ends State) (Good : State → Type 0) (kept : 
       → AreFewKilled width ends n u rs → MayBegin (left_by_runs width ends u rs)
   may_behind [] n u lines short runs few = short_word n u short
   may_behind (r ∷ rs) n u lines short runs few =
-      let one = goes ends Good kept is width narrow n u r (stood width ends u r).left refl lines short runs.0.0 runs.0.1 few.0 in
-      may_behind rs (killed_if width ends (stood width ends u r).left n) (left_by_run width ends u r) one.lines one.short runs.1 few.1
+      let one = goes ends Good kept is width narrow n u r (after_turns width ends u r).left refl lines short runs.0.0 runs.0.1 few.0 in
+      may_behind rs (killed_if width ends (after_turns width ends u r).left n) (left_by_run width ends u r) one.lines one.short runs.1 few.1
 
   -- where what is in flight is what a run that measures may leave, or nothing (`IsRow`), the word isn't in flight after further
   -- runs (`rs`), as long as few in a row are killed while they synchronize

@@ -15,7 +15,7 @@ use Rattle.gc_world.specs.Clients.{by_ids}
 use Rattle.gc_world.specs.Order.{Each}
 use Rattle.gc_field.specs.World.{Ends, Request}
 use Rattle.gc_field.specs.Begin.{Aged, AreLines, AreTurns, Asks, Comes, Foreign, Reaches, Up_lose, Up_repeat, Down_lose, Down_repeat, Anew, Changes, Model, Turn, UnderWay, asks, begins, comes, leaves, reaches, turned, turns}
-use Rattle.gc_field.specs.Beginnings.{IsOwnIf, Run, left_by_run, left_if, on_line, stood}
+use Rattle.gc_field.specs.Beginnings.{IsOwnIf, Run, left_by_run, left_if, on_line, after_turns}
 use Rattle.gc_field.specs.Begun.{IsClean, behind, eighth, ids_begun}
 use Rattle.gc_field.specs.Field.{Move, Sends, Tells, OnLine, Joins, ArePossible, seen}
 use Rattle.gc_field.specs.Field as field
@@ -31,7 +31,7 @@ use Rattle.geocom_c.specs.declared.following.Step as call
 use Rattle.geocom_c.proofs.Courses.{over_events}
 use Rattle.geocom_c.proofs.Owning.{all_joined, all_weaker, later_own, none_answered, own_here}
 
--- A course with the client of another, which settled these before.
+-- Two courses, one of which settled more before (`Behind`).
 
 -- course x is course y with the settlements `old` before it: the same client, and settlements that are `old` and then those of
 -- y
@@ -39,17 +39,17 @@ record Behind (old : List (Settlement Asked)) (x y : Course Asked) : Type 0 wher
   settled : x.settlements ≡ old ++ y.settlements
   client : x.client ≡ y.client
 
--- settlements before it stay before it over a send
+-- if `Behind` holds of two courses, it still does after both send
 behind_send : (old : List (Settlement Asked)) (x y : Course Asked) (target : ℕ) (call : Asked) (o : Option (Sending (ById Asked))) → Behind old x y
     → Behind old (sent_on x target call o) (sent_on y target call o)
 behind_send old x y target call None h = h
 behind_send old x y target call (Some s) h = record { settled = h.settled; client = refl }
 
--- settlements before it stay before it over what a step settles
+-- if `Behind` holds of two courses, it still does after both settle the same
 behind_settled : (old : List (Settlement Asked)) (x y : Course Asked) (s : Settled Asked (ById Asked)) → Behind old x y → Behind old (settled_on x s) (settled_on y s)
 behind_settled old x y s h = record { settled = ap (λ l. l ++ s.settlements) h.settled ∙ append_assoc old y.settlements s.settlements; client = refl }
 
--- settlements before it stay before it over a step
+-- if `Behind` holds of two courses, it still does after both make one step
 behind_step : (width : ℕ) (old : List (Settlement Asked)) (x y : Course Asked) (step : Step Asked) → Behind old x y → Behind old (goes width x step) (goes width y step)
 behind_step width old x y (Send target call deadline) h =
     subst (λ c. Behind old (sent_on x target call (sends width c target call deadline)) (sent_on y target call (sends width y.client target call deadline))) (sym h.client)
@@ -61,7 +61,7 @@ behind_step width old x y (Expire now) h = record { settled = h.settled; client 
 behind_step width old x y Restart h =
     subst (λ c. Behind old (settled_on x (restarts c)) (settled_on y (restarts y.client))) (sym h.client) (behind_settled old x y (restarts y.client) h)
 
--- settlements before it stay before it over all steps
+-- if `Behind` holds of two courses, it still does after both make these steps
 behind_all : (width : ℕ) (old : List (Settlement Asked)) (steps : List (Step Asked)) (x y : Course Asked) → Behind old x y → Behind old (course width x steps) (course width y steps)
 behind_all width old [] x y h = h
 behind_all width old (step ∷ steps) x y h = behind_all width old steps _ _ (behind_step width old x y step h)
@@ -189,15 +189,15 @@ module _ {State : Type 0} (width : ℕ) (ends : Ends State) where
 
     -- a run that has synchronized is faithful, and leaves lines among which the next run may begin
     record Begins (u : UnderWay State) (r : Run State) : Type 0 where
-      own : IsOwnIf width ends Good kept [] (stood width ends u r) r.moves
-      lines : AreLines Good (left_if width ends [] (stood width ends u r) r.moves)
-      may : MayBegin (left_if width ends [] (stood width ends u r) r.moves)
+      own : IsOwnIf width ends Good kept [] (after_turns width ends u r) r.moves
+      lines : AreLines Good (left_if width ends [] (after_turns width ends u r) r.moves)
+      may : MayBegin (left_if width ends [] (after_turns width ends u r) r.moves)
 
     -- if the word isn't in flight, a run whose null procedures are all answered has begun as `Begins` says
     begins_own : (u : UnderWay State) (r : Run State) → AreLines Good u → MayBegin u → AreTurns ends Good kept r.turns (begins u)
-        → ArePossible ends Good kept (by_ids width ends) r.moves (ids_begun (leaves (stood width ends u r))) → (stood width ends u r).left ≡ [] → Begins u r
+        → ArePossible ends Good kept (by_ids width ends) r.moves (ids_begun (leaves (after_turns width ends u r))) → (after_turns width ends u r).left ≡ [] → Begins u r
     begins_own u r lines may ts possible e =
-        let s = stood width ends u r in
+        let s = after_turns width ends u r in
         let clean = begins_cleanly ends Good kept is u r.turns lines ts may e in
         let good = (left_lines ends Good kept is u r.turns lines ts).good in
         let is_clean : IsClean Good kept (leaves s) = record { good = good; up = clean_up s.up clean.up; down = clean_down s.down clean.down; keeps = clean.keeps } in
@@ -343,7 +343,7 @@ module _ {State : Type 0} (width : ℕ) (ends : Ends State) where
         let p : Part State = record { before = u; run = r } in
         let after = left_by_run width ends u r in
         let pass = passes p _ (events_over width ends after (next ∷ others)) refl lines may possible.0.0 possible.0.1 h in
-        let s = stood width ends u r in
+        let s = after_turns width ends u r in
         let now = subst (λ l. AreLines Good (left_if width ends l s r.moves)) (sym pass.done) pass.begins.lines in
         let again = subst (λ l. MayBegin (left_if width ends l s r.moves)) (sym pass.done) pass.begins.may in
         passed_holds p (record { before = after; run = next }) (parts width ends (left_by_run width ends after next) others) (events_over width ends after (next ∷ others)) safe.0 pass

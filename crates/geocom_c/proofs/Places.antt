@@ -1,5 +1,5 @@
--- Two lists side by side, one element further. `FirstAre Is xs ys`: the first items of `xs` go with those of `ys`, one for one,
--- if an item of `xs` and one of `ys` "go together" if `Is` holds of them.
+-- Two lists side by side, one element further. `FirstAre Is xs ys` says that the first items of `xs` go with those of `ys`, one
+-- for one. An item of `xs` goes with one of `ys` if `Is` holds of the two.
 use Rattle.std.proofs.Common.{◌≡◌, ℕ, zero, suc, ◌<◌, ◌≤◌, List, [], ◌∷◌, ◌++◌, length, take, refl, subst, arith}
 use Rattle.std.specs.Prelude.{Some, slice_get, slice_set}
 use Rattle.geocom_c.specs.FirstAre.{FirstAre}

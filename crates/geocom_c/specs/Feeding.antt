@@ -7,13 +7,16 @@ use Rattle.gc_lines.specs.declared.frame.Frame.TheVariants.{Line, Cleared, Overl
 use Rattle.gc_lines.specs.Readers.{reply_at}
 use Rattle.gc_lines.specs.Replies.{ReplyFields}
 use Rattle.gc_catalogue.specs.declared.asked.Asked.{Asked}
-use Rattle.gc_client.specs.Rule.{Settlement, Windowed, heard, hears, fits}
+use Rattle.gc_client.specs.Rule.{Settlement, Windowed, heard, hears, fits, restarts}
 use Rattle.gc_client.specs.declared.window.TheConstants.{WINDOW}
 use Rattle.geocom_c.specs.FirstAre.{FirstAre}
 use Rattle.geocom_c.specs.Settled.{IsRecord}
+use Rattle.geocom_c.specs.State.{StandsFor}
+use Rattle.geocom_c.specs.declared.answers.GeocomCount.{GeocomCount}
 use Rattle.geocom_c.specs.declared.answers.GeocomHeard.{GeocomHeard}
 use Rattle.geocom_c.specs.declared.header.TheConstants.{TEXT_ROOM, MORE, SETTLED, STRAY, UNREAD, CLEARED, OVERLONG}
 use Rattle.geocom_c.specs.declared.settled.GeocomSettlement.{GeocomSettlement}
+use Rattle.geocom_c.specs.declared.state.GeocomClient.{GeocomClient}
 
 -- there is room for what a line can settle
 pub record HasRoom (settlements : List GeocomSettlement) (text : List ℕ) : Type 0 where
@@ -75,3 +78,17 @@ pub record IsFed (c : Windowed Asked) (frame : Frame) (r : GeocomHeard) (records
   pub count : r.count ≡ length (settled_by c frame)
   pub told : FirstAre (IsRecord text) records (settled_by c frame)
   pub front : IsInFront frame r.count text
+
+-- what a feed returns for bytes without a line feed, all of which it used
+abbrev pub unended : (used : ℕ) → GeocomHeard
+unended used = record { used = used; fault = 0; count = 0; kind = MORE; line_fault = 0 }
+
+-- a frame was fed, by this many bytes, and after it no byte is left of a line
+abbrev pub FeedsFrame : Windowed Asked → Frame → (used : ℕ) → (state : GeocomClient) → GeocomHeard → (records : List GeocomSettlement) → (text : List ℕ) → Type 0
+FeedsFrame c frame used state r records text = (r.used ≡ used) × IsFed c frame r records text × StandsFor state (behind c frame) []
+
+-- a client was restarted: the state is then the rule's, and each request that was outstanding has a record
+abbrev pub HasRestarted : Windowed Asked → (state : GeocomClient) → (told : GeocomCount) → (records : List GeocomSettlement) → Type 0
+HasRestarted c state told records =
+    (told.fault ≡ 0) × StandsFor state (record c { ids = (restarts c.ids).client }) []
+    × (told.count ≡ length (restarts c.ids).settlements) × FirstAre (IsRecord []) records (restarts c.ids).settlements

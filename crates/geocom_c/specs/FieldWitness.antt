@@ -106,6 +106,6 @@ pub record AreInField {State : Type 0} (ends : Ends State) (Good : State → Typ
 -- there are such calls over an instrument that counts, each state of which is a good one, with each procedure that isn't in the table, and over the simulator as it is at the start
 pub record SomeCallsAreInField : Type 0 where
   pub any :
-      (raw : RawCall) → AreInField counting AnyState kept_by (record { count = 27; keeps = None }) chain.begun (raw_second raw) (Raw raw) chain.first chain.second
+      (raw : RawCall) → AreInField counting AnyState kept_by (record { count = 27; keeps = None }) chain.null_replies (raw_second raw) (Raw raw) chain.first chain.second
   pub simulator :
       AreInField ends IsFittingState kept_of simulator_opening replies table_second (Table InstrumentNo) (codes "%R1P,0,0:0,123456") (codes "%R1P,0,1:0,123456")

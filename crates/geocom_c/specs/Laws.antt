@@ -34,7 +34,7 @@ abbrev pub MayBegin : {State : Type 0} → UnderWay State → Type 0
 MayBegin u = IsSubsequence the_word (ids_under_way u) → ⊥
 
 module _ {State : Type 0} (width : ℕ) (ends : Ends State) (Good : State → Type 0) (kept : State → Option KeptReply) where
-  -- if the answer `line` of settlement `s` comes from, over the runs `ps`: it settled request m of run k, which has the
+  -- where the answer `line` of settlement `s` comes from, over the runs `ps`: it settled request m of run k, which has the
   -- settlement's target and call, and is none of the eight null procedures; and the instrument made this line on executing that
   -- very request
   pub record IsItsOwn (ps : List (Part State)) (s : Settlement Asked) (line : List ℕ) : Type 0 where

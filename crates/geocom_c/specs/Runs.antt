@@ -10,7 +10,7 @@ use Rattle.gc_instrument.specs.State.{KeptReply}
 use Rattle.gc_world.specs.Clients.{by_ids}
 use Rattle.gc_field.specs.World.{Ends, World}
 use Rattle.gc_field.specs.Begin.{Aged, AreTurns, Asks, Comes, Foreign, Reaches, Up_lose, Up_repeat, Down_lose, Down_repeat, Anew, Changes, Model, Turn, UnderWay, begins, leaves, turns}
-use Rattle.gc_field.specs.Beginnings.{Run, left_by_run, stood}
+use Rattle.gc_field.specs.Beginnings.{Run, left_by_run, after_turns}
 use Rattle.gc_field.specs.Begun.{behind, ids_begun}
 use Rattle.gc_field.specs.Field.{ArePossible, seen}
 use Rattle.geocom_c.specs.Steps.{Event, Null, Came, Went}
@@ -61,7 +61,7 @@ module _ {State : Type 0} (width : ℕ) (ends : Ends State) where
 
   -- the state of a run's synchronization, once that is over or the run was ended while it synchronized
   abbrev pub begun_at : Part State → Model State
-  begun_at p = stood width ends p.before p.run
+  begun_at p = after_turns width ends p.before p.run
 
   -- the world after a run
   abbrev pub world : Part State → World (ById Asked) State
@@ -81,7 +81,7 @@ module _ {State : Type 0} (width : ℕ) (ends : Ends State) where
   abbrev pub ArePossibleRuns : (State → Type 0) → (State → Option KeptReply) → UnderWay State → List (Run State) → Type 0
   ArePossibleRuns Good kept u [] = Unit {0}
   ArePossibleRuns Good kept u (r ∷ rs) =
-      (AreTurns ends Good kept r.turns (begins u) × ArePossible ends Good kept (by_ids width ends) r.moves (ids_begun (leaves (stood width ends u r))))
+      (AreTurns ends Good kept r.turns (begins u) × ArePossible ends Good kept (by_ids width ends) r.moves (ids_begun (leaves (after_turns width ends u r))))
       × ArePossibleRuns Good kept (left_by_run width ends u r) rs
 
   -- What they settle.

@@ -2,11 +2,11 @@
 
 ghost use Rattle.std.specs.Prelude.{◌≡◌, ◌≢◌, ◌↔◌, ◌<◌, ◌≤◌, ℕ, List, [], length, take, drop, Some, None, if◌then◌else◌};
 ghost use Rattle.gc_catalogue.specs.declared.asked.Asked.{Asked};
-ghost use Rattle.gc_client.specs.Rule.{Windowed, IsWidth, expires, expiring, deadlines, IsEarliest};
+ghost use Rattle.gc_client.specs.Rule.{Windowed, IsWidth, deadlines, IsEarliest};
 ghost use Rattle.gc_client.specs.Rule;
 ghost use Rattle.gc_client.specs.Beginning.{the_word};
 ghost use Rattle.geocom_c.specs.State.{StandsFor, IsAstray, left_of};
-ghost use Rattle.geocom_c.specs.Deadlines.{earliest_in};
+ghost use Rattle.geocom_c.specs.Deadlines.{HasExpired, earliest_in};
 ghost use Rattle.geocom_c.specs.declared.header.TheConstants.{VERSION, NO_WIDTH, NO_ROOM, NO_CLIENT};
 ghost use Rattle.gc_client.specs.declared.window.TheConstants.{WINDOW};
 
@@ -67,8 +67,7 @@ pub extern "C" fn geocom_client_expire(
     targets: &mut [u32],
 ) -> GeocomCount
     ensures expired { WINDOW ≤ length targets.old → (c : Windowed Asked) (rest : List ℕ) → StandsFor state.old c rest
-        → (result.fault ≡ 0) × StandsFor state.new (record c { ids = expires c.ids now }) rest
-        × (result.count ≡ length (expiring now c.ids.waiting)) × (take result.count targets.new ≡ expiring now c.ids.waiting) }
+        → HasExpired c rest now state.new result targets.new }
     ensures room { (result.fault ≡ NO_ROOM) ↔ (length targets.old < WINDOW) }
     ensures astray { (result.fault ≡ NO_CLIENT) ↔ ((WINDOW ≤ length targets.old) × IsAstray state.old) }
     ensures done { result.fault ≡ 0 → (c : Windowed Asked) × (rest : List ℕ) × StandsFor state.old c rest }

@@ -4,16 +4,14 @@ ghost use Rattle.std.specs.Prelude.{◌≡◌, ◌≢◌, ◌↔◌, ◌<◌, �
 ghost use Rattle.std.specs.List.{position};
 ghost use Rattle.gc_lines.specs.Frames.{is_line_feed, frame_of};
 ghost use Rattle.gc_catalogue.specs.declared.asked.Asked.{Asked};
-ghost use Rattle.gc_client.specs.Rule.{Windowed, restarts};
+ghost use Rattle.gc_client.specs.Rule.{Windowed};
 ghost use Rattle.gc_client.specs.Beginning.{the_word};
 ghost use Rattle.gc_client.specs.declared.window.TheConstants.{WINDOW};
 ghost use Rattle.geocom_c.specs.Beginning.{anew};
-ghost use Rattle.geocom_c.specs.FirstAre.{FirstAre};
 ghost use Rattle.geocom_c.specs.Rest.{IsCut, IsRest};
 ghost use Rattle.geocom_c.specs.State.{StandsFor, IsAstray, left_of};
-ghost use Rattle.geocom_c.specs.Settled.{IsRecord};
-ghost use Rattle.geocom_c.specs.Feeding.{HasRoom, IsFed, behind};
-ghost use Rattle.geocom_c.specs.declared.header.TheConstants.{NO_ROOM, NO_CLIENT, MORE};
+ghost use Rattle.geocom_c.specs.Feeding.{FeedsFrame, HasRestarted, HasRoom, IsFed, behind, unended};
+ghost use Rattle.geocom_c.specs.declared.header.TheConstants.{NO_ROOM, NO_CLIENT};
 
 use crate::answers::{GeocomCount, GeocomHeard, counted, heard, refused, unheard, using};
 use crate::header::{
@@ -105,11 +103,9 @@ fn feed(
     requires room { HasRoom settlements.old text.old }
     requires cut { IsCut state.old.rest }
     ensures more { (rest : List ℕ) → StandsFor state.old client rest → position is_line_feed bytes.now ≡ None
-        → (result ≡ record { used = length bytes.now; fault = 0; count = 0; kind = MORE; line_fault = 0 })
-        × StandsFor state.new client (rest ++ bytes.now) }
+        → (result ≡ unended (length bytes.now)) × StandsFor state.new client (rest ++ bytes.now) }
     ensures frame { (rest : List ℕ) (at : ℕ) → StandsFor state.old client rest → position is_line_feed bytes.now ≡ Some at
-        → (result.used ≡ at + 1) × IsFed client (frame_of (rest ++ take at bytes.now)) result settlements.new text.new
-        × StandsFor state.new (behind client (frame_of (rest ++ take at bytes.now))) [] }
+        → FeedsFrame client (frame_of (rest ++ take at bytes.now)) (at + 1) state.new result settlements.new text.new }
     ensures fault { result.fault ≡ 0 }
     ensures answered { state.new.answered ≡ state.old.answered }
     ensures used { (result.used ≤ length bytes.now) × (0 < length bytes.now → 0 < result.used) }
@@ -148,13 +144,10 @@ pub extern "C" fn geocom_client_feed(
     text: &mut [u8],
 ) -> GeocomHeard
     ensures more { HasRoom settlements.old text.old → (c : Windowed Asked) (rest : List ℕ) → StandsFor state.old c rest
-        → position is_line_feed bytes.now ≡ None
-        → (result ≡ record { used = length bytes.now; fault = 0; count = 0; kind = MORE; line_fault = 0 })
-        × StandsFor state.new c (rest ++ bytes.now) }
+        → position is_line_feed bytes.now ≡ None → (result ≡ unended (length bytes.now)) × StandsFor state.new c (rest ++ bytes.now) }
     ensures frame { HasRoom settlements.old text.old → (c : Windowed Asked) (rest : List ℕ) (at : ℕ) → StandsFor state.old c rest
         → position is_line_feed bytes.now ≡ Some at
-        → (result.used ≡ at + 1) × IsFed c (frame_of (rest ++ take at bytes.now)) result settlements.new text.new
-        × StandsFor state.new (behind c (frame_of (rest ++ take at bytes.now))) [] }
+        → FeedsFrame c (frame_of (rest ++ take at bytes.now)) (at + 1) state.new result settlements.new text.new }
     ensures used { (result.used ≤ length bytes.now) × (result.fault ≡ 0 → 0 < length bytes.now → 0 < result.used) }
     ensures room { (result.fault ≡ NO_ROOM) ↔ (HasRoom settlements.old text.old → ⊥) }
     ensures astray { (result.fault ≡ NO_CLIENT) ↔ (HasRoom settlements.old text.old × IsAstray state.old) }
@@ -201,9 +194,7 @@ pub extern "C" fn geocom_client_restart(
     settlements: &mut [GeocomSettlement],
 ) -> GeocomCount
     ensures restarted { WINDOW ≤ length settlements.old → (c : Windowed Asked) (rest : List ℕ) → StandsFor state.old c rest
-        → (result.fault ≡ 0) × StandsFor state.new (record c { ids = (restarts c.ids).client }) []
-        × (result.count ≡ length (restarts c.ids).settlements)
-        × FirstAre (IsRecord []) settlements.new (restarts c.ids).settlements }
+        → HasRestarted c state.new result settlements.new }
     ensures begins { result.fault ≡ 0 → left_of state.new ≡ anew (left_of state.old) }
     ensures room { (result.fault ≡ NO_ROOM) ↔ (length settlements.old < WINDOW) }
     ensures astray { (result.fault ≡ NO_CLIENT) ↔ ((WINDOW ≤ length settlements.old) × IsAstray state.old) }

@@ -12,7 +12,7 @@ use arrayvec::ArrayVec;
 use gc_lines::{Line, append, read_reply};
 use gc_values::{Items, MOST_ITEMS, split};
 
-/// If an item stands in a text.
+/// Where an item is in a text, and its length, in bytes.
 #[repr(C)]
 #[derive(Clone, Copy)]
 pub struct GeocomItem {
@@ -26,7 +26,7 @@ pub(crate) const NOWHERE: GeocomItem = GeocomItem {
     length: 0,
 };
 
-// A line with the items of its parameters after it, how many these are, and if they are.
+// A line with the items of its parameters after it, how many these are, and where each is.
 #[derive(Drop)]
 pub(crate) struct Told {
     pub text: ArrayVec<u8, TEXT_ROOM>,
@@ -34,7 +34,7 @@ pub(crate) struct Told {
     pub places: [GeocomItem; MOST_ITEMS],
 }
 
-// Appends items to a text, and writes into `places` if each is.
+// Appends items to a text, and writes into `places` where each is.
 fn put_items(text: &mut ArrayVec<u8, TEXT_ROOM>, places: &mut [GeocomItem], items: &Items<'_>)
     requires few { length items.now ≤ length places.old }
     requires room { array_vec_len text.old + total items.now ≤ TEXT_ROOM }
@@ -52,7 +52,7 @@ fn put_items(text: &mut ArrayVec<u8, TEXT_ROOM>, places: &mut [GeocomItem], item
     }
 }
 
-// Appends the items of parameters, if these are a list, and notes how many there are and if they are.
+// Appends the items of parameters, if these are a list, and notes how many there are and where each is.
 fn list(told: &mut Told, params: &[u8])
     requires { array_vec_len told.old.text + length params.now ≤ TEXT_ROOM }
     ensures front { (more : List ℕ) × (told.new.text.items ≡ told.old.text.items ++ more) }

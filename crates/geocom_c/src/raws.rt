@@ -9,9 +9,9 @@ ghost use Rattle.gc_catalogue.specs.declared.raw.RawCall.{RawCall};
 ghost use Rattle.gc_catalogue.specs.declared.raw.RawFault.{RawFault};
 ghost use Rattle.gc_catalogue.specs.Asked.{IsAsked};
 ghost use Rattle.gc_catalogue.specs.Raws.{IsRawRefusal};
-ghost use Rattle.gc_client.specs.Rule.{Windowed, sends};
+ghost use Rattle.gc_client.specs.Rule.{Windowed};
 ghost use Rattle.geocom_c.specs.State.{StandsFor, IsAstray, left_of};
-ghost use Rattle.geocom_c.specs.Sending.{IsSent, raw_number};
+ghost use Rattle.geocom_c.specs.Sending.{SendsEach, raw_number};
 ghost use Rattle.geocom_c.specs.declared.header.TheConstants.{LINE_ROOM, WINDOW_FULL, NO_ROOM, NO_CLIENT, NOT_BEGUN};
 
 use crate::answers::{GeocomCount, refused};
@@ -55,9 +55,7 @@ pub extern "C" fn geocom_client_send_raw(
     params: &[u8],
     line: &mut [u8],
 ) -> GeocomCount
-    ensures sent { LINE_ROOM ≤ length line.old → (c : Windowed Asked) (rest : List ℕ) (raw : RawCall) → StandsFor state.old c rest
-        → left_of state.old ≡ [] → IsAsked procedure params.now (Raw raw)
-        → IsSent c rest (Raw raw) (sends c.width c.ids target (Raw raw) deadline)
+    ensures sent { LINE_ROOM ≤ length line.old → SendsEach Raw (λ raw. IsAsked procedure params.now (Raw raw)) target deadline
         (record { old = state.old; new = state.new; before = line.old; after = line.new; told = result }) }
     ensures given { result.fault ≡ 0 → take result.count line.new
         ≡ with_end (request_text (record { rpc = procedure; id = Some state.old.next; params = params.now })) }

@@ -12,7 +12,7 @@ ghost use Rattle.gc_catalogue.specs.Calls.{IsCall, IsRefusal};
 ghost use Rattle.gc_client.specs.Rule.{Windowed, sends};
 ghost use Rattle.geocom_c.specs.Rest.{IsRest};
 ghost use Rattle.geocom_c.specs.State.{StandsFor, IsAstray, left_of};
-ghost use Rattle.geocom_c.specs.Sending.{IsSent};
+ghost use Rattle.geocom_c.specs.Sending.{IsSent, SendsEach};
 ghost use Rattle.geocom_c.specs.declared.header.TheConstants.{LINE_ROOM, WINDOW_FULL, NO_ROOM, NO_CLIENT, NOT_BEGUN};
 
 use crate::answers::{GeocomCount, counted, refused};
@@ -71,9 +71,7 @@ pub extern "C" fn geocom_client_send(
     params: &[u8],
     line: &mut [u8],
 ) -> GeocomCount
-    ensures sent { LINE_ROOM ≤ length line.old → (c : Windowed Asked) (rest : List ℕ) (call : Call) → StandsFor state.old c rest
-        → left_of state.old ≡ [] → IsCall procedure params.now call
-        → IsSent c rest (Table call) (sends c.width c.ids target (Table call) deadline)
+    ensures sent { LINE_ROOM ≤ length line.old → SendsEach Table (IsCall procedure params.now) target deadline
         (record { old = state.old; new = state.new; before = line.old; after = line.new; told = result }) }
     ensures call { LINE_ROOM ≤ length line.old → (c : Windowed Asked) (rest : List ℕ) (e : CallFault) → StandsFor state.old c rest
         → left_of state.old ≡ [] → IsRefusal procedure params.now e → result.fault ≡ refusal_number e }

@@ -31,7 +31,7 @@ pub struct GeocomSettlement {
     pub line_length: u16,
     /// How many items the answer's value has, or the parameters of an answer to a raw request.
     pub items: u16,
-    /// If they are in the text.
+    /// Where they are in the text.
     pub places: [GeocomItem; MOST_ITEMS],
     /// [`ANSWERED`], [`LATE`] or [`LOST`].
     pub outcome: u8,

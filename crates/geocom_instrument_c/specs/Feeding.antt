@@ -9,21 +9,21 @@ use Rattle.geocom_instrument_c.specs.Bench.{BenchState}
 use Rattle.geocom_instrument_c.specs.declared.header.TheConstants.{NO_INSTRUMENT}
 use Rattle.geocom_instrument_c.specs.declared.replied.GeocomReplied.{GeocomReplied}
 
--- there is no reply, and so many bytes were used
+-- there is no reply, and this many bytes were used
 pub record IsNothing (used : ℕ) (r : GeocomReplied) : Type 0 where
   pub well : r.fault ≡ 0
   pub used_are : r.used ≡ used
   pub none : r.count ≡ 0
   pub unset : r.due ≡ 0
 
--- there is no instrument that hears: no byte was used
+-- no instrument is there, and no byte was used
 pub record IsUnheard (r : GeocomReplied) : Type 0 where
   pub refused : r.fault ≡ NO_INSTRUMENT
   pub used_are : r.used ≡ 0
   pub none : r.count ≡ 0
   pub unset : r.due ≡ 0
 
--- the text is the reply, which goes out at the moment `due`, and so many bytes were used
+-- the text is the reply, which goes out at the moment `due`, and this many bytes were used
 pub record IsSent (text : List ℕ) (used due : ℕ) (r : GeocomReplied) : Type 0 where
   pub well : r.fault ≡ 0
   pub used_are : r.used ≡ used
@@ -49,7 +49,7 @@ pub record IsKept (before : BenchState) (bytes : List ℕ) (after : BenchState) 
   pub more : (rest : List ℕ) → StandsFor before.under_way rest → StandsFor after.under_way (rest ++ bytes)
 
 -- bytes whose first line feed stands at this place: the instrument hears the frame that it ends, at the moment `now`, and what it replies
--- is the answer. All bytes through the line feed were used, and no byte is under way
+-- is the answer. All bytes through the line feed were used, and no byte of a line is left
 pub record IsAnswered (before : BenchState) (bytes : List ℕ) (at now : ℕ) (after : BenchState) (r : GeocomReplied) : Type 0 where
   pub answers : (rest : List ℕ) → StandsFor before.under_way rest → Answers before.slow (frame_of (rest ++ take at bytes)) now after.slow (at + 1) r
   pub start : StandsFor after.under_way []

@@ -10,12 +10,12 @@ use Rattle.geocom_instrument_c.specs.Bench.{BenchState}
 use Rattle.geocom_instrument_c.specs.declared.header.TheConstants.{NO_INSTRUMENT}
 use Rattle.geocom_instrument_c.specs.declared.replied.GeocomMade.{GeocomMade}
 
--- the instrument is restarted, and no byte is under way
+-- the instrument is restarted, and no byte of a line is left
 pub record IsAnew (before after : BenchState) : Type 0 where
   pub slow : after.slow ≡ slow_restarted before.slow
   pub start : StandsFor after.under_way []
 
--- the same where there may be no instrument: then it is refused
+-- the same where there may be no instrument: without one the fault is that there is none
 pub record IsRestarted (before after : Option BenchState) (fault : ℕ) : Type 0 where
   pub absent : before ≡ None → (after ≡ None) × (fault ≡ NO_INSTRUMENT)
   pub present : (b : BenchState) → before ≡ Some b → (c : BenchState) × (after ≡ Some c) × IsAnew b c × (fault ≡ 0)

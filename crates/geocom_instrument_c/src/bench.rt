@@ -1,4 +1,5 @@
-//! An instrument over bytes: that of a scene, and the bytes of a line under way. What a call does is here; `exports.rt` hands it to C.
+//! An instrument over bytes: that of a scene, and the bytes of an incomplete line. What a call does is here; `exports.rt` hands
+//! it to C.
 
 ghost use Rattle.std.specs.Prelude.{◌≡◌, [], None};
 ghost use Rattle.gc_lines.specs.Assembler.{StandsFor};
@@ -49,7 +50,7 @@ impl Bench {
         answer(&mut self.slow, frame, now, used)
     }
 
-    // Restarts the instrument, and drops the bytes of a line under way.
+    // Restarts the instrument, and discards the bytes of an incomplete line.
     fn restart(&mut self)
         ensures { IsAnew self.old self.new }
     {
@@ -58,7 +59,7 @@ impl Bench {
     }
 }
 
-// What the instrument says to a frame that came at this moment, with so many bytes used.
+// What the instrument replies to a frame that came at this moment. `used` is how many bytes of the feed were used.
 fn answer(slow: &mut SlowInstrument, frame: Lent<'_>, now: u64, used: usize) -> GeocomReplied
     ensures { Answers slow.old (lent_seen frame.entry) now slow.new used result }
 {
@@ -107,7 +108,7 @@ impl GeocomInstrument {
         bench.feed(bytes, now)
     }
 
-    /// Restarts the instrument, if there is one, and gives 0 then.
+    /// Restarts the instrument, if there is one. Returns 0, or the fault that there is none.
     pub(crate) fn restart(&mut self) -> u32
         ensures { IsRestarted self.old self.new result }
     {

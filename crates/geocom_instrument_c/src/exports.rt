@@ -53,7 +53,8 @@ pub unsafe extern "C" fn geocom_instrument_feed(
     GeocomInstrument::feed(&mut *(at as *mut GeocomInstrument), bytes, now)
 }
 
-/// Restarts the instrument, and drops the bytes of a line under way. The scene goes on: its counts, its targets and its noise stay.
+/// Restarts the instrument, and discards the bytes of an incomplete line. The scene goes on: its counts, its targets and its
+/// noise stay.
 ///
 /// Fault 69: no instrument is there.
 #[unsafe(no_mangle)]

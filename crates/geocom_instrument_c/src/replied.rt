@@ -25,7 +25,7 @@ pub struct GeocomReplied {
 }
 
 impl GeocomReplied {
-    /// No reply, and so many bytes used.
+    /// No reply, and this many bytes were used.
     pub(crate) fn nothing(used: usize) -> GeocomReplied
         ensures { IsNothing used result }
     {
@@ -38,7 +38,7 @@ impl GeocomReplied {
         }
     }
 
-    /// There is no instrument that hears.
+    /// No instrument is there, and no byte was used.
     pub(crate) fn unheard() -> GeocomReplied
         ensures { IsUnheard result }
     {
@@ -51,7 +51,7 @@ impl GeocomReplied {
         }
     }
 
-    /// This reply, which goes out at this moment, and so many bytes used.
+    /// This reply, which goes out at the moment `due`, and this many bytes were used.
     pub(crate) fn sent(used: usize, text: &[u8], due: u64) -> GeocomReplied
         requires { length text.now ≤ 514 }
         ensures { IsSent text.now used due result }

@@ -26,19 +26,19 @@ returns-in-Ok-Plain-clause-told g c =
 
 pub returns-in-Ok-Ruled-clause-done : goal.returns-in-Ok-Ruled-clause-done
 returns-in-Ok-Ruled-clause-done g c =
-    IfOk-weaker c.drill_ruled_within.result _ _
+    IfOk-weaker c.drill_within-in-Ok-Ruled.result _ _
     (λ status done zero. inr (
       (λ none. never_ruled c.staged_of.result c.in-Ok-Ruled.field-0 c.in-Ok-Ruled.instrument _ c.in-Ok-Ruled.is c.in-Ok-Ruled.field-0-is
           (c.staged_of.ensures.simulator none)),
       (c.in-Ok-Ruled.instrument, done zero),
-    )) c.drill_ruled_within.ensures.done
+    )) c.drill_within-in-Ok-Ruled.ensures.done
 
 pub returns-in-Ok-Ruled-clause-told : goal.returns-in-Ok-Ruled-clause-told
 returns-in-Ok-Ruled-clause-told g c =
-    IfOk-weaker c.drill_ruled_within.result _ _
+    IfOk-weaker c.drill_within-in-Ok-Ruled.result _ _
     (λ status told. inr (inr (
       (λ none. never_ruled c.staged_of.result c.in-Ok-Ruled.field-0 c.in-Ok-Ruled.instrument _ c.in-Ok-Ruled.is c.in-Ok-Ruled.field-0-is
           (c.staged_of.ensures.simulator none)),
       (c.in-Ok-Ruled.instrument, told),
     )))
-    c.drill_ruled_within.ensures.told
+    c.drill_within-in-Ok-Ruled.ensures.told

@@ -3,7 +3,7 @@ use Rattle.gc_lines.specs.Answering.{ports_of}
 use Rattle.gc_lines.specs.Lines.{with_end}
 use Rattle.gc_ask.specs.Asking.{taken_by}
 use Rattle.gc_ask.specs.Links.{no_ports}
-use Rattle.gc_ask.proofs.Ends.{sends_no, step_none, step_sent}
+use Rattle.gc_ask.proofs.Ends.{sends_not_too_many, step_none, step_sent}
 use Rattle.gc_ask.proofs.Exchanging.{takes_sent}
 use Rattle.gc_ask.proofs.link.AloneLink.send.Goals as goal
 
@@ -23,5 +23,5 @@ returns-clause-ends g c =
     )
 
 pub returns-clause-too_many : goal.returns-clause-too_many
-returns-clause-too_many g c is = absurd (sends_no c.args.place (with_end c.args.request.now.items) (taken_by g.O.Sink c.args.self.now.sink.now)
+returns-clause-too_many g c is = absurd (sends_not_too_many c.args.place (with_end c.args.request.now.items) (taken_by g.O.Sink c.args.self.now.sink.now)
     (taken_by g.O.Sink c.send_line.new.sink) c.send_line.result c.send_line.ensures is)

@@ -2,7 +2,7 @@ use Rattle.std.proofs.Common.{false, true, ◌≡◌, Err, inl, inr, refl}
 use Rattle.gc_lines.specs.Answering.{ports_of}
 use Rattle.gc_lines.specs.Lines.{with_end}
 use Rattle.gc_ask.specs.Asking.{taken_by}
-use Rattle.gc_ask.proofs.Ends.{sends_no, step_none, step_sends}
+use Rattle.gc_ask.proofs.Ends.{sends_not_too_many, step_none, step_sends}
 use Rattle.gc_ask.proofs.Exchanging.{takes_answered, takes_sent}
 use Rattle.gc_ask.proofs.looped.LoopLink.send.Goals as goal
 
@@ -26,7 +26,7 @@ returns-in-Err-clause-ends g c =
     )
 
 pub returns-in-Err-clause-too_many : goal.returns-in-Err-clause-too_many
-returns-in-Err-clause-too_many g c is = absurd (sends_no c.args.place (with_end c.args.request.now.items) (taken_by g.B.Sink c.args.self.now.client_out.now)
+returns-in-Err-clause-too_many g c is = absurd (sends_not_too_many c.args.place (with_end c.args.request.now.items) (taken_by g.B.Sink c.args.self.now.client_out.now)
     (taken_by g.B.Sink c.send_line.new.sink) (Err c.in-Err.fault) c.in-Err.ensures is)
 
 pub returns-clause-takes : goal.returns-clause-takes

@@ -15,7 +15,7 @@ use std::{io, thread};
 /// is to be dropped, the writing end first reads it in, and the reading end passes it on as early. The reading end notes
 /// when bytes came.
 #[derive(Drop)]
-pub struct Hours {
+pub struct BusyClock {
     start: Instant,
     // Whether what comes while the instrument is busy is dropped.
     drops: bool,
@@ -36,14 +36,14 @@ struct Early {
     taken: usize,
 }
 
-impl Hours {
+impl BusyClock {
     /// A clock that starts now. It fails where the system's can't be read.
-    pub fn new<R: Clock>(rt: &R, drops: bool) -> io::Result<Hours> {
+    pub fn new<R: Clock>(rt: &R, drops: bool) -> io::Result<BusyClock> {
         let early = Early {
             bytes: ArrayVec::new(),
             taken: 0,
         };
-        Ok(Hours {
+        Ok(BusyClock {
             start: Instant::now(rt)?,
             drops,
             came: Cell::new(0),
@@ -101,7 +101,8 @@ impl Hours {
         }
     }
 
-    /// Hands on bytes that came while the instrument was busy, and notes that they came before it got free: how many.
+    /// Copies bytes that came while the instrument was busy into `buf`, notes that they came before it was free again, and returns
+    /// how many they are.
     pub(crate) fn take_early(&self, buf: &mut [u8]) -> usize
         ensures { result ≤ length buf.new }
     {
