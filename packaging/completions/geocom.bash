@@ -5,11 +5,11 @@ _geocom() {
     _init_completion || return
     local command=${words[1]:-} word given=
     if [ "$cword" -eq 1 ]; then
-        mapfile -t COMPREPLY < <(compgen -W 'exec check drill loop serve ask station --help --version' -- "$cur")
+        mapfile -t COMPREPLY < <(compgen -W 'exec check drill loop serve ask station rehearse --help --version' -- "$cur")
         return
     fi
     case $prev in
-    --scene | --log | --append)
+    --scene | --line | --log | --append)
         # `check --log` takes no file.
         if [ "$command" != check ]; then
             _filedir
@@ -20,7 +20,7 @@ _geocom() {
         mapfile -t COMPREPLY < <(compgen -W '1 2 3 4 5 6 7' -- "$cur")
         return
         ;;
-    --connections | --idle | --deadline | --every | --cycles | --quiet | --retries | --stale | --log-bytes) return ;;
+    --connections | --idle | --nights | --seed | --deadline | --every | --cycles | --quiet | --retries | --stale | --log-bytes) return ;;
     esac
     case $command in
     exec | loop) given='--scene --help' ;;
@@ -29,6 +29,7 @@ _geocom() {
     serve) given='--any-address --connections --keep --idle --scene --help' ;;
     ask) given='--help' ;;
     station) given='--width --deadline --every --cycles --quiet --retries --stale --until --csv --columns --json --append --sync --unchained --silent --check --log --log-bytes --help' ;;
+    rehearse) given='--nights --every --cycles --scene --line --seed --width --deadline --quiet --retries --stale --csv --columns --json --unchained --help' ;;
     *) return ;;
     esac
     # What can't be given behind what stands there.

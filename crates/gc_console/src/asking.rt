@@ -6,13 +6,13 @@ ghost use Rattle.gc_messages.specs.Streams.{are_open, ReportsClosed};
 
 use gc_lines::{Durable, Source};
 use gc_links::Place;
-use gc_measuring::{Appended, append_at, check_task_text, measure_at};
-use gc_messages::{Lossy, Noticed, Noting, Spot, Standard, Streams};
+use gc_measuring::{Appended, Spot, append_at, check_task_text, measure_at};
+use gc_messages::{Lossy, Noticed, Noting, Standard, Streams};
 use gc_station::Kept;
 use gc_subcommands::Asking;
 use gc_subcommands::ask::ask_place;
 use gc_subcommands::looped::loop_port;
-use gc_words::{LogPlace, Recording, Settings, Site};
+use gc_words::{Recording, Settings, Site};
 use std::alloc::Global;
 use std::cell::Cell;
 use std::fs::File;
@@ -147,11 +147,11 @@ fn measure_site<
 {
     let noticed = Cell::new(Noticed::nothing());
     let spot = Spot {
-        place: site.place,
+        site,
         noticed: &noticed,
     };
     let lossy = lossy_of(streams);
-    let (mut lossy, ended) = measure_recorded(rt, alloc, spot, site, station, recording, lossy);
+    let (mut lossy, ended) = measure_recorded(rt, alloc, spot, station, recording, lossy);
     let _ = spot.report(&mut lossy.messages);
     // The system's reason is reported only if the place couldn't be reached, or no run stopped for a fault.
     if !spot.is_unreached() {
@@ -170,7 +170,6 @@ fn measure_recorded<
     rt: &R,
     alloc: Global,
     spot: Spot<'_>,
-    site: Site<'_>,
     station: Settings,
     recording: Option<Recording<'_>>,
     streams: Streams<S, K, E>,
@@ -181,14 +180,12 @@ fn measure_recorded<
     let mut kept = Kept::new();
     match recording {
         None => {
-            let (streams, ended, _) = measure_at(
-                rt, alloc, spot, site.log, site.until, station, streams, &mut kept,
-            );
+            let (streams, ended, _) = measure_at(rt, alloc, spot, station, streams, &mut kept);
             (streams, ended)
         }
         Some(recording) => {
             let (streams, ended, appended) = append_at(
-                rt, alloc, spot, site.log, site.until, station, recording, streams, &mut kept,
+                rt, alloc, spot, station, recording, streams, &mut kept,
             );
             end_appending(appended);
             (streams, ended)

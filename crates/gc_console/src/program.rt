@@ -11,12 +11,14 @@ use clap::Error;
 use clap::error::ErrorKind;
 use gc_lines::{FromReader, ReadAhead, ToWriter};
 use gc_messages::{Noting, Standard, Streams, refuse_numbers, refuse_place, refuse_stale};
+use gc_nights::rehearse;
 use gc_subcommands::check::check;
 use gc_subcommands::drill::{Drilling, drill_scene};
 use gc_subcommands::exec::exec_scene;
 use gc_subcommands::serve::{Serving, serve_filled};
 use gc_subcommands::{Asked, Asking, Subcommand, asked_of};
 use gc_texts::RunFault;
+use gc_words::Rehearsal;
 use std::alloc::Global;
 use std::env::Args;
 use std::fs::File;
@@ -96,6 +98,7 @@ fn run_asked<
         Asked::Check { log } => run_check(log, streams),
         Asked::Drill(drilling) => run_drill(rt, alloc, drilling, streams),
         Asked::Serve(serving) => run_serve(rt, alloc, standard, serving, streams),
+        Asked::Rehearse(rehearsal) => run_rehearse(rt, alloc, rehearsal, streams),
         Asked::Over(asking) => run_over(rt, alloc, standard, asking, streams),
         Asked::Nowhere { serves } => refuse_place(serves, &mut streams.messages),
         Asked::Unnumbered => refuse_numbers(&mut streams.messages),
@@ -156,6 +159,29 @@ fn run_drill<R: Files, I: Read + Drop, O: Write + Drop, E: Write + Drop>(
     let mut source = FromReader::new(input);
     let mut sink = ToWriter::new(output);
     drill_scene(rt, alloc, drilling, &mut source, &mut sink, &mut messages)
+}
+
+// Rehearses a station.
+fn run_rehearse<R: Files, I: Read + Drop, O: Write + Drop, E: Write + Drop>(
+    rt: &R,
+    alloc: Global,
+    rehearsal: Rehearsal<'_>,
+    streams: Streams<I, O, E>,
+) -> io::Result<ExitCode>
+    ensures { IfOk result (λ status. exit_status status ≤ 1) }
+{
+    let Streams {
+        input,
+        output,
+        messages,
+    } = streams;
+    let streams = Streams {
+        input: FromReader::new(input),
+        output: ToWriter::new(output),
+        messages,
+    };
+    let (_, ended) = rehearse(rt, alloc, rehearsal, streams);
+    ended
 }
 
 // Serves a simulator, and reports how that ended; after a fault also what the system refused last, and why.

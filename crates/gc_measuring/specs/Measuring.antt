@@ -4,10 +4,10 @@
 use Rattle.std.specs.Prelude.{◌≡◌, ℕ, Bool, true, ◌⊎◌, List, [], ◌++◌, if◌then◌else◌, Option, Result, Ok, Err, codes}
 use Rattle.std.specs.Fmt.{decimal}
 use Rattle.std.specs.Io.KnownBytes.{Consumes, Appends}
-use Rattle.gc_texts.specs.WholeTexts.{Input}
+use Rattle.gc_texts.specs.WholeTexts.{Input, Gave}
 use Rattle.gc_measuring.specs.Choices.{plan_of}
 use Rattle.gc_measuring.specs.Stops.{stop_text, end_of_run}
-use Rattle.gc_measuring.specs.TaskTexts.{Gave, GivesTasks, RefusesTasks}
+use Rattle.gc_measuring.specs.TaskTexts.{GivesTasks, RefusesTasks}
 use Rattle.gc_words.specs.Stations.{begun_at}
 use Rattle.gc_words.specs.declared.layout.Layout.{Layout}
 use Rattle.gc_words.specs.declared.settings.Settings.{Settings}
@@ -113,7 +113,7 @@ Measures given station turns old new result =
 -- a source gave bytes, by at most one read for each and one for the end, and of these `Measures` holds, in at most this number
 -- of acts
 abbrev pub MeasuresText : Settings → ℕ → Places → Places → Result Tally Stop → Type 0
-MeasuresText station turns old new result = (given : List ℕ) × Gave given old.input new.input × Measures given station turns old new result
+MeasuresText station turns old new result = Gave old.input new.input (λ given. Measures given station turns old new result)
 
 -- a source gave bytes, by any number of reads, and of these `Measures` holds, in at most as many acts as a u64 counts
 abbrev pub MeasuresGiven : Settings → Places → Places → Result Tally Stop → Type 0

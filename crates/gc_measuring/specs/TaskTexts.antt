@@ -1,24 +1,18 @@
 -- A station's text that is read whole: this project's own.
-use Rattle.std.specs.Prelude.{◌≡◌, ℕ, ◌+◌, ◌<◌, ◌≤◌, ◌⊎◌, Bool, List, length}
-use Rattle.std.specs.Io.KnownBytes.{Consumes}
+use Rattle.std.specs.Prelude.{◌≡◌, ℕ, ◌<◌, ◌≤◌, ◌⊎◌, Bool, List, length}
 use Rattle.gc_words.specs.declared.choice.Choice.{Choice}
 use Rattle.gc_measuring.specs.declared.stop.Stop.{Stop}
 use Rattle.gc_measuring.specs.declared.stop.Stop.TheVariants.{Text, Empty, Line}
 use Rattle.gc_texts.specs.LineForms.{line_at}
 use Rattle.gc_texts.specs.Tasks.{IsTasks, TaskFault}
-use Rattle.gc_texts.specs.Texts.{end_reads}
 use Rattle.gc_texts.specs.Troubles.{IsTrouble}
-use Rattle.gc_texts.specs.WholeTexts.{Input, WasRead, RefusesText}
+use Rattle.gc_texts.specs.WholeTexts.{Input, Gave, WasRead, RefusesText}
 use Rattle.gc_texts.specs.declared.fault.RunFault.{RunFault}
 use Rattle.gc_texts.specs.declared.fault.RunFault.TheVariants.{Schedule}
 use Rattle.gc_texts.specs.declared.name.Name.{Name}
 use Rattle.gc_texts.specs.declared.near.Near.{Near}
 use Rattle.gc_texts.specs.declared.tasks.Task.{Task}
 use Rattle.gc_texts.specs.declared.trouble.Trouble.{Trouble}
-
--- a source gave these bytes, by at most one read for each, and one for the end
-abbrev pub Gave : List ℕ → Input → Input → Type 0
-Gave given old new = Consumes old.remaining new.remaining given × (new.reads ≤ old.reads + length given + end_reads new.ended)
 
 -- the stop by which a text with this fault is refused: for a faulty line, with the line's trouble
 abbrev pub IsRefusal : List ℕ → RunFault → Stop → Type 0
@@ -54,4 +48,4 @@ pub record GivesTasks (given : List ℕ) (old new : Input) (choice : Choice) (se
 
 -- a source gave a station's text that is measured by this choice
 abbrev pub IsCheckable : Choice → Input → Input → Type 0
-IsCheckable choice old new = (given : List ℕ) × (setup : ℕ) × (tasks : List Task) × (names : List Name) × Gave given old new × GivesTasks given old new choice setup tasks names
+IsCheckable choice old new = Gave old new (λ given. (setup : ℕ) × (tasks : List Task) × (names : List Name) × GivesTasks given old new choice setup tasks names)

@@ -47,6 +47,13 @@ pub record ReportsMeasuring {S K E : Type 0} (source : Source S) (sink : Sink K)
   pub fails : FailsAtOutput (sink.failed old.output) (sink.failed new.output) (with_fault end)
   pub counts : ReportsCounts end status (shown between) (shown new.messages)
 
+-- as `ReportsMeasuring` says, and then whether the log was lost (`is_lost`). `behind` are the messages before the report of the log
+abbrev pub ReportsLogged : {S K E : Type 0} → Source S → Sink K → (K → Bool) → (E → Option (List ℕ)) → Settings → (acts acts' : Option (List Act))
+    → (turns turns' : List Snapshot) → (old new : Streams S K E) → (is_lost : Bool) → (status : ℕ) → Type 0
+ReportsLogged {S = S} {K = K} {E = E} source sink lasts shown station acts acts' turns turns' old new is_lost status =
+    (behind : E) × ReportsMeasuring source sink lasts shown station acts acts' turns turns' old (record new { messages = behind }) status
+    × ReportsLoss is_lost (shown behind) (shown new.messages)
+
 -- a source gave a text to its end, and the run over its commands is done, or its end was asked for, over a link that recorded
 -- these acts
 pub record MeasuresAll {S K E : Type 0} (source : Source S) (sink : Sink K) (shown : E → Option (List ℕ)) (station : Settings)
@@ -121,8 +128,14 @@ pub record ReportsAppended {S F K E : Type 0} (source : Source S) (sink : Sink F
   pub filed : IsFiled sink old new begun ended file
   pub run : ReportsRun source sink lasts shown has_log (appended station) begun ended acts turns turns' status
 
--- a source gave a text to its end, and the run over its commands is done, or its end was asked for, which appended to a file. `old` and `new` are the streams of
--- the run's caller; `begun` and `ended` are the run's own, with the file as output (`IsFiled`)
+-- a file of records can't be had, which is reported, or a run appended to it, and that is
+abbrev pub ReportsAppending : {S F K E : Type 0} → Source S → Sink F → (F → Bool) → (E → Option (List ℕ)) → (has_log : Bool) → Settings → (old new : Streams S K E)
+    → Option F → Option (List Act) → (turns turns' : List Snapshot) → (status : ℕ) → Type 0
+ReportsAppending source sink lasts shown has_log station old new file acts turns turns' status =
+    RefusesFile shown old new status ⊎ ReportsAppended source sink lasts shown has_log station old new file acts turns turns' status
+
+-- a source gave a text to its end, and the run over its commands, which appended to a file, is done, or its end was asked for.
+-- `old` and `new` are the streams of the run's caller; `begun` and `ended` are the run's own, with the file as output (`IsFiled`)
 pub record AppendsAll {S F K E : Type 0} (source : Source S) (sink : Sink F) (shown : E → Option (List ℕ)) (station : Settings)
     (old new : Streams S K E) (file : Option F) (acts : Option (List Act)) (turns turns' : List Snapshot) : Type 0 where
   pub begun : Streams S F E

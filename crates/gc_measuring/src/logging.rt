@@ -5,15 +5,16 @@ ghost use Rattle.std.specs.Option.{is_some};
 ghost use Rattle.std.specs.Process.{exit_status};
 ghost use Rattle.gc_texts.specs.declared.fault.RunFault.{RunFault};
 ghost use Rattle.gc_measuring.specs.Logging.{ReportsLoss};
-ghost use Rattle.gc_measuring.specs.Telling.{ReportsMeasuring, MeasuresAll};
+ghost use Rattle.gc_measuring.specs.Telling.{ReportsLogged, MeasuresAll};
 ghost use Rattle.gc_logs.specs.Bounds.{has_ended, sink_of};
 
+use crate::spot::Spot;
 use crate::station::measure_over;
 use gc_files::{Appending, RowsFile, SystemFile, Unfit, open_file, open_rows};
 use gc_lines::{Durable, PortFailed, Sink, Source};
 use gc_links::Link;
 use gc_logs::{Bounded, Logged};
-use gc_messages::{FilesSeen, LogSeen, Noticed, Spot, Streams};
+use gc_messages::{FilesSeen, LogSeen, Noticed, Streams};
 use gc_station::Kept;
 use gc_texts::RunFault;
 use gc_words::{LogPlace, Settings};
@@ -167,10 +168,9 @@ pub(crate) fn measure_logged<L: Link, G: Sink, S: Source, K: Durable, E: Write>(
     kept: &mut Kept,
 ) -> (Streams<S, K, E>, io::Result<ExitCode>)
     // As without a log; and the log was lost exactly if the messages say so after that.
-    ensures told { IfOk result.1 (λ status. (behind : E)
-        × ReportsMeasuring S.Source K.Sink K.is_durable E.contents station (L.acts logged.old.link) (L.acts logged.new.link)
-        kept.old.turns kept.new.turns streams (record result.0 { messages = behind }) (exit_status status)
-        × ReportsLoss (G.failed (sink_of logged.new)) (E.contents behind) (E.contents result.0.messages)) }
+    ensures told { IfOk result.1 (λ status. ReportsLogged S.Source K.Sink K.is_durable E.contents station
+        (L.acts logged.old.link) (L.acts logged.new.link) kept.old.turns kept.new.turns streams result.0
+        (G.failed (sink_of logged.new)) (exit_status status)) }
 
     // Status 0 only if the source gave a text to its end, and the run over its commands is done.
     ensures done { IfOk result.1 (λ status. exit_status status ≡ 0 → MeasuresAll S.Source K.Sink E.contents station

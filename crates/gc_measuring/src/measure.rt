@@ -12,11 +12,12 @@ ghost use Rattle.gc_texts.specs.declared.text.TheConstants.{TEXT_LIMIT};
 use crate::checking::commands_in;
 use crate::plan::plan_of;
 use crate::reporter::Reporter;
+use crate::spot::Spot;
 use crate::stop::Stop;
 use crate::task_text::read_task_text;
 use gc_lines::{Durable, PortFailed, Source, write_whole};
 use gc_links::{Link, Moment};
-use gc_messages::{Noticed, Spot, Streams, report_turns, report_unasked};
+use gc_messages::{Noticed, Streams, report_turns, report_unasked};
 use gc_rows::{When, write_head, write_record};
 use gc_station::{Book, Kept, LinkHealth, Tally, run_station};
 use gc_texts::{Ending, RunFault, Stamp, Task, Tasks, Wish};
@@ -79,28 +80,9 @@ pub fn run_station_text<L: Link, S: Source, K: Durable, E: Write>(
     };
     let _ = report_turns(text.as_slice(), &tasks, &mut streams.messages);
     let _ = report_unasked(&tasks, &mut streams.messages);
-    let commands = commands_in(&tasks);
-    let Tasks {
-        setup,
-        tasks,
-        names,
-        nears,
-    } = tasks;
     // A run may take months: the memory of the text is given back first.
     drop(text);
-    let named = Tasks {
-        setup: 0,
-        tasks: Vec::new(alloc),
-        names,
-        nears,
-    };
-    let work = Work {
-        setup,
-        tasks,
-        named,
-        commands,
-        max_turns,
-    };
+    let work = work_of(alloc, tasks, max_turns);
     let (streams, end) = measure(link, station, work, spot, streams, kept);
     match end {
         Ok(tally) => (streams, Ok(tally)),
@@ -117,6 +99,35 @@ struct Work {
     named: Tasks,
     commands: usize,
     max_turns: u64,
+}
+
+// The work of a run over these tasks, in at most `max_turns` acts.
+fn work_of(alloc: Global, tasks: Tasks, max_turns: u64) -> Work
+    ensures setup { result.setup ≡ tasks.setup }
+    ensures tasks { result.tasks.items ≡ tasks.tasks.items }
+    ensures names { result.named.names.items ≡ tasks.names.items }
+    ensures turns { result.max_turns ≡ max_turns }
+{
+    let commands = commands_in(&tasks);
+    let Tasks {
+        setup,
+        tasks,
+        names,
+        nears,
+    } = tasks;
+    let named = Tasks {
+        setup: 0,
+        tasks: Vec::new(alloc),
+        names,
+        nears,
+    };
+    Work {
+        setup,
+        tasks,
+        named,
+        commands,
+        max_turns,
+    }
 }
 
 // Measures the tasks of `work` over a link by the settings of `station`, and writes their records into the output. The streams
@@ -151,7 +162,7 @@ fn measure<L: Link, S, K: Durable, E: Write>(
     } = work;
     let plan = plan_of(station.choice, setup, tasks.as_slice());
     let mut reporter = Reporter::new(station.choice.watch, messages);
-    reporter.begin(spot.place, commands);
+    reporter.begin(spot.site.place, commands);
     let mut records = Records {
         sink: output,
         layout: station.layout,
@@ -161,21 +172,12 @@ fn measure<L: Link, S, K: Durable, E: Write>(
         reporter,
     };
     let end = run_station(link, &mut records, tasks.as_slice(), &plan, max_turns, kept);
-    let Records {
-        sink,
-        layout: _,
-        named: _,
-        noticed: _,
-        fresh,
-        mut reporter,
-    } = records;
-    if let Err(RunFault::Stale) = end {
-        reporter.stale(fresh);
-    }
+    let is_stale = matches!(end, Err(RunFault::Stale));
+    let (output, messages) = records.end(is_stale);
     let streams = Streams {
         input,
-        output: sink,
-        messages: reporter.end(),
+        output,
+        messages,
     };
     (streams, end)
 }
@@ -194,8 +196,8 @@ fn write_front<K: Durable>(sink: &mut K, layout: Layout) -> Result<(), usize>
     write_head(sink, layout.form)
 }
 
-// When a good answer was recorded last, in milliseconds since 1970, once a command ended so at the moment `utc`: `fresh` if
-// that was no good answer.
+// When the last answer of a good quality came, in milliseconds since 1970: `utc` if the command that ended so at this moment has
+// one, else `fresh`, as before.
 fn fresh_after(fresh: u64, utc: u64, ending: Ending<'_>) -> u64 {
     match ending.quality() {
         Some(quality) if quality.is_good() => utc,
@@ -213,6 +215,27 @@ struct Records<'a, K, E> {
     // When an answer of a good quality came last, or the run began, in milliseconds since 1970.
     fresh: u64,
     reporter: Reporter<E>,
+}
+
+impl<'a, K, E: Write> Records<'a, K, E> {
+    // Writes at the end of a run what wasn't reported yet, and first, if the run is stale, since when no answer of a good quality
+    // came. The sink and the messages are handed back.
+    fn end(self, is_stale: bool) -> (K, E)
+        ensures { result.0 ≡ self.entry.sink }
+    {
+        let Records {
+            sink,
+            layout: _,
+            named: _,
+            noticed: _,
+            fresh,
+            mut reporter,
+        } = self;
+        if is_stale {
+            reporter.stale(fresh);
+        }
+        (sink, reporter.end())
+    }
 }
 
 impl<'a, K: Durable, E: Write> Book for Records<'a, K, E> {

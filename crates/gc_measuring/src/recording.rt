@@ -1,27 +1,28 @@
 //! A station that appends its records, as rows, to a file that outlasts the program.
 
-ghost use Rattle.std.specs.Prelude.{◌≡◌, ◌≤◌, ◌⊎◌, ℕ, [], Ok, IfOk, OnOk, OnErr};
+ghost use Rattle.std.specs.Prelude.{◌≡◌, ◌≤◌, ℕ, [], Ok, IfOk, OnOk, OnErr};
 ghost use Rattle.std.specs.Io.KnownBytes.{Appends};
 ghost use Rattle.std.specs.Option.{is_some};
 ghost use Rattle.std.specs.Process.{exit_status};
 ghost use Rattle.gc_words.specs.Stations.{form_of_rows};
 ghost use Rattle.gc_measuring.specs.Recording.{copied_line, fault_of_unfit, opened_lines, rotation_line, unfit_text, torn_line};
 ghost use Rattle.gc_measuring.specs.Appending.{file_of, acts_in};
-ghost use Rattle.gc_measuring.specs.Telling.{RefusesFile, ReportsAppended, AppendsAll};
+ghost use Rattle.gc_measuring.specs.Telling.{ReportsAppending, AppendsAll};
 ghost use Rattle.gc_rows.specs.Records.{head_text, sign_text};
 ghost use Rattle.gc_files.specs.Sinks.{torn_in, steps_in, IsOpenedAs};
 
 use crate::counts::report_counts;
+use crate::spot::Spot;
 use crate::station::measure_at;
 use crate::stop::Stop;
 use gc_files::{RowsFile, SystemFile, Unfit, open_at};
 use gc_lines::{Durable, Sink, Source};
 use gc_links::{PlacedLink, Telling, Watched};
-use gc_messages::{Followed, Spot, Streams};
+use gc_messages::{Followed, Streams};
 use gc_rows::{head, sign};
 use gc_station::Kept;
 use gc_texts::RunFault;
-use gc_words::{LogPlace, Recording, Settings};
+use gc_words::{Recording, Settings};
 use std::alloc::Global;
 use std::fs::File;
 use std::io::{self, Write};
@@ -173,8 +174,6 @@ pub fn append_at<
     rt: &'a R,
     alloc: Global,
     spot: Spot<'a>,
-    log: Option<LogPlace<'_>>,
-    until: Option<&'a str>,
     station: Settings,
     recording: Recording<'a>,
     mut streams: Streams<S, K, E>,
@@ -187,8 +186,8 @@ pub fn append_at<
     // Either the file can't be had, which is reported with status 1, and nothing was read. Or the messages report the file's
     // opening and then, with the status, how the run ended; and the file that is handed back has the run's rows: those of the
     // acts that the link recorded. At each act the file had all rows that the acts before it settled, and they lasted.
-    ensures told { IfOk result.1 (λ status. RefusesFile E.contents streams result.0 (exit_status status)
-        ⊎ ReportsAppended S.Source ⟦<Followed<'a, R> as Sink>⟧ ⟦<Followed<'a, R> as Durable>⟧.is_durable E.contents (is_some log.entry) station
+    ensures told { IfOk result.1 (λ status. ReportsAppending
+        S.Source ⟦<Followed<'a, R> as Sink>⟧ ⟦<Followed<'a, R> as Durable>⟧.is_durable E.contents (is_some spot.entry.site.log) station
         streams result.0 (file_of result.2) (acts_in result.2) kept.old.turns kept.new.turns (exit_status status)) }
 
     // Status 0 only if the source gave a text to its end, and the run over its commands is done, or its end was asked for.
@@ -204,16 +203,7 @@ pub fn append_at<
         Ok((rows, _)) => {
             let followed = Followed::new(rt, alloc, recording.path, rows, spot.noticed);
             let (filed, output) = streams.with_output(followed);
-            let (filed, ended, link) = measure_at(
-                rt,
-                alloc,
-                spot,
-                log,
-                until,
-                station.appended(),
-                filed,
-                kept,
-            );
+            let (filed, ended, link) = measure_at(rt, alloc, spot, station.appended(), filed, kept);
             let (streams, file) = filed.with_output(output);
             (streams, ended, Some(Appended { file, link }))
         }

@@ -9,16 +9,17 @@ ghost use Rattle.gc_measuring.specs.Telling.{ReportsMeasuring, MeasuresAll, Repo
 use crate::counts::report_counts;
 use crate::logging::{Noted, log_at, measure_logged};
 use crate::measure::run_station_text;
+use crate::spot::Spot;
 use crate::stop::Stop;
 use gc_ask::fault_of;
 use gc_files::{RowsFile, SystemFile};
 use gc_lines::{Durable, Source};
 use gc_links::{Link, Moment, Place, PlacedLink, Telling, Unusable, Watched};
 use gc_logs::Logged;
-use gc_messages::{Noticing, Spot, Streams};
+use gc_messages::{Noticing, Streams};
 use gc_station::{Kept, Tally};
 use gc_texts::RunFault;
-use gc_words::{LogPlace, Settings};
+use gc_words::Settings;
 use std::alloc::Global;
 use std::fs::File;
 use std::io::{self, Write};
@@ -27,9 +28,9 @@ use std::process::ExitCode;
 use std::rt::Files;
 use std::time::Clock;
 
-/// Measures at a place, and reports how the run ended: by the counts, or by the fault's line. If a log is asked for, its file
-/// is opened first, and what was on the link is appended to it. If the file `until` is there, the run ends between two chains,
-/// as one that is done. `Log` comes if no log can be had, `Clock` if the clock can't be read, and the faults of a device if one
+/// Measures at a site, and reports how the run ended: by the counts, or by the fault's line. If the site has a log, its file is
+/// opened first, and what was on the link is appended to it. If the site's file `until` is there, the run ends between two
+/// chains, as one that is done. `Log` comes if no log can be had, `Clock` if the clock can't be read, and the faults of a device if one
 /// is there and can't be used. That a log couldn't be written to its end is reported after the counts, or the fault, and changes no
 /// status. The streams are handed back, and the link, if there was one. What was seen of link and output at each act is noted
 /// in `kept`.
@@ -43,8 +44,6 @@ pub fn measure_at<
     rt: &'a R,
     alloc: Global,
     spot: Spot<'a>,
-    log: Option<LogPlace<'_>>,
-    until: Option<&'a str>,
     station: Settings,
     mut streams: Streams<S, K, E>,
     kept: &mut Kept,
@@ -54,10 +53,9 @@ pub fn measure_at<
     Option<Telling<Watched<'a, R, PlacedLink<'a, R>>>>,
 )
     // The status and the messages report how the run ended, and then whether the log was lost. Either the text was refused, or
-    // its commands were measured: the link that is handed back has recorded all acts of the run and no other, the sink that is handed
-    // back has its records, and at each act all that the acts before it settled lasted. Or no log, no link or no clock could be
-    // had, and nothing was read or written.
-    ensures told { IfOk result.1 (λ status. ReportsRun S.Source K.Sink K.is_durable E.contents (is_some log.entry) station
+    // its commands were measured: the link that is handed back has recorded all acts of the run and no other, the sink its
+    // records, and at each act all that was settled before lasted. Or log, link or clock couldn't be had, and nothing was done.
+    ensures told { IfOk result.1 (λ status. ReportsRun S.Source K.Sink K.is_durable E.contents (is_some spot.entry.site.log) station
         streams result.0 (acts_of result.2) kept.old.turns kept.new.turns (exit_status status)) }
 
     // Status 0 only if the source gave a text to its end, and the run over its commands is done, or its end was asked for.
@@ -65,7 +63,7 @@ pub fn measure_at<
         → MeasuresAllFromNone S.Source K.Sink E.contents station streams result.0 (acts_of result.2) kept.old.turns kept.new.turns) }
     ensures bound { IfOk result.1 (λ status. exit_status status ≤ 1) }
 {
-    let Ends { link, moment, log } = match open_ends(rt, spot, log) {
+    let Ends { link, moment, log } = match open_ends(rt, spot) {
         Ok(ends) => ends,
         Err(fault) => {
             let ended = report_counts(Err(Stop::Run(fault)), &mut streams.messages);
@@ -73,7 +71,7 @@ pub fn measure_at<
         }
     };
     let station = station.begun(moment);
-    let told = Telling::new(Watched::new(rt, link, until));
+    let told = Telling::new(Watched::new(rt, link, spot.site.until));
     let mut link = Noticing::new(told, spot.noticed);
     match log {
         None => {
@@ -100,16 +98,15 @@ struct Ends<'a, R> {
 fn open_ends<'a, R: Net<Listener = TcpListener, Stream = TcpStream> + Clock + Files<File = File>>(
     rt: &'a R,
     spot: Spot<'a>,
-    log: Option<LogPlace<'_>>,
 ) -> Result<Ends<'a, R>, RunFault>
-    ensures logged { IfOk result (λ ends. is_some ends.log ≡ is_some log.entry) }
-    ensures fault { IfErr result (λ fault. CannotBegin (is_some log.entry) fault) }
+    ensures logged { IfOk result (λ ends. is_some ends.log ≡ is_some spot.entry.site.log) }
+    ensures fault { IfErr result (λ fault. CannotBegin (is_some spot.entry.site.log) fault) }
 {
-    let log = match log_at(rt, spot.noticed, log) {
+    let log = match log_at(rt, spot.noticed, spot.site.log) {
         Ok(log) => log,
         Err(fault) => return Err(fault),
     };
-    match link_at(rt, spot.place) {
+    match link_at(rt, spot.site.place) {
         Ok((link, moment)) => Ok(Ends { link, moment, log }),
         Err(fault) => {
             spot.stop(fault);

@@ -37,7 +37,7 @@ impl Wanted {
         self.told = false;
     }
 
-    /// Notes by the health of the link at this moment whether an answer is wanted: it is if there is no connection, where the
+    /// Notes by the health of the link at this moment whether an answer is wanted: it is if there is no connection, if the
     /// line isn't quiet, and if a request has no reply. `Idle` ends the cycle, and `Fine` changes nothing.
     pub(crate) fn look(&mut self, health: LinkHealth, moment: Moment)
         ensures { self.new ≡ behind_look health moment self.old }

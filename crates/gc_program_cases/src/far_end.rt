@@ -89,7 +89,7 @@ pub struct FarEnd<'a, 'b> {
     pub answer: Option<u64>,
     // After this many milliseconds the clock can't be read any more.
     pub until: u64,
-    // The first so many connections are refused.
+    // How many connections are refused before one is made.
     pub refused: u64,
     // After this many milliseconds nothing is answered any more.
     pub silent: u64,

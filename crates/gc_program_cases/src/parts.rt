@@ -77,7 +77,7 @@ fn count_of(alloc: Global, value: &str, came: &str, missing: &mut Told) -> usize
     }
 }
 
-// How often bytes occurs in what came; never if they are no text.
+// How often the text of these bytes occurs in what came; 0 if they are no text.
 fn count_in(bytes: &[u8], came: &str) -> usize {
     match str::from_utf8(bytes) {
         Ok(text) => came.matches(text).count(),

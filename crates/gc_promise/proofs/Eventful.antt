@@ -244,7 +244,7 @@ module _ (reads : Asked → List ℕ → Reading) where
   -- the station resynchronizes where seven requests have timed out
   begins_anew : IsResynchronizing plan commands told front (Told (at 345))
   unfolding is_elsewhere is_near header_at reply_at digits rounded
-  begins_anew = record { renews = refl; moment = at 345; told = refl; seven = refl; given_up = refl; word = refl; client = refl }
+  begins_anew = record { resynchronizes = record { renews = refl; moment = at 345; told = refl; seven = refl; given_up = refl }; word = refl; client = refl }
 
   -- with the patched readings the run is eventful
   computed : IsEventful (patched reads)

@@ -22,7 +22,7 @@ told_some (reading.Refused code) answer e = cc
 told_some (reading.ComFault code) answer e = cc
 told_some (reading.Unreadable fault) answer e = cc
 
--- a reading that has none isn't any
+-- a reading that has no answer isn't one
 pub told_none : (told : Reading) → answer_in told ≡ None → (answer : Answer) → told ≡ reading.Value answer → ⊥
 told_none told none answer is = let bad : Some answer ≡ None = sym (ap answer_in is) ∙ none in cc
 

@@ -98,7 +98,7 @@ module _ (when : When) (text : List ℕ) (command : Wish) (name : List ℕ) (k :
 
 module _ {State : Type 0} (ends : Ends State) (kept : State → Option KeptReply) (course : Course) (reads : Asked → List ℕ → Reading) (are : AreReadings reads)
     (acts : List Act) (ps : List Part) (ss : List (Stretch State)) (r : Record) where
-  -- when and if the record's command was asked
+  -- when the record's command was asked, and where it stands in its run
   abbrev when : When
   when = when_of course.layout.run r
 

@@ -74,7 +74,7 @@ few_days year month =
     cond_both (month == 2) _ _ (λ n. n ≤ 31) (λ _. cond_both (is_leap year) 29 28 (λ n. n ≤ 31) (λ _. omega arith) (λ _. omega arith))
     (λ _. cond_both ((month == 4) || (month == 6) || (month == 9) || (month == 11)) 30 31 (λ n. n ≤ 31) (λ _. omega arith) (λ _. omega arith))
 
--- so many days after a date, whose month is at most 12 and whose day at most 31, the month and the day are so, too
+-- n days after a date whose month is at most 12 and whose day is at most 31, the month and the day are within these bounds, too
 later_small : (n year month day : ℕ) → month ≤ 12 → day ≤ 31
     → ((days_after n (record { year = year; month = month; day = day })).month ≤ 12) × ((days_after n (record { year = year; month = month; day = day })).day ≤ 31)
 unfolding days_after

@@ -162,7 +162,7 @@ module _ {State : Type 0} (ends : Ends State) (kept : State → Option KeptReply
   at r name = under name (header columns) (map escaped (fields r))
 
   module _ (r : Record) where
-    -- when and if the record's command was asked
+    -- when the record's command was asked, and where it stands in its run
     abbrev when : When
     when = when_of course.layout.run r
 

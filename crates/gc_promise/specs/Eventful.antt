@@ -64,8 +64,8 @@ reporting =
 
 -- The station.
 
--- the plan of this run: seven requests at a time, null procedures that wait 100 ms, three cycles, one of which is due every 150 ms, a quiet time
--- of 10 ms, and three new tries
+-- the plan of this run: at most seven requests at a time, a deadline of 100 ms for null procedures, three cycles, one of which
+-- is due every 150 ms, a quiet time of 10 ms, and at most three reconnects in a row
 abbrev pub plan : Plan
 plan = record { width = 7; deadline = 100; every = 150; cycles = 3; quiet = 10; retries = 3; setup = 0; stale = 0; watched = false }
 
@@ -384,7 +384,7 @@ first_run = record { turns = begins_turns; moves = breaks_moves }
 abbrev pub runs : List (Run (List ℕ))
 runs = first_run ∷ record { turns = anew_turns; moves = chain_moves } ∷ record { turns = []; moves = [] } ∷ []
 
--- what is in flight if the station resynchronizes
+-- what is in flight when the station resynchronizes
 abbrev pub left : UnderWay (List ℕ)
 left = left_by_run WINDOW reporting before first_run
 
@@ -399,7 +399,7 @@ last_stretch = record { from = leaves (turned reporting anew_turns (begins left)
 -- The records of the run.
 
 -- the record of a command of this cycle and place, for this target and with this call: it was sent at the moment `sent`, if it
--- did, and ended at the moment `utc`
+-- was, and ended at the moment `utc`
 abbrev pub ended : Option ℕ → ℕ → ℕ → ℕ → ℕ → Asked → End → Record
 ended sent utc cycle place target call end =
     record {

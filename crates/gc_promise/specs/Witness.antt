@@ -64,8 +64,8 @@ places told taken turns =
 
 module _ (reads : Asked → List ℕ → Reading) where
   -- the row of a record is this text, and its own, with this line as its reply
-  abbrev pub IsOwn : Record → List ℕ → List ℕ → Type 0
-  IsOwn r row line =
+  abbrev pub IsOwnText : Record → List ℕ → List ℕ → Type 0
+  IsOwnText r row line =
       (text_in in_a_table [] r ≡ row)
       × IsRowOwn reporting AnyState nothing in_a_table [] commands (parts_of plan commands (opening plan (scope reads)) acts)
       (stretches reporting before runs) r line
@@ -74,11 +74,11 @@ module _ (reads : Asked → List ℕ → Reading) where
   -- was measured elsewhere, of a number, and of one whose values don't read
   pub record HasOwnRows : Type 0 where
     pub run : IsEventful reads
-    pub points : IsOwn points_record points_row pointed
-    pub chained : IsOwn chained_record chained_row measured
-    pub elsewhere : IsOwn elsewhere_record elsewhere_row elsewhere
-    pub number : IsOwn number_record number_row numbered
-    pub unreadable : IsOwn unreadable_record unreadable_row empty
+    pub points : IsOwnText points_record points_row pointed
+    pub chained : IsOwnText chained_record chained_row measured
+    pub elsewhere : IsOwnText elsewhere_record elsewhere_row elsewhere
+    pub number : IsOwnText number_record number_row numbered
+    pub unreadable : IsOwnText unreadable_record unreadable_row empty
     -- and so is the table that its sink took, with a column for each quantity or without
     pub tables : (columns : Bool)
         → IsOwnTable reporting AnyState nothing (course (table columns)) columns reads acts (parts_of plan commands (opening plan (scope reads)) acts) (stretches reporting before runs)

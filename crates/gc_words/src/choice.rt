@@ -11,7 +11,7 @@ use std::alloc::{AllocError, Global};
 
 // The options of `station`. A default is in its row alone: clap fills it in.
 // The place comes first, which is no option.
-const OPTIONS: &[Argument<'static>] = &[
+pub(crate) const OPTIONS: &[Argument<'static>] = &[
     PLACE,
     Argument {
         name: "width",

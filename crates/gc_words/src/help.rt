@@ -48,7 +48,8 @@ A fault is one line on standard error, `geocom: fault N`. For a place, a file, a
   60  no permission to read and write the device
   64  the file of records could not be opened for reading and appending, or isn't a regular file
   65  another program has locked the file of records
-  66  the file of records has other content; it was not changed";
+  66  the file of records has other content; it was not changed
+  70  `rehearse`: a row is false: `seed S row R` says with which seed, and which row, counted from 1";
 
 /// What the help of `exec` ends with.
 pub const REQUESTS: &str =
@@ -186,3 +187,30 @@ writes two lines like
   2026-11-22T23:08:27.124Z 1 8 answered %R1P,0,1:0,0
 and at the end, on standard error,
   answered 2 late 0 lost 0 skipped 0 unreadable 0 missed 0 elsewhere 0 again 0";
+
+/// What the help of `rehearse` ends with.
+pub const REHEARSAL: &str =
+    "Standard input is the text of a station, as `geocom station --help` has it. The very station that `station` runs measures over a line
+in memory, to the instrument of --scene, in simulated time: no clock is read and no connection made. Its rows are written on standard
+output, with simulated times; at the end a summary on standard error: how commands ended, also for each target, how many cycles are
+whole, with an answer of quality `ok` or `warning` for each command, how long cycles took, what happened to lines, and what each lost
+line cost.
+
+The file of --line says what happens, a word a line, each word once; `#` begins a comment. Without a word nothing of its kind happens:
+  delay FROM TO   each line arrives that many milliseconds later, drawn uniformly, 0 to 86400000, in order
+  lose P          P lines in a hundred are lost, 0 to 100, with at most three decimals
+  repeat P        P in a hundred arrive twice, the copy directly behind
+  hold P MS       at P in a hundred nothing passes for MS milliseconds, 0 to 86400000
+  close P         at P in a hundred the connection ends, and what is in flight is lost
+  refuse P MS     after P of a hundred closes connections are refused for MS milliseconds
+  restart P       at P in a hundred requests that arrive the instrument restarts before it executes them
+  kill N          the station is killed N times a night, 0 to 1000, at random, and begins again at once as a new run
+
+A run that ends with a fault begins again a minute later; one that isn't done when its night is over is cut off. Each row that says
+that a reply came is compared with what the instrument executed: a false one ends the rehearsal with
+  geocom: fault 70 seed S row R
+and a line that says which it is; R counts rows from 1.
+
+Example:
+  printf 'delay 400 600\\nlose 2\\n' > bad.line
+  printf '7 5003\\n' | geocom rehearse --nights 30 --line bad.line --seed 7 > rows";

@@ -1,11 +1,11 @@
-//! If a station works: the place, and the files of its log and of its records.
+//! Where a station works: the place, and the files of its log and of its records.
 
 use crate::arguments::{Argument, FLAG, Takes};
 use clap::ArgMatches;
 use gc_links::Place;
 
-/// If a station measures, if it logs what was on the link, if anywhere, and the path of the file by which somebody asks for the
-/// run's end, if any.
+/// Where a station measures; where it logs what was on the link, if anywhere; and the path of the file by which somebody asks for
+/// the run's end, if any.
 #[derive(Clone, Copy)]
 pub struct Site<'a> {
     pub place: Place<'a>,
@@ -23,7 +23,7 @@ pub(crate) const LOG_BYTES: Argument<'static> = Argument {
     ..FLAG
 };
 
-/// If what was on the link is logged, and the most bytes that the file may have.
+/// Where what was on the link is logged, and the most bytes that the file may have.
 #[derive(Clone, Copy)]
 pub struct LogPlace<'a> {
     pub path: &'a str,

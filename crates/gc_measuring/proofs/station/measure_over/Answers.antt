@@ -10,7 +10,7 @@ returns-clause-told g c =
     (λ status told. record {
       end = c.run_station_text-streams.result.1;
       between = c.run_station_text-streams.result.0.messages;
-      measured = (m.0, m.1.0, m.2);
+      measured = (m.0, m.1, m.3);
       all_last = c.run_station_text-streams.ensures.is_durable;
       fails = c.run_station_text-streams.ensures.output;
       counts = told;
@@ -23,6 +23,6 @@ returns-clause-done g c =
     IfOk-weaker c.report_counts-ended.result _ _
     (λ status told zero. record {
       between = c.run_station_text-streams.result.0.messages;
-      is = done_at_0 m.0 _ _ _ _ (exit_status status) _ _ m.1.0 m.2 told zero;
+      is = done_at_0 m.0 _ _ _ _ (exit_status status) _ _ m.1 m.3 told zero;
     })
     c.report_counts-ended.ensures.told

@@ -9,7 +9,8 @@ returns-in-Err-read_tasks-clause-refused g c =
     let whole = c.in-Ok.ensures.whole in
     let fault = c.in-Err-read_tasks.fault in (
       c.in-Ok.text.items,
-      (found.0, found.2),
+      found.0,
+      found.2,
       inl (
         fault,
         inr (

@@ -1,0 +1,11 @@
+use Rattle.std.proofs.Common.{subst}
+use Rattle.gc_nights.specs.Runs.{AreRuns}
+use Rattle.gc_nights.proofs.Running.{faithful_runs}
+use Rattle.gc_nights.proofs.nights.run_nights.Goals as goal
+
+pub returns : goal.returns
+returns g c =
+    let acts = c.run_each_night-end.new.link.carried in
+    let tasks = c.args.programme.tasks.now in
+    faithful_runs tasks acts c.rows_of_rehearsals_are_faithful.ensures c.is_of_line.ensures
+    (subst (λ old. AreRuns tasks old acts) c.requires c.run_each_night-end.ensures)

@@ -1,0 +1,221 @@
+//! The book of a rehearsed station: it writes the rows, keeps what they claim, and ends the station where it is killed.
+
+ghost use Rattle.std.specs.Prelude.{◌≡◌, true};
+ghost use Rattle.gc_measuring.specs.Measuring.{text_in};
+
+use crate::claim::Claim;
+use crate::deadlines::Deadlines;
+use crate::summary::Summary;
+use gc_lines::{Line, PortFailed, Sink, append};
+use gc_links::Moment;
+use gc_rows::{When, write_record};
+use gc_station::{Book, LinkHealth};
+use gc_texts::{Ending, Stamp, Tasks, Wish};
+use gc_words::Layout;
+
+/// What was seen of the rows: what those of the present run claim, and the counts over all nights.
+#[derive(Drop)]
+pub(crate) struct Seen {
+    // When the line was made, in milliseconds since 1970.
+    start: u64,
+    deadlines: Deadlines,
+    pub(crate) claims: Vec<Claim>,
+    pub(crate) summary: Summary,
+    // Whether memory was refused, so that the claims or the counts aren't complete.
+    pub(crate) lacks_memory: bool,
+}
+
+impl Seen {
+    /// Nothing was seen. The line was made `start` milliseconds after 1970.
+    pub(crate) fn new(
+        start: u64,
+        deadlines: Deadlines,
+        claims: Vec<Claim>,
+        summary: Summary,
+    ) -> Seen {
+        Seen {
+            start,
+            deadlines,
+            claims,
+            summary,
+            lacks_memory: false,
+        }
+    }
+
+    // Sees a row.
+    fn see(&mut self, stamp: Stamp, command: &Wish, ending: Ending<'_>) {
+        if self.summary.note(stamp, command, ending).is_err() {
+            self.lacks_memory = true;
+        }
+        let Some(sent) = stamp.sent else {
+            return;
+        };
+        if !speaks_of_reply(ending) {
+            return;
+        }
+        let claim = Claim {
+            sent: sent.saturating_sub(self.start),
+            at: stamp.utc.saturating_sub(self.start),
+            deadline: self.deadlines.of(stamp),
+            call: command.call,
+            has_line: ending.line().is_some(),
+            line: line_of(ending),
+            stamp,
+            target: command.target,
+            row: self.summary.rows,
+        };
+        if self.claims.push(claim).is_err() {
+            self.lacks_memory = true;
+        }
+    }
+}
+
+// Whether a row with this ending says that a reply came.
+fn speaks_of_reply(ending: Ending<'_>) -> bool {
+    match ending {
+        Ending::Late => true,
+        _ => ending.line().is_some(),
+    }
+}
+
+// The reply's line of a row with this ending; empty where it has none.
+fn line_of(ending: Ending<'_>) -> Line {
+    let mut kept = Line::new();
+    if let Some(line) = ending.line() {
+        append(&mut kept, line.as_slice());
+    }
+    kept
+}
+
+/// A book that writes rows into a sink, until the station is killed.
+#[derive(Drop)]
+pub(crate) struct RunBook<K> {
+    sink: K,
+    layout: Layout,
+    // The names of targets, in a `Tasks` whose own tasks are empty.
+    named: Tasks,
+    pub(crate) seen: Seen,
+    // How many acts the station may yet make, and whether it was killed at the end of them.
+    left: u64,
+    is_killed: bool,
+    // When the night ends, in milliseconds since 1970, and whether the station has read that moment, or a later one.
+    until: u64,
+    is_over: bool,
+    has_failed: bool,
+}
+
+impl<K> RunBook<K> {
+    /// A book with nothing in it.
+    pub(crate) fn new(sink: K, layout: Layout, named: Tasks, seen: Seen) -> RunBook<K> {
+        RunBook {
+            sink,
+            layout,
+            named,
+            seen,
+            left: 0,
+            is_killed: false,
+            until: 0,
+            is_over: false,
+            has_failed: false,
+        }
+    }
+
+    /// A station begins at the moment `run`, in milliseconds since 1970. It is killed after this many acts, and cut off at the moment `until`.
+    pub(crate) fn begin(&mut self, run: u64, acts: u64, until: u64) {
+        self.layout.run = run;
+        self.left = acts;
+        self.is_killed = false;
+        self.until = until;
+        self.is_over = false;
+        self.has_failed = false;
+        self.seen.claims.clear();
+    }
+
+    /// Whether the station was killed.
+    pub(crate) fn is_killed(&self) -> bool {
+        self.is_killed
+    }
+
+    /// Whether the night ended before the station was done.
+    pub(crate) fn is_over(&self) -> bool {
+        self.is_over
+    }
+
+    /// The sink, and what was seen.
+    pub(crate) fn end(self) -> (K, Seen, Tasks) {
+        let RunBook {
+            sink,
+            layout: _,
+            named,
+            seen,
+            left: _,
+            is_killed: _,
+            until: _,
+            is_over: _,
+            has_failed: _,
+        } = self;
+        (sink, seen, named)
+    }
+}
+
+impl<K: Sink> Book for RunBook<K> {
+    ghost text = { λ book. text_in book.layout book.named.names.items };
+
+    ghost taken = { λ book. K.taken book.sink };
+
+    ghost failed = { λ book. book.has_failed };
+
+    ghost is_durable = { λ _. true };
+
+    // Writes a row.
+    fn write(
+        &mut self,
+        stamp: Stamp,
+        command: &Wish,
+        ending: Ending<'_>,
+    ) -> Result<(), PortFailed> {
+        self.seen.see(stamp, command, ending);
+        let when = When {
+            run: self.layout.run,
+            stamp,
+        };
+        let taken = write_record(
+            &mut self.sink,
+            self.layout.form,
+            &when,
+            self.named.name_of(command.target),
+            command,
+            ending,
+        );
+        match taken {
+            Ok(()) => Ok(()),
+            Err(_) => {
+                self.has_failed = true;
+                Err(PortFailed)
+            }
+        }
+    }
+
+    // It is called before each act: where no act is left, or the night is over, the station ends there.
+    fn sync(&mut self) -> Result<(), PortFailed> {
+        if self.is_over {
+            self.has_failed = true;
+            return Err(PortFailed);
+        }
+        if self.left == 0 {
+            self.is_killed = true;
+            self.has_failed = true;
+            return Err(PortFailed);
+        }
+        self.left -= 1;
+        Ok(())
+    }
+
+    fn sees(&mut self, _health: LinkHealth, moment: Moment) {
+        if moment.utc >= self.until {
+            self.is_over = true;
+        }
+    }
+
+    fn overran(&mut self, _cycle: u64) {}
+}

@@ -1,0 +1,53 @@
+//! The deadlines of a station's commands, by their places.
+
+use gc_texts::{Stamp, Task};
+use std::alloc::{AllocError, Global};
+
+/// The deadlines of the commands of the setup and of a cycle, by their places, in milliseconds.
+#[derive(Drop)]
+pub(crate) struct Deadlines {
+    setup: Vec<u64>,
+    cycle: Vec<u64>,
+}
+
+impl Deadlines {
+    /// The deadlines of these tasks, of which the first `setup` are the setup.
+    pub(crate) fn new(
+        alloc: Global,
+        tasks: &[Task],
+        setup: usize,
+    ) -> Result<Deadlines, AllocError> {
+        let mut deadlines = Deadlines {
+            setup: Vec::new(alloc),
+            cycle: Vec::new(alloc),
+        };
+        for task in tasks.iter().take(setup) {
+            deadlines.setup.push(task.deadline)?;
+        }
+        for task in tasks.iter().skip(setup) {
+            deadlines.add(task)?;
+        }
+        Ok(deadlines)
+    }
+
+    // Adds a task of a cycle: a later attempt has the deadlines of the first.
+    fn add(&mut self, task: &Task) -> Result<(), AllocError> {
+        if task.turn.attempt == 1 {
+            self.cycle.push(task.deadline)?;
+        }
+        Ok(())
+    }
+
+    /// The deadline of the command of a row; 0 where there is no such command.
+    pub(crate) fn of(&self, stamp: Stamp) -> u64 {
+        let deadlines = if stamp.cycle == 0 {
+            self.setup.get(stamp.turn.place)
+        } else {
+            self.cycle.get(stamp.turn.place)
+        };
+        match deadlines {
+            Some(deadline) => *deadline,
+            None => 0,
+        }
+    }
+}

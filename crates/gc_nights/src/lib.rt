@@ -1,0 +1,17 @@
+//! Nights: a station that measures over the line of a rehearsal, night after night, in simulated time. Each row is compared with the
+//! truth.
+#![tactic(auto)]
+
+mod book;
+mod claim;
+mod deadlines;
+mod nights;
+mod quotient;
+mod rehearsal;
+mod report;
+mod seeded;
+mod summary;
+mod untrue;
+
+pub use claim::{Claim, first_false};
+pub use rehearsal::rehearse;

@@ -1,0 +1,281 @@
+//! Nights: the runs of a station over the line of a rehearsal. A station that was killed, or gave up, begins again.
+
+ghost use Rattle.std.specs.Prelude.{[], ◌≡◌};
+ghost use Rattle.gc_nights.specs.Runs.{AreRuns, AreFaithfulRuns};
+
+use crate::book::RunBook;
+use crate::claim::first_false;
+use crate::quotient::quotient;
+use crate::seeded::Seeded;
+use crate::untrue::{FalseRow, Halt};
+use gc_fates::{Draws, among};
+use gc_lines::Sink;
+use gc_measuring::plan_of;
+use gc_rehearsal::Rehearsed;
+use gc_rehearsed::are_askable;
+use gc_rehearsed::laws::rows_of_rehearsals_are_faithful;
+use gc_station::{Kept, Plan, run_station};
+use gc_texts::{RunFault, Task};
+use gc_words::Choice;
+
+// A day, in milliseconds: a night begins so long after the one before.
+pub(crate) const DAY: u64 = 86_400_000;
+
+// After how many milliseconds a station that gave up begins again.
+const AGAIN: u64 = 60_000;
+
+// How many acts a command takes at least.
+const ACTS_OF_COMMAND: u64 = 2;
+
+// How many acts a run makes at least before it is killed.
+const ACTS_OF_BEGINNING: u64 = 100;
+
+/// What is rehearsed.
+#[derive(Clone, Copy)]
+pub(crate) struct Programme<'a> {
+    pub(crate) tasks: &'a [Task],
+    /// How many of the tasks in front are the set-up.
+    pub(crate) setup: usize,
+    /// The commands of a cycle.
+    pub(crate) commands: u64,
+    pub(crate) choice: Choice,
+    pub(crate) nights: u64,
+    /// How many cycles a night has.
+    pub(crate) cycles: u64,
+    /// How often the station is killed a night.
+    pub(crate) kills: u64,
+    pub(crate) seed: u64,
+    /// When the first night begins, in milliseconds since 1970.
+    pub(crate) start: u64,
+}
+
+/// How many runs there were, and how they ended.
+#[derive(Clone, Copy, Drop)]
+pub(crate) struct RunCounts {
+    pub(crate) runs: u64,
+    pub(crate) killed: u64,
+    /// How many gave up, and the fault of the last that did.
+    pub(crate) gave_up: u64,
+    pub(crate) fault: Option<RunFault>,
+    /// How many were cut off at the end of their night.
+    pub(crate) cut_off: u64,
+}
+
+impl RunCounts {
+    /// There was no run.
+    pub(crate) fn none() -> RunCounts {
+        RunCounts {
+            runs: 0,
+            killed: 0,
+            gave_up: 0,
+            fault: None,
+            cut_off: 0,
+        }
+    }
+}
+
+// How a run ended.
+enum RunEnd {
+    Done,
+    Killed,
+    CutOff,
+    GaveUp(RunFault),
+}
+
+/// Rehearses all nights over a link that is new. However they ended, what the link told is what a station told, run after run. As long as
+/// fewer than six runs in a row ended while they synchronized, each run is one in the field: whatever the line lost, repeated, held or
+/// closed, each answer that it recorded was made on executing the very request of its cycle and place.
+pub(crate) fn run_nights<K: Sink>(
+    link: &mut Rehearsed<Seeded>,
+    book: &mut RunBook<K>,
+    programme: Programme<'_>,
+    counts: &mut RunCounts,
+) -> Result<(), Halt>
+    requires { link.old.carried ≡ [] }
+    ensures { AreFaithfulRuns programme.entry.tasks.now link.new.carried }
+{
+    let end = run_each_night(link, book, programme, counts);
+    link.is_of_line();
+    rows_of_rehearsals_are_faithful();
+    end
+}
+
+// Lets the time go by until this moment, in milliseconds since the link was made; no time, if it is past.
+fn wait_until(link: &mut Rehearsed<Seeded>, moment: u64)
+    ensures { link.new.carried ≡ link.old.carried }
+{
+    link.wait(moment.saturating_sub(link.elapsed()));
+}
+
+// Rehearses all nights.
+fn run_each_night<K: Sink>(
+    link: &mut Rehearsed<Seeded>,
+    book: &mut RunBook<K>,
+    programme: Programme<'_>,
+    counts: &mut RunCounts,
+) -> Result<(), Halt>
+    ensures { AreRuns programme.entry.tasks.now link.old.carried link.new.carried }
+{
+    for night in 0..programme.nights {
+        wait_until(link, night.saturating_mul(DAY));
+        run_night(link, book, programme, night, counts)?;
+    }
+    Ok(())
+}
+
+// Rehearses a night; the first is night 0.
+fn run_night<K: Sink>(
+    link: &mut Rehearsed<Seeded>,
+    book: &mut RunBook<K>,
+    programme: Programme<'_>,
+    night: u64,
+    counts: &mut RunCounts,
+) -> Result<(), Halt>
+    ensures { AreRuns programme.entry.tasks.now link.old.carried link.new.carried }
+{
+    let begins = night.saturating_mul(DAY);
+    let mut kills = programme.kills;
+    for _ in 0..u64::MAX {
+        let cycles = cycles_left(programme, begins, link.elapsed());
+        if cycles == 0 {
+            return Ok(());
+        }
+        counts.runs = counts.runs.saturating_add(1);
+        let acts = if kills == 0 {
+            u64::MAX
+        } else {
+            acts_until_kill(programme, night, kills)
+        };
+        match run_once(
+            link,
+            book,
+            programme,
+            cycles,
+            acts,
+            end_of_night(programme, begins),
+        )? {
+            RunEnd::Done => return Ok(()),
+            RunEnd::CutOff => {
+                counts.cut_off = counts.cut_off.saturating_add(1);
+                return Ok(());
+            }
+            RunEnd::Killed => {
+                counts.killed = counts.killed.saturating_add(1);
+                kills = kills.saturating_sub(1);
+            }
+            RunEnd::GaveUp(fault) => {
+                counts.gave_up = counts.gave_up.saturating_add(1);
+                counts.fault = Some(fault);
+                link.wait(AGAIN);
+            }
+        }
+    }
+    Ok(())
+}
+
+// When a night ends that began at this moment, in milliseconds since 1970: behind a day, and behind all of its cycles.
+fn end_of_night(programme: Programme<'_>, begins: u64) -> u64 {
+    let every = programme.choice.every;
+    let cycles = every.saturating_mul(programme.cycles).saturating_add(every);
+    programme
+        .start
+        .saturating_add(begins)
+        .saturating_add(cycles.max(DAY))
+}
+
+// How many cycles are left of a night that began at a moment.
+fn cycles_left(programme: Programme<'_>, begins: u64, now: u64) -> u64 {
+    let gone = quotient(now.saturating_sub(begins), programme.choice.every);
+    programme.cycles.saturating_sub(gone)
+}
+
+// After how many acts of a run a night's next kill comes, of which `left` are left: at random, so that those of a night are spread over
+// it. Each planned kill has a draw of its own, whether it comes to it or not.
+fn acts_until_kill(programme: Programme<'_>, night: u64, left: u64) -> u64 {
+    let acts = programme
+        .commands
+        .saturating_mul(programme.cycles)
+        .saturating_mul(ACTS_OF_COMMAND);
+    let share = quotient(acts.saturating_mul(2), programme.kills.saturating_add(1));
+    let most = u32::try_from(share).unwrap_or(u32::MAX);
+    let kill = night
+        .saturating_mul(programme.kills)
+        .saturating_add(programme.kills.saturating_sub(left))
+        .saturating_add(1);
+    let draw = Draws::of_kills(programme.seed).draw(kill, 1);
+    among(draw, 0, most).saturating_add(ACTS_OF_BEGINNING)
+}
+
+// A run over the line, by this plan, whose outcome is that of a station.
+fn run_by_plan<K: Sink>(
+    link: &mut Rehearsed<Seeded>,
+    book: &mut RunBook<K>,
+    programme: Programme<'_>,
+    plan: &Plan,
+) -> Option<RunFault>
+    ensures { AreRuns programme.entry.tasks.now link.old.carried link.new.carried }
+{
+    are_askable(programme.tasks);
+    // What is seen at each act, for proofs alone.
+    let mut kept = Kept::new();
+    run_station(link, book, programme.tasks, plan, u64::MAX, &mut kept).err()
+}
+
+// A run over the line, for this many cycles, of at most so many acts, and at most until a moment. All rows that it wrote are compared
+// with the truth.
+fn run_once<K: Sink>(
+    link: &mut Rehearsed<Seeded>,
+    book: &mut RunBook<K>,
+    programme: Programme<'_>,
+    cycles: u64,
+    acts: u64,
+    until: u64,
+) -> Result<RunEnd, Halt>
+    ensures { AreRuns programme.entry.tasks.now link.old.carried link.new.carried }
+{
+    let choice = Choice {
+        cycles,
+        ..programme.choice
+    };
+    let plan = plan_of(choice, programme.setup, programme.tasks);
+    link.begin();
+    book.begin(programme.start.saturating_add(link.elapsed()), acts, until);
+    let fault = run_by_plan(link, book, programme, &plan);
+    compare(link, book, programme.seed)?;
+    end_of_run(book, fault)
+}
+
+// How a run ended: with this fault, or because all its cycles are done.
+fn end_of_run<K>(book: &mut RunBook<K>, fault: Option<RunFault>) -> Result<RunEnd, Halt> {
+    let Some(fault) = fault else {
+        if book.seen.summary.finish().is_err() {
+            return Err(Halt::Fault(RunFault::Memory));
+        }
+        return Ok(RunEnd::Done);
+    };
+    book.seen.summary.leave();
+    if book.is_killed() {
+        return Ok(RunEnd::Killed);
+    }
+    if book.is_over() {
+        return Ok(RunEnd::CutOff);
+    }
+    match fault {
+        RunFault::Output => Err(Halt::Fault(RunFault::Output)),
+        _ => Ok(RunEnd::GaveUp(fault)),
+    }
+}
+
+// Compares the rows of a run with the truth.
+fn compare<K>(link: &Rehearsed<Seeded>, book: &RunBook<K>, seed: u64) -> Result<(), Halt> {
+    if book.seen.lacks_memory || link.untold() > 0 {
+        return Err(Halt::Fault(RunFault::Memory));
+    }
+    match first_false(book.seen.claims.as_slice(), link.truths()) {
+        Some(place) => match book.seen.claims.get(place) {
+            Some(claim) => Err(Halt::Untrue(seed, FalseRow::of(claim))),
+            None => Ok(()),
+        },
+        None => Ok(()),
+    }
+}

@@ -1,0 +1,240 @@
+//! A rehearsal: its texts are read, its nights are rehearsed, and how that ended is reported.
+
+ghost use Rattle.std.specs.Prelude.{[], ◌≡◌, ◌≤◌, IfOk};
+ghost use Rattle.std.specs.Process.{exit_status};
+
+use crate::book::{RunBook, Seen};
+use crate::deadlines::Deadlines;
+use crate::nights::{Programme, RunCounts, run_nights};
+use crate::report::tell_summary;
+use crate::seeded::Seeded;
+use crate::summary::Summary;
+use crate::untrue::Halt;
+use gc_engines::read_rule_scene;
+use gc_fates::{Rules, Word, read_rules};
+use gc_lines::{FromReader, Sink, Source};
+use gc_measuring::read_task_text;
+use gc_messages::Streams;
+use gc_rehearsal::Rehearsed;
+use gc_rows::write_head;
+use gc_scenes::SceneInstrument;
+use gc_texts::{RunFault, Tasks, read_text};
+use gc_words::{Layout, Rehearsal};
+use std::alloc::Global;
+use std::fs::{File, Files};
+use std::io::{self, Write};
+use std::process::ExitCode;
+
+// When the first night begins: 2026-01-01T20:00Z, in milliseconds since 1970.
+const BEGINNING: u64 = 1_767_297_600_000;
+
+// The scene of the simulator: its three targets.
+const SIMULATOR: &[u8] =
+    b"target 0.5 1.5 25.125\ntarget 2.25 1.625 110.0625\ntarget 4.0 1.5 48.5\n";
+
+/// Rehearses the nights of a station with the text of the input, writes its rows on the output, and reports on the messages how commands
+/// ended, with status 0. Status 1, with the line of the fault: a text was refused, a file couldn't be read, the output failed, memory was
+/// refused, or a row is false. The streams are handed back.
+pub fn rehearse<R: Files, S: Source, K: Sink + Drop, E: Write>(
+    rt: &R,
+    alloc: Global,
+    rehearsal: Rehearsal<'_>,
+    streams: Streams<S, K, E>,
+) -> (Streams<S, K, E>, io::Result<ExitCode>)
+    ensures { IfOk result.1 (λ status. exit_status status ≤ 1) }
+{
+    let Streams {
+        mut input,
+        output,
+        mut messages,
+    } = streams;
+    let (output, end) = match texts_of(rt, alloc, rehearsal, &mut input) {
+        Ok(texts) => rehearse_texts(alloc, rehearsal, texts, output, &mut messages),
+        Err(halt) => (output, Err(halt)),
+    };
+    let ended = report(end, &mut messages);
+    let streams = Streams {
+        input,
+        output,
+        messages,
+    };
+    (streams, ended)
+}
+
+// Reports how a rehearsal ended.
+fn report<E: Write>(end: Result<(), Halt>, messages: &mut E) -> io::Result<ExitCode>
+    ensures { IfOk result (λ status. exit_status status ≤ 1) }
+{
+    match end {
+        Ok(()) => Ok(ExitCode::SUCCESS),
+        Err(halt) => {
+            halt.tell(messages)?;
+            Ok(ExitCode::from(1))
+        }
+    }
+}
+
+// What the texts of a rehearsal give.
+#[derive(Drop)]
+struct Texts {
+    rules: Rules,
+    instrument: SceneInstrument,
+    tasks: Tasks,
+}
+
+// Reads the texts of a rehearsal: the line's, the scene's and the station's.
+fn texts_of<R: Files, S: Source>(
+    rt: &R,
+    alloc: Global,
+    rehearsal: Rehearsal<'_>,
+    input: &mut S,
+) -> Result<Texts, Halt> {
+    let rules = rules_of(rt, alloc, rehearsal.line)?;
+    let instrument = instrument_of(rt, alloc, rehearsal.scene)?;
+    match read_task_text(alloc, input, &rehearsal.station.choice) {
+        Ok((tasks, _)) => Ok(Texts {
+            rules,
+            instrument,
+            tasks,
+        }),
+        Err(stop) => Err(Halt::Text(stop)),
+    }
+}
+
+// Reads the file of this name to its end.
+fn read_file<R: Files>(rt: &R, alloc: Global, path: &str) -> Result<Vec<u8>, Halt> {
+    let Ok(file) = File::open(rt, path) else {
+        return Err(Halt::Fault(RunFault::Read));
+    };
+    match read_text(alloc, &mut FromReader::new(file)) {
+        Ok(text) => Ok(text),
+        Err(fault) => Err(Halt::Fault(fault)),
+    }
+}
+
+// The rules of the line in a file, or of a good line where no file is named.
+fn rules_of<R: Files>(rt: &R, alloc: Global, line: Option<&str>) -> Result<Rules, Halt> {
+    let Some(path) = line else {
+        return Ok(Rules::none());
+    };
+    let text = read_file(rt, alloc, path)?;
+    match read_rules(text.as_slice()) {
+        Ok(rules) => Ok(rules),
+        Err(refusal) => Err(Halt::Line(refusal)),
+    }
+}
+
+// The instrument of the scene in a file, or the simulator where no file is named.
+fn instrument_of<R: Files>(
+    rt: &R,
+    alloc: Global,
+    scene: Option<&str>,
+) -> Result<SceneInstrument, Halt> {
+    let Some(path) = scene else {
+        return staged(alloc, SIMULATOR);
+    };
+    let text = read_file(rt, alloc, path)?;
+    staged(alloc, text.as_slice())
+}
+
+// The instrument of the text of a scene.
+fn staged(alloc: Global, text: &[u8]) -> Result<SceneInstrument, Halt> {
+    match read_rule_scene(alloc, text) {
+        Ok(instrument) => Ok(instrument),
+        Err(fault) => Err(Halt::Fault(fault)),
+    }
+}
+
+// How many times a night the station is killed by these rules.
+fn kills_of(rules: &Rules) -> u64 {
+    match rules.chance(Word::Kill) {
+        Some(chance) => u64::from(chance.least),
+        None => 0,
+    }
+}
+
+// How many commands a cycle of these tasks has, each counted once, however often its chain may go out again.
+fn commands_in(tasks: &Tasks) -> usize {
+    let cycle = tasks.tasks.iter().skip(tasks.setup);
+    cycle.filter(|task| task.turn.attempt == 1).count()
+}
+
+// Rehearses the nights of these texts. The output is handed back.
+fn rehearse_texts<K: Sink + Drop, E: Write>(
+    alloc: Global,
+    rehearsal: Rehearsal<'_>,
+    texts: Texts,
+    mut output: K,
+    messages: &mut E,
+) -> (K, Result<(), Halt>) {
+    let Texts {
+        rules,
+        instrument,
+        tasks,
+    } = texts;
+    let commands = commands_in(&tasks);
+    let Tasks {
+        setup,
+        tasks,
+        names,
+        nears,
+    } = tasks;
+    let named = Tasks {
+        setup: 0,
+        tasks: Vec::new(alloc),
+        names,
+        nears,
+    };
+    let Ok(summary) = Summary::new(alloc, commands) else {
+        return (output, Err(Halt::Fault(RunFault::Memory)));
+    };
+    let layout = rehearsal.station.layout;
+    if write_head(&mut output, layout.form).is_err() {
+        return (output, Err(Halt::Fault(RunFault::Output)));
+    }
+    let programme = Programme {
+        tasks: tasks.as_slice(),
+        setup,
+        commands: commands as u64,
+        choice: rehearsal.station.choice,
+        nights: rehearsal.nights,
+        cycles: rehearsal.cycles(),
+        kills: kills_of(&rules),
+        seed: rehearsal.seed,
+        start: BEGINNING,
+    };
+    let Ok(deadlines) = Deadlines::new(alloc, tasks.as_slice(), setup) else {
+        return (output, Err(Halt::Fault(RunFault::Memory)));
+    };
+    let seen = Seen::new(BEGINNING, deadlines, Vec::new(alloc), summary);
+    let book = RunBook::new(output, layout, named, seen);
+    let chance = Seeded::new(rules, rehearsal.seed);
+    let link = Rehearsed::new(alloc, chance, instrument, BEGINNING);
+    rehearse_over(programme, link, book, messages)
+}
+
+// Rehearses the nights over a link, and writes the summary. The output is handed back.
+fn rehearse_over<K: Sink + Drop, E: Write>(
+    programme: Programme<'_>,
+    mut link: Rehearsed<Seeded>,
+    mut book: RunBook<K>,
+    messages: &mut E,
+) -> (K, Result<(), Halt>)
+    requires { link.carried ≡ [] }
+{
+    let mut runs = RunCounts::none();
+    let end = run_nights(&mut link, &mut book, programme, &mut runs);
+    let (output, mut seen, named) = book.end();
+    if end.is_ok() {
+        // Where the summary can't be written, the rows stand all the same.
+        let _ = tell_summary(
+            programme,
+            runs,
+            &mut seen.summary,
+            &named,
+            link.counts(),
+            messages,
+        );
+    }
+    (output, end)
+}

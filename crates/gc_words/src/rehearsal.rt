@@ -1,0 +1,141 @@
+//! A rehearsal: what the words of `rehearse` say. Its options of a station are those of `station`.
+
+use crate::arguments::{Argument, FLAG, SCENE, Takes, command_of};
+use crate::choice::{OPTIONS, station_of};
+use crate::help::REHEARSAL;
+use crate::settings::Settings;
+use clap::{ArgMatches, Command};
+use std::alloc::{AllocError, Global};
+
+// A day, in milliseconds: a night begins so long after the one before.
+const DAY: u64 = 86_400_000;
+
+// The options of `rehearse` alone.
+const OWN: &[Argument<'static>] = &[
+    Argument {
+        name: "nights",
+        takes: Takes::Unsigned(1, 36_525),
+        value_name: &["N"],
+        default: &["1"],
+        help: "Rehearses N nights, 1 to 36525: each begins a day after the one before, and the first at 2026-01-01T20:00Z",
+        ..FLAG
+    },
+    Argument {
+        name: "every",
+        takes: Takes::Unsigned(1, 86_400),
+        value_name: &["SECONDS"],
+        default: &["300"],
+        help: "Begins a cycle SECONDS after the last was due, 1 to 86400",
+        ..FLAG
+    },
+    Argument {
+        name: "cycles",
+        takes: Takes::Unsigned(0, 86_400),
+        value_name: &["N"],
+        default: &["0"],
+        help: "Has N cycles a night, 0 to 86400; 0: as many as are due in a day",
+        ..FLAG
+    },
+    SCENE,
+    Argument {
+        name: "line",
+        takes: Takes::Text,
+        value_name: &["FILE"],
+        help: "What happens to lines: see below; without it the line is good",
+        ..FLAG
+    },
+    Argument {
+        name: "seed",
+        takes: Takes::Unsigned(0, u64::MAX),
+        value_name: &["N"],
+        default: &["0"],
+        help: "Decides what happens to lines, and when a run is killed; the same seed and texts give the same output",
+        ..FLAG
+    },
+];
+
+// The options of `station` that `rehearse` has, too.
+const SHARED: &[&str] = &[
+    "width",
+    "deadline",
+    "quiet",
+    "retries",
+    "stale",
+    "csv",
+    "columns",
+    "json",
+    "unchained",
+];
+
+/// The subcommand `rehearse` for clap: its help and its arguments.
+pub fn rehearse_command<'a>(alloc: Global, name: &'a str) -> Result<Command<'a>, AllocError> {
+    let table = table_of(alloc)?;
+    command_of(
+        alloc,
+        name,
+        "Rehearses: runs the station of standard input over a bad line to a simulated instrument, in simulated time",
+        REHEARSAL,
+        table.as_slice(),
+    )
+}
+
+// The arguments of `rehearse`.
+fn table_of(alloc: Global) -> Result<Vec<Argument<'static>>, AllocError> {
+    let mut table = Vec::new(alloc);
+    for row in OWN {
+        table.push(*row)?;
+    }
+    for row in OPTIONS {
+        if is_shared(row.name) {
+            table.push(*row)?;
+        }
+    }
+    Ok(table)
+}
+
+// Whether an option of `station` is one of `rehearse`, too.
+fn is_shared(name: &str) -> bool {
+    for shared in SHARED {
+        if *shared == name {
+            return true;
+        }
+    }
+    false
+}
+
+/// What is to be rehearsed: the files of the scene and of the line, where they are named, how many nights, with which seed, and the
+/// settings of the station.
+#[derive(Clone, Copy)]
+pub struct Rehearsal<'a> {
+    pub scene: Option<&'a str>,
+    pub line: Option<&'a str>,
+    pub nights: u64,
+    pub seed: u64,
+    pub station: Settings,
+}
+
+impl<'a> Rehearsal<'a> {
+    /// How many cycles a night has.
+    pub fn cycles(&self) -> u64 {
+        let choice = self.station.choice;
+        if choice.cycles != u64::MAX {
+            return choice.cycles;
+        }
+        if choice.every == 0 {
+            return 0;
+        }
+        DAY / choice.every
+    }
+}
+
+/// What the words of `rehearse` say. `None`: a number is missing, though it has a default; clap fills it in, but no clause of clap's says
+/// so.
+pub fn rehearsal_of<'a>(words: &ArgMatches<'a>) -> Option<Rehearsal<'a>> {
+    Some(Rehearsal {
+        scene: words.get_str("scene"),
+        line: words.get_str("line"),
+        nights: words.get_one::<u64>("nights")?,
+        seed: words.get_one::<u64>("seed")?,
+        station: station_of(words)?,
+    })
+}
