@@ -4,6 +4,7 @@ mod engines;
 mod failing;
 mod outcome;
 mod records;
+mod scene_runs;
 mod setup;
 mod single_bytes;
 mod sink;

@@ -16,15 +16,17 @@ pub fn ring(alloc: Global) -> Outcome {
     }
 }
 
-/// Each method of a client with `Slots`, none of which takes memory: two requests are sent, the first is given up, and its
+/// Each method of a client with `Slots`, none of which takes memory: two requests are sent, the first times out, and its
 /// reply is late; then the second is lost with a restart.
 pub fn client() -> Outcome {
     let mut client = Client::new(Slots::new());
-    Outcome::of_answer(is_sent(&mut client) && is_heard(&mut client) && is_restarted(&mut client))
+    Outcome::of_answer(
+        sends_two(&mut client) && hears_replies(&mut client) && restarts(&mut client),
+    )
 }
 
-// Two requests are sent, and the first is given up at the moment 10.
-fn is_sent(client: &mut Client<Slots>) -> bool {
+// Sends two requests, of which the first times out at the moment 10. Returns whether all came as it should.
+fn sends_two(client: &mut Client<Slots>) -> bool {
     let mut second = Line::new();
     let Ok(first) = client.send(1, Call::NullProc, 10) else {
         return false;
@@ -38,8 +40,9 @@ fn is_sent(client: &mut Client<Slots>) -> bool {
         && client.expire(10).as_slice() == [1].as_slice()
 }
 
-// The first request's reply is late, its repeat is a stray, and a line that is no reply is unread.
-fn is_heard(client: &mut Client<Slots>) -> bool {
+// Hears the first request's reply, which is late, its repeat, which is a stray, and a line that is no reply. Returns whether all
+// came as it should.
+fn hears_replies(client: &mut Client<Slots>) -> bool {
     let mut reply = Line::new();
     append(&mut reply, b"%R1P,0,0:0");
     let Heard::Settled(late) = client.on_line(&reply) else {
@@ -51,8 +54,8 @@ fn is_heard(client: &mut Client<Slots>) -> bool {
         && client.hear(b"hello", &mut settled) == Hearing::Unread(LineFault::Signature)
 }
 
-// The second request is lost, and the client begins anew.
-fn is_restarted(client: &mut Client<Slots>) -> bool {
+// Restarts the client, which loses the second request. Returns whether all came as it should.
+fn restarts(client: &mut Client<Slots>) -> bool {
     let waiting = (client.waiting(), client.next_id());
     let lost = client.restart();
     waiting == (1, 2)

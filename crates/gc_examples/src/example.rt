@@ -37,10 +37,10 @@ fn parts_of(name: &str) -> Option<(Engine, &str, &'static str)> {
     let (stem, ending) = name.split_once('.')?;
     match ending {
         "requests" => Some((Engine::Exec, stem, ".replies")),
-        "scene-requests" => Some((Engine::Rules, stem, ".scene-replies")),
-        "scene-schedule" => Some((Engine::DrillRules, stem, ".scene-expected")),
         "recording" => Some((Engine::Check, stem, ".verdicts")),
         "schedule" => Some((Engine::Drill, stem, ".expected")),
+        "scene-requests" => Some((Engine::Rules, stem, ".scene-replies")),
+        "scene-schedule" => Some((Engine::DrillRules, stem, ".scene-expected")),
         _ => None,
     }
 }

@@ -1,8 +1,8 @@
 //! The examples, played: no part of the product. Each stream of requests goes through `exec`, that of a scene through the scene's
-//! instrument, each recording through `check` and each schedule through `drill --totals`, on the scene's instrument where there is one: whole,
-//! in single bytes, and cut in two at every place. What is written must be the file of the expected output each time. The folder it runs in is read whole, so that no example is forgotten.
-//! Then each is played once more, and with the word `once` nothing else is done: that run can be refused memory.
-//! After them the cases of the folder `cases` are played.
+//! instrument, each recording through `check` and each schedule through `drill --totals`, on the scene's instrument if there is one:
+//! whole, in single bytes, and cut in two at every place. What is written must be the file of the expected output each time. The
+//! folder in which it runs is read whole, so that no example is forgotten. Then each is played once more, and with the word `once`
+//! nothing else is done: that run can be refused memory. After them the cases of the folder `cases` are played.
 #![tactic(auto)]
 
 mod cases;

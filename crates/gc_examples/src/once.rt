@@ -73,12 +73,12 @@ const ROOM: usize = 4096;
 // What a stream of requests comes to through `exec`, whose replies are written into an array.
 fn serves(input: &[u8], expected: &[u8]) -> Outcome {
     let mut taken = [0; ROOM];
-    let is_done = is_served(input, &mut taken[..]);
+    let is_done = serve_into(input, &mut taken[..]);
     Outcome::of_answer(is_done && holds(&taken, expected))
 }
 
 // Has `exec` answer the requests of `input` into `taken`, and says whether it ended well.
-fn is_served(input: &[u8], taken: &mut [u8]) -> bool {
+fn serve_into(input: &[u8], taken: &mut [u8]) -> bool {
     let mut source = PieceSource::new(input, &[], u64::MAX);
     run_exec(&mut source, &mut ToWriter::new(taken), u32::MAX).is_ok()
 }
@@ -104,12 +104,12 @@ fn serves_on(instrument: &mut SceneInstrument, example: &Example) -> Outcome {
 // What a recording comes to through `check`, whose verdicts are written into an array.
 fn checks(input: &[u8], expected: &[u8]) -> Outcome {
     let mut taken = [0; ROOM];
-    let is_done = is_checked(input, &mut taken[..]);
+    let is_done = check_into(input, &mut taken[..]);
     Outcome::of_answer(is_done && holds(&taken, expected))
 }
 
 // Has `check` write its verdicts on `input` into `taken`, and says whether it ended well.
-fn is_checked(input: &[u8], taken: &mut [u8]) -> bool {
+fn check_into(input: &[u8], taken: &mut [u8]) -> bool {
     let mut source = PieceSource::new(input, &[], u64::MAX);
     run_check(&mut source, &mut ToWriter::new(taken), u32::MAX).is_ok()
 }

@@ -9,15 +9,11 @@ use crate::cases::sink::Taking;
 use gc_ask::{Duplex, run_ask, run_loop_on};
 use gc_cases::{Case, push_all};
 use gc_engines::{
-    read_rule_scene, read_scene, read_still_scene, read_timed_scene, run_check, run_check_log,
-    run_drill_on, run_drill_scene, run_exec,
+    read_scene, read_still_scene, run_check, run_check_log, run_drill_on, run_drill_scene, run_exec,
 };
-use gc_instrument::serve;
-use gc_lines::{Line, Outgoing, ServeFault, Served, append, write_whole};
+use gc_lines::{ServeFault, Served};
 use gc_probes::{PieceSource, Pipe};
-use gc_scenes::{SceneInstrument, SlowInstrument, serve_scene};
-use gc_texts::{RunFault, before, behind, number_of};
-use itoa::Buffer;
+use gc_texts::RunFault;
 use std::alloc::{AllocError, Global};
 
 /// Which engine a case goes through.
@@ -63,7 +59,7 @@ pub struct Setup {
     pub link_sizes: Vec<usize>,
     /// The text of the scene whose instrument answers.
     pub scene: Vec<u8>,
-    /// At which moments the scene's instrument gets the lines of the input, in milliseconds. None: it is told of no moment.
+    /// At which moments the scene's instrument gets the lines of the input, in milliseconds. If there are none, it gets no moment.
     pub moments: Vec<usize>,
     /// How many reads are allowed.
     pub allowed: u32,
@@ -71,12 +67,12 @@ pub struct Setup {
     /// The most bytes that one write of the output, and of the link, takes.
     pub most: usize,
     pub link_most: usize,
-    /// Whether a drill tells its totals, and how wide its window is.
+    /// Whether a drill prints its totals, and how wide its window is.
     pub totals: bool,
     pub width: u64,
 }
 
-// The engine that a word names, and `Engine::None` where it names none.
+// The engine that a word names; `Engine::None` if it names none.
 fn engine_of(word: &str) -> Engine {
     match word {
         "exec" => Engine::Exec,
@@ -97,12 +93,12 @@ fn engine_of(word: &str) -> Engine {
     }
 }
 
-// The number under a key, and `or` where there is none.
-fn small_number(case: &Case<'_>, key: &str, or: u32) -> u32 {
+// The number under a key; `or` if there is none.
+pub(crate) fn small_number(case: &Case<'_>, key: &str, or: u32) -> u32 {
     case.value(key).parse::<u32>().unwrap_or(or)
 }
 
-// The size under a key, and `or` where there is none.
+// The size under a key; `or` if there is none.
 fn size(case: &Case<'_>, key: &str, or: usize) -> usize {
     case.value(key).parse::<usize>().unwrap_or(or)
 }
@@ -127,16 +123,6 @@ fn push_times(sizes: &mut Vec<usize>, times: &str, size: &str) -> Result<(), All
         sizes.push(size)?;
     }
     Ok(())
-}
-
-// Writes the instrument's reply to a line, which may have a CR at its end, and says whether there is one.
-fn answers_line(instrument: &mut SceneInstrument, line: &[u8], output: &mut Taking) -> bool {
-    let mut text = Outgoing::new();
-    if !instrument.reply_onto(line.strip_suffix(b"\r").unwrap_or(line), &mut text) {
-        return false;
-    }
-    append(&mut text, b"\r\n");
-    write_whole(output, text.as_slice()).is_ok()
 }
 
 impl Setup {
@@ -297,43 +283,6 @@ impl Setup {
         }
     }
 
-    // Serves with the scene's instrument.
-    fn serve(&self, alloc: Global, source: &mut PieceSource<'_>, came: &mut Came) {
-        match read_scene(alloc, self.scene.as_slice()) {
-            Ok(mut instrument) => {
-                let end = serve(&mut instrument, source, &mut came.output, self.allowed);
-                came.end.serve(end);
-            }
-            Err(fault) => came.end.run(Err(fault)),
-        }
-    }
-
-    // Serves with the instrument of the scene, which has rules.
-    fn serve_rules(&self, alloc: Global, source: &mut PieceSource<'_>, came: &mut Came) {
-        match read_rule_scene(alloc, self.scene.as_slice()) {
-            Ok(mut instrument) if self.moments.is_empty() => {
-                let end = serve_scene(&mut instrument, source, &mut came.output, self.allowed);
-                came.end.serve(end);
-            }
-            Ok(mut instrument) => self.serve_by_moments(&mut instrument, came),
-            Err(fault) => came.end.run(Err(fault)),
-        }
-    }
-
-    // Serves so many lines of the input as there are moments, each at its own.
-    fn serve_by_moments(&self, instrument: &mut SceneInstrument, came: &mut Came) {
-        let mut left = self.input.as_slice();
-        let mut replies = 0u64;
-        for moment in self.moments.iter() {
-            instrument.at(*moment as u64);
-            if answers_line(instrument, before(b'\n', left), &mut came.output) {
-                replies = replies.saturating_add(1);
-            }
-            left = behind(b'\n', left);
-        }
-        came.end.serve(Ok(Served { replies }));
-    }
-
     // Runs an engine that doesn't count its lines.
     fn play(&self, alloc: Global, source: &mut PieceSource<'_>, came: &mut Came) {
         let end = self.play_to(alloc, source, &mut came.link, &mut came.output);
@@ -383,52 +332,6 @@ impl Setup {
                 run_drill_scene(alloc, instrument, source, output, self.totals, self.width())
             }
             Err(fault) => Err(fault),
-        }
-    }
-
-    // Reads the input as a scene.
-    fn read(&self, alloc: Global) -> Result<(), RunFault> {
-        match read_scene(alloc, self.input.as_slice()) {
-            Ok(_) => Ok(()),
-            Err(fault) => Err(fault),
-        }
-    }
-
-    // Reads the input as a scene with rules.
-    fn read_rules(&self, alloc: Global) -> Result<(), RunFault> {
-        match read_rule_scene(alloc, self.input.as_slice()) {
-            Ok(_) => Ok(()),
-            Err(fault) => Err(fault),
-        }
-    }
-
-    // Reads the input as a scene that `serve` takes.
-    fn read_timed(&self, alloc: Global) -> Result<(), RunFault> {
-        match read_timed_scene(alloc, self.input.as_slice()) {
-            Ok(_) => Ok(()),
-            Err(fault) => Err(fault),
-        }
-    }
-
-    // Reads the input as a scene with rules for an instrument without a clock.
-    fn read_still_rules(&self, alloc: Global) -> Result<(), RunFault> {
-        match read_still_scene(alloc, self.input.as_slice()) {
-            Ok(_) => Ok(()),
-            Err(fault) => Err(fault),
-        }
-    }
-
-    // Gives the lines of the input to the scene's instrument, whose replies take time. A line has the moment in front at which it
-    // arrives, and a reply the one at which it goes out.
-    fn serve_slow(&self, alloc: Global, came: &mut Came) {
-        match read_timed_scene(alloc, self.scene.as_slice()) {
-            Ok(mut slow) => {
-                for row in self.input.split(|byte| *byte == b'\n') {
-                    serve_row(&mut slow, row, &mut came.output);
-                }
-                came.end.run(Ok(()));
-            }
-            Err(fault) => came.end.run(Err(fault)),
         }
     }
 
@@ -487,19 +390,4 @@ impl Setup {
             self.allowed,
         )
     }
-}
-
-// Tells an instrument the line of a row, which has its moment in front, and writes the reply behind the moment at which it goes out.
-fn serve_row(slow: &mut SlowInstrument, row: &[u8], output: &mut Taking) {
-    let at = number_of(before(b' ', row), 4_294_967_295).unwrap_or(0);
-    let mut reply = Line::new();
-    if !slow.hear(behind(b' ', row), at, &mut reply) {
-        return;
-    }
-    // An output that fails shows in what it took.
-    let mut digits = Buffer::new();
-    let _ = write_whole(output, digits.format(slow.free_from()).as_bytes());
-    let _ = write_whole(output, b" ");
-    let _ = write_whole(output, reply.as_slice());
-    let _ = write_whole(output, b"\n");
 }

@@ -1,6 +1,7 @@
 //! Cases of texts. A text is read, and what it gives is told; so are a line of a log, the trouble of a line, a place, and how a
 //! fault is printed.
 
+use crate::cases::setup::small_number;
 use gc_cases::{Case, Player, Told, bytes_of};
 use gc_catalogue::Asked;
 use gc_engines::read_schedule;
@@ -42,7 +43,7 @@ fn play_text(alloc: Global, case: &Case<'_>, text: &[u8], wrong: &mut Told) {
 // Tells what a text is, read as the case says.
 fn read(alloc: Global, case: &Case<'_>, text: &[u8], is: &mut Told) {
     match case.value("as") {
-        "line" => is.bytes(line_at(text, count(case, "line"))),
+        "line" => is.bytes(line_at(text, small_number(case, "line", 0))),
         "trouble" => trouble(text, is),
         "log" => log(text, is),
         "fault" => fault(case, is),
@@ -61,11 +62,6 @@ fn read_text(alloc: Global, word: &str, case: &Case<'_>, text: &[u8], is: &mut T
         "log line" => log_line(text, is),
         _ => is.text("no such text"),
     }
-}
-
-// The number under a key; 0 where there is none.
-fn count(case: &Case<'_>, key: &str) -> u32 {
-    case.value(key).parse::<u32>().unwrap_or(0)
 }
 
 // Tells each command of a text, in a line for each; or the fault.
@@ -103,7 +99,7 @@ fn tell_events(events: &[Event], is: &mut Told) {
 
 // Reads a station's text. Until a line says otherwise, its commands have the deadline and the mode that the case gives.
 fn tasks_of(alloc: Global, case: &Case<'_>, text: &[u8]) -> Result<Tasks, RunFault> {
-    let deadline = u64::from(count(case, "deadline"));
+    let deadline = u64::from(small_number(case, "deadline", 0));
     read_tasks(alloc, text, deadline, case.has("mode", "chained"))
 }
 
@@ -216,7 +212,7 @@ fn tell_name(alloc: Global, case: &Case<'_>, text: &[u8], wrong: &mut Told) {
 // Tells the name of the target that stands under `of`, or the fault of the text.
 fn name_of(alloc: Global, case: &Case<'_>, text: &[u8], name: &mut Told) {
     match tasks_of(alloc, case, text) {
-        Ok(all) => name.bytes(all.name_of(count(case, "of"))),
+        Ok(all) => name.bytes(all.name_of(small_number(case, "of", 0))),
         Err(fault) => name.display(&fault),
     }
 }
@@ -292,11 +288,11 @@ fn tell_fault(fault: RunFault, is: &mut Told) {
 fn fault_of(case: &Case<'_>) -> Option<RunFault> {
     Some(match case.value("text") {
         "Write" => RunFault::Write {
-            replies: u64::from(count(case, "replies")),
+            replies: u64::from(small_number(case, "replies", 0)),
             bytes: case.value("bytes").parse::<usize>().unwrap_or(0),
         },
         "Schedule" => RunFault::Schedule {
-            line: count(case, "line"),
+            line: small_number(case, "line", 0),
         },
         word => return plain_fault_of(word),
     })
