@@ -12,7 +12,7 @@ MOST_PLACE = 4_294_967_295
 SHARE = re.compile(r"[0-9]{1,3}(\.[0-9]{1,3})?")
 NUMBER = re.compile(r"[0-9]{1,10}")
 
-# What happens to a line: words with their numbers, as `docs/FORMATS.md` has them after a line's place.
+# What happens to a line: words with their numbers, as `docs/BAD-LINES.md` has them after a line's place.
 Fate = dict[str, int]
 
 
