@@ -2,7 +2,7 @@
 
 use gc_values::Decimal;
 
-// The texts that are read, in turn.
+// The texts that are read in turn, each of twelve digits.
 const TEXTS: [&[u8]; 4] = [
     b"1234.56789012",
     b"5.12345678901",

@@ -10,8 +10,8 @@ use gc_client::{Ring, Slots};
 use std::process::ExitCode;
 use std::{env, io};
 
-// Does what the words ask: what, how often, and for rows in which file. The sum is printed so that no work can be left out of
-// the program as useless. The status is 2 for other words.
+// Does what the words of the command line ask for: what, how often, and for rows in which file. The sum is printed so that the
+// compiler can't leave out any work as useless. The status is 2 for other words.
 fn main(rt: HostRuntime) -> io::Result<ExitCode> {
     let words: Vec<String> = env::args(&rt)?.collect(rt.alloc())?;
     match sum_of(&rt, words.as_slice()) {
@@ -23,8 +23,8 @@ fn main(rt: HostRuntime) -> io::Result<ExitCode> {
     }
 }
 
-// Does what the words ask, and returns its sum. `None`: the words aren't `read`, `write`, `send-ring` or `send-slots` with a count, or
-// `rows` or `rows-sync` with a count and a file; or a ring got no memory.
+// Does what the words ask for, and returns the sum of what was done. `None`: the words aren't `read`, `write`, `send-ring` or
+// `send-slots` with a count, or `rows` or `rows-sync` with a count and a file; or a ring got no memory.
 fn sum_of(rt: &HostRuntime, words: &[String]) -> Option<u64> {
     let thing = words.get(1)?.as_str();
     let count = words.get(2)?.as_str().parse::<u32>().ok()?;

@@ -1,4 +1,4 @@
-//! A client's round: a request is sent, and its reply comes.
+//! A client's exchange: a request is sent, and its reply is heard.
 
 use arrayvec::ArrayVec;
 use gc_catalogue::{Answer, Call, Reading};
@@ -25,16 +25,16 @@ pub fn send<W: Window<Asked = Call>>(window: W, count: u32) -> u64 {
     let mut settled = ArrayVec::new();
     let mut sum = 0u64;
     for n in 0..count {
-        sum = sum.wrapping_add(sent(&mut client, n, &mut line));
-        sum = sum.wrapping_add(answered(&mut client, REPLIES[n as usize % 8], &mut settled));
+        sum = sum.wrapping_add(send_one(&mut client, n, &mut line));
+        sum = sum.wrapping_add(hear_reply(&mut client, REPLIES[n as usize % 8], &mut settled));
     }
     sum
 }
 
-// Sends a request, and returns the length of its line, or 0 where the window is full. It stays a function of its own, so
-// that its instructions can be distinguished.
+// Sends a request, and returns the length of its line, or 0 where the window is full. `bench/parts.sh` counts the instructions of this
+// function by its name.
 #[inline(never)]
-fn sent<W: Window<Asked = Call>>(client: &mut Client<W>, target: u32, line: &mut Line) -> u64 {
+fn send_one<W: Window<Asked = Call>>(client: &mut Client<W>, target: u32, line: &mut Line) -> u64 {
     let call = Call::SimpleMea {
         wait: 5000,
         mode: 1,
@@ -45,10 +45,10 @@ fn sent<W: Window<Asked = Call>>(client: &mut Client<W>, target: u32, line: &mut
     }
 }
 
-// Hears a reply, and returns the scale of its distance. It stays a function of its own, so that its instructions can be
-// distinguished.
+// Lets the client hear a reply, and returns the scale of the distance in it. `bench/parts.sh` counts the instructions of this function by
+// its name.
 #[inline(never)]
-fn answered<W: Window<Asked = Call>>(
+fn hear_reply<W: Window<Asked = Call>>(
     client: &mut Client<W>,
     reply: &[u8],
     settled: &mut ArrayVec<Settlement<Call>, WINDOW>,

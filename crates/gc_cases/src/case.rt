@@ -1,8 +1,8 @@
-//! A case, and the cases of a text.
+//! A case of a test, and how the cases of a text are cut from it.
 
 use crate::told::number_or;
 
-/// One case.
+/// A case: a name, and lines of a key and a value each.
 #[derive(Clone, Copy)]
 pub struct Case<'a> {
     /// The case's name, which follows `==`.
@@ -12,7 +12,7 @@ pub struct Case<'a> {
 }
 
 impl<'a> Case<'a> {
-    /// The value of the first line with this key, and an empty one where there is none.
+    /// The value of the first line with this key; an empty one if no line has it.
     pub fn value(&self, key: &str) -> &'a str {
         self.value_at(key, 0).unwrap_or("")
     }
@@ -31,13 +31,13 @@ impl<'a> Case<'a> {
         None
     }
 
-    /// The number under a key, and `or` where no number is there.
+    /// The number that the first line with this key has as its value; `or` if there is no such line, or its value is no number.
     pub fn number(&self, key: &str, or: u64) -> u64 {
         number_or(self.value(key), or)
     }
 }
 
-// The value of a line that has this key. `None`: the line has another key.
+// The value of a line that has this key; a line of the key alone has an empty one. `None`: the line has another key.
 fn value_of<'a>(line: &'a str, key: &str) -> Option<&'a str> {
     let rest = line.strip_prefix(key)?;
     if rest.is_empty() {
@@ -46,7 +46,7 @@ fn value_of<'a>(line: &'a str, key: &str) -> Option<&'a str> {
     rest.strip_prefix(' ')
 }
 
-/// The first case of a text, and the text after it. `None`: the text has no case.
+/// The first case of a text, from its `== ` on, and the text after it. `None`: the text has no case.
 pub fn cut_case(text: &str) -> Option<(Case<'_>, &str)> {
     let (_, cases) = text.split_once("== ")?;
     let (name, behind) = cases.split_once('\n').unwrap_or((cases, ""));

@@ -12,6 +12,7 @@ pub fn bytes_of(alloc: Global, value: &str) -> Result<Vec<u8>, AllocError> {
 /// Appends the bytes that a value stands for.
 pub fn push_all(bytes: &mut Vec<u8>, value: &str) -> Result<(), AllocError> {
     let mut rest = value.as_bytes();
+    // A value stands for no more bytes than it has.
     for _ in 0..value.len() {
         let Some((byte, behind)) = next_byte(rest) else {
             break;
@@ -34,7 +35,7 @@ pub fn spells(value: &str, bytes: &[u8]) -> bool {
     rest.is_empty()
 }
 
-// The first byte that a value stands for, and what follows.
+// The first byte that a value stands for, and the rest of the value. `None`: the value is empty.
 fn next_byte(value: &[u8]) -> Option<(u8, &[u8])> {
     let (byte, behind) = value.split_first()?;
     if *byte == b'\\' {
@@ -43,7 +44,9 @@ fn next_byte(value: &[u8]) -> Option<(u8, &[u8])> {
     Some((*byte, behind))
 }
 
-// The byte that follows a backslash, and what follows.
+// The byte that a backslash and the text `rest` after it stand for, and the text after that: `n`, `r` and `t` stand for LF, CR and
+// a tab, `x` and two digits for the byte with that value, any other byte for itself, and a backslash at the end of the text for
+// itself.
 fn escape_of(rest: &[u8]) -> (u8, &[u8]) {
     match rest {
         [b'n', behind @ ..] => (b'\n', behind),
@@ -60,7 +63,7 @@ fn escape_of(rest: &[u8]) -> (u8, &[u8]) {
     }
 }
 
-// The value of a digit, 0 to 9 and a to f; of another byte 0.
+// The value of a hexadecimal digit, 0 to 9 or a to f, and 0 for any other byte.
 fn digit_of(digit: u8) -> u8 {
     match digit {
         b'0'..=b'9' => digit - b'0',

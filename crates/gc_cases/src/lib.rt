@@ -13,6 +13,7 @@ mod escapes;
 mod input;
 mod playing;
 mod rows;
+mod stand_ins;
 mod telling;
 mod told;
 
@@ -21,4 +22,5 @@ pub use escapes::{bytes_of, push_all};
 pub use input::input_of;
 pub use playing::{Player, names_of, play_folder};
 pub use rows::{Rows, bytes_behind, cut_word, play_rows};
+pub use stand_ins::{in_use, not_found, port_of};
 pub use told::{Told, number_or};

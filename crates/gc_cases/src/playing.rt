@@ -12,8 +12,8 @@ pub trait Player {
     fn play(&self, rt: &HostRuntime, case: &Case<'_>, wrong: &mut Told) -> io::Result<()>;
 }
 
-/// Plays each file of a folder with this ending, as `.stations`, in the order of their names. For each it prints what came
-/// otherwise than its cases expect, and a line with the counts. It says whether all cases of all files came to what they expect.
+/// Plays each file of a folder with this ending, as `.stations`, in the order of their names. For each it prints what differs from what
+/// its cases expect, and a line with the counts. It returns whether all cases of all files came to what they expect.
 pub fn play_folder<P: Player>(
     rt: &HostRuntime,
     folder: &str,
@@ -58,7 +58,7 @@ fn add_name(
     Ok(())
 }
 
-// Plays these files of a folder, and says whether all their cases came to what they expect.
+// Plays these files of a folder, and returns whether all their cases came to what they expect.
 fn play_files<P: Player>(
     rt: &HostRuntime,
     folder: &str,
@@ -72,7 +72,7 @@ fn play_files<P: Player>(
     Ok(are_right)
 }
 
-// Plays a file of a folder, prints how it went, and says whether all its cases came to what they expect.
+// Plays a file of a folder, prints how it went, and returns whether all its cases came to what they expect.
 fn play_file<P: Player>(
     rt: &HostRuntime,
     folder: &str,
@@ -92,8 +92,8 @@ fn text_of_file(rt: &HostRuntime, folder: &str, name: &str) -> io::Result<String
     fs::read_to_string(rt, path.as_str())
 }
 
-// Prints what came otherwise, and a line with a file's counts: `right` of its `count` cases came to what they expect. It says
-// whether all did.
+// Prints `wrong`, the text of what differs from what a file's cases expect, and a line with the counts: `right` of its `count` cases came
+// to what they expect. It returns whether all did.
 fn tell_file(
     rt: &HostRuntime,
     name: &str,
@@ -106,7 +106,7 @@ fn tell_file(
     Ok(otherwise == 0)
 }
 
-// Plays the cases of a text, and returns how many there are, and how many came to what they expect.
+// Plays the cases of a text, and returns how many there are, and how many came to what they expect. A text has fewer cases than bytes.
 fn play_text<P: Player>(rt: &HostRuntime, text: &str, player: &P, wrong: &mut Told) -> (u64, u64) {
     let mut count = 0u64;
     let mut right = 0u64;
@@ -124,7 +124,7 @@ fn play_text<P: Player>(rt: &HostRuntime, text: &str, player: &P, wrong: &mut To
     (count, right)
 }
 
-// Plays a case, and says whether it came to what it expects: nothing was appended to `wrong`.
+// Plays a case, and returns whether it came to what it expects: nothing was appended to `wrong`. An error of the system is appended.
 fn is_right<P: Player>(rt: &HostRuntime, player: &P, case: &Case<'_>, wrong: &mut Told) -> bool {
     let before = wrong.size();
     if player.play(rt, case, wrong).is_err() {

@@ -11,11 +11,12 @@ const MOST_ROWS: usize = 10_000;
 /// What plays the rows of a case.
 pub trait Rows {
     /// Plays a row: `word` is its first word, `what` the text from there to the arrow, and `bytes` the bytes for which that text
-    /// stands. What came is appended to `came`, and nothing for a row without an arrow.
+    /// stands. It appends what came to `came`, which is to be nothing for a row without an arrow.
     fn play(&mut self, alloc: Global, word: &str, what: &str, bytes: &[u8], came: &mut Told);
 }
 
-/// Plays the rows of a case. Where another thing came than follows a row's arrow, a line with it is appended to `wrong`.
+/// Plays the rows of a case, at most 10,000. Where something else came than what follows a row's arrow, a line with it is appended
+/// to `wrong`; so is one for a case without rows.
 pub fn play_rows<R: Rows>(alloc: Global, case: &Case<'_>, rows: &mut R, wrong: &mut Told) {
     if case.value("do").is_empty() {
         return case.tell_wrong("rows", b"none", wrong);
@@ -55,7 +56,7 @@ fn play_given<R: Rows>(alloc: Global, given: &str, rows: &mut R, came: &mut Told
     }
 }
 
-// Appends the line of a row that came otherwise, with what came.
+// Appends a line to `wrong` for a row of which something else came than the case expects: the row, and what came.
 fn tell_row(case: &Case<'_>, given: &str, came: &Told, wrong: &mut Told) {
     wrong.text(case.name);
     wrong.text(": do is ");
@@ -65,7 +66,7 @@ fn tell_row(case: &Case<'_>, given: &str, came: &Told, wrong: &mut Told) {
     wrong.text("\n");
 }
 
-/// The first word of a text, and what follows the space after it.
+/// The first word of a text, and what follows the space after it: nothing if there is no space.
 pub fn cut_word(text: &str) -> (&str, &str) {
     text.split_once(' ').unwrap_or((text, ""))
 }

@@ -10,6 +10,7 @@ use std::io::Write;
 #[derive(Drop)]
 pub struct Told {
     bytes: Vec<u8>,
+    // Whether memory ran out for a part of the text.
     lacks: bool,
 }
 
@@ -27,7 +28,7 @@ impl Told {
         self.bytes.as_slice()
     }
 
-    /// The bytes of the text, so that a caller can append to them.
+    /// The bytes of the text, for a caller that appends to them by itself.
     pub fn writer(&mut self) -> &mut Vec<u8> {
         &mut self.bytes
     }
@@ -47,7 +48,7 @@ impl Told {
         self.bytes.len().saturating_add(usize::from(self.lacks))
     }
 
-    /// Empties the text. That it lacked a part stays noted.
+    /// Empties the text. Whether it lacks a part stays as it is.
     pub fn clear(&mut self) {
         self.bytes.clear();
     }
@@ -91,13 +92,13 @@ impl Told {
         self.lacks |= is_lacking;
     }
 
-    /// Appends a title, and a value after it.
+    /// Appends a title, and then a value as `Display` prints it.
     pub fn titled<T: fmt::Display>(&mut self, title: &str, value: &T) {
         self.text(title);
         self.display(value);
     }
 
-    /// Appends a value, and what it counts after it.
+    /// Appends a value as `Display` prints it, usually a number, and then the text `what`, which says what it counts.
     pub fn counted<T: fmt::Display>(&mut self, value: &T, what: &str) {
         self.display(value);
         self.text(what);
@@ -128,7 +129,7 @@ fn hex_of(digit: u8) -> u8 {
     *b"0123456789abcdef".get(usize::from(digit)).unwrap_or(&b'?')
 }
 
-/// The number that a word writes, and `or` where it writes none.
+/// The number that a word writes in decimal digits; `or` if it is no number of 64 bits.
 pub fn number_or(word: &str, or: u64) -> u64 {
     word.parse::<u64>().unwrap_or(or)
 }

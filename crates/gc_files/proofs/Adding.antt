@@ -50,15 +50,15 @@ puts_more old mid new done bytes puts adds life is =
     )
 
 -- a file with bytes after its whole rows is mended by a cut and a sync
-pub is_cut : (held : List ℕ) (end len : ℕ) → end < len → len ≡ length held → end ≡ length (whole held) → mended held ≡ Cut end ∷ Sync ∷ []
-is_cut held end len less is ends = elim (cases_Bool (length (whole held) == length held)) [
+pub mended_by_cut : (held : List ℕ) (end len : ℕ) → end < len → len ≡ length held → end ≡ length (whole held) → mended held ≡ Cut end ∷ Sync ∷ []
+mended_by_cut held end len less is ends = elim (cases_Bool (length (whole held) == length held)) [
   | inl same ↦ absurd (omega (arith, less, is, ends, eqb-true (length (whole held)) (length held) same))
   | inr differs ↦ rw (differs) (ap (λ n. Cut n ∷ Sync ∷ []) (sym ends))
 ]
 
 -- a file of whole rows alone is mended by nothing
-pub is_whole : (held : List ℕ) (end len : ℕ) → len ≤ end → end ≤ len → len ≡ length held → end ≡ length (whole held) → mended held ≡ []
-is_whole held end len more within is ends = elim (cases_Bool (length (whole held) == length held)) [
+pub mended_by_nothing : (held : List ℕ) (end len : ℕ) → len ≤ end → end ≤ len → len ≡ length held → end ≡ length (whole held) → mended held ≡ []
+mended_by_nothing held end len more within is ends = elim (cases_Bool (length (whole held) == length held)) [
   | inl same ↦ rw (same) refl
   | inr differs ↦ absurd (wrong (length (whole held)) (length held) (omega (arith, more, within, is, ends)) differs)
 ]
@@ -71,17 +71,17 @@ is_whole held end len more within is ends = elim (cases_Bool (length (whole held
 pub mend_all : (old mid new : Option Life) (known : Life) (end len : ℕ) → end < len → len ≡ length (content known) → end ≡ length (whole (content known))
     → Adds old mid (Cut end ∷ []) → Adds mid new (Sync ∷ []) → Adds old new (mended (content known))
 mend_all old mid new known end len less is ends cut sync =
-    subst (λ (steps : List Step). Adds old new steps) (sym (is_cut (content known) end len less is ends)) (adds_two old mid new (Cut end ∷ []) (Sync ∷ []) cut sync)
+    subst (λ (steps : List Step). Adds old new steps) (sym (mended_by_cut (content known) end len less is ends)) (adds_two old mid new (Cut end ∷ []) (Sync ∷ []) cut sync)
 
 -- after whole rows no head is written
-start_by : (head l : List ℕ) → 0 < length l → (if is_empty l then head else []) ≡ []
-start_by head [] more = absurd (omega (arith, more))
-start_by head (b ∷ l) more = refl
+no_head_after_rows : (head l : List ℕ) → 0 < length l → (if is_empty l then head else []) ≡ []
+no_head_after_rows head [] more = absurd (omega (arith, more))
+no_head_after_rows head (b ∷ l) more = refl
 
 -- where no row is whole the head is written
-start_at : (head l : List ℕ) → length l ≡ 0 → (if is_empty l then head else []) ≡ head
-start_at head [] none = refl
-start_at head (b ∷ l) none = absurd (omega (arith, none))
+head_without_rows : (head l : List ℕ) → length l ≡ 0 → (if is_empty l then head else []) ≡ head
+head_without_rows head [] none = refl
+head_without_rows head (b ∷ l) none = absurd (omega (arith, none))
 
 -- a file with a whole row is opened once it is mended
 pub opens_whole : (head : List ℕ) (old new : Option Life) (end : ℕ) → 0 < end → ((life : Life) → old ≡ Some life → end ≡ length (whole (content life)))
@@ -92,7 +92,7 @@ opens_whole head old new end more ends adds life is = (
   record {
     later = [];
     split = sym (append-nil (mended (content life)));
-    puts = record { none_cut = refl; all = sym (start_by head (whole (content life)) (omega (arith, more, ends life is))) };
+    puts = record { none_cut = refl; all = sym (no_head_after_rows head (whole (content life)) (omega (arith, more, ends life is))) };
   },
 )
 
@@ -111,7 +111,7 @@ pub opens_head : (head : List ℕ) (old mid new : Option Life) (end : ℕ) → e
     → ((known : Life) → old ≡ Some known → Adds old mid (mended (content known))) → PutsAll mid new head → Opens head old new
 opens_head head old mid new end none ends adds puts life is =
     let ran = ran_more old mid new head adds puts life is in
-    (ran.0, ran.1, subst (λ (bytes : List ℕ). Ran (content life) ran.0 bytes) (sym (start_at head (whole (content life)) (omega (arith, none, ends life is)))) ran.2)
+    (ran.0, ran.1, subst (λ (bytes : List ℕ). Ran (content life) ran.0 bytes) (sym (head_without_rows head (whole (content life)) (omega (arith, none, ends life is)))) ran.2)
 
 -- a file that was mended, in part or whole, was opened as far as the opening came (`OpensInPart`)
 pub opens_part : (head : List ℕ) (old new : Option Life) → ((known : Life) → old ≡ Some known → (count : ℕ) × Adds old new (take count (mended (content known)))) → OpensInPart head old new
@@ -126,7 +126,7 @@ pub opens_head_part : (head : List ℕ) (old mid new : Option Life) (end : ℕ) 
     → (front : List ℕ) × IsFront front head × PutsAll mid new front → OpensInPart head old new
 opens_head_part head old mid new end none ends adds part life is =
     let ran = ran_more old mid new part.0 adds part.2 life is in
-    (ran.0, ran.1, inr (part.0, ran.2, subst (λ (all : List ℕ). IsFront part.0 all) (sym (start_at head (whole (content life)) (omega (arith, none, ends life is)))) part.1))
+    (ran.0, ran.1, inr (part.0, ran.2, subst (λ (all : List ℕ). IsFront part.0 all) (sym (head_without_rows head (whole (content life)) (omega (arith, none, ends life is)))) part.1))
 
 -- the known content of a file grows by what is appended
 pub content_more : (old new : Option Life) (bytes : List ℕ) → Adds old new (Append bytes ∷ []) → Appends (known_content old) (known_content new) bytes

@@ -6,14 +6,14 @@ use Rattle.std.proofs.lemmas.List.{append-nil}
 use Rattle.gc_files.specs.Files.{Life, content, later_by}
 use Rattle.gc_files.specs.Rows.{has_feed, table, is_empty}
 use Rattle.gc_files.specs.Runs.{Run, IsHead, IsRun, HasRows}
-use Rattle.gc_files.specs.Failing.{Sides, settled, one, done_by, Loses, Event, Ran, Failed, Copied, Crashed, sides_after, Occur, runs_of, is_trusted, IsFound}
+use Rattle.gc_files.specs.Failing.{Sides, settled, same_sides, done_by, Loses, Event, Ran, Failed, Copied, Crashed, sides_after, Occur, runs_of, IsTrusted, IsFound}
 use Rattle.gc_files.proofs.Whole.{whole_front}
 use Rattle.gc_files.proofs.Moments.{may_stay}
 use Rattle.gc_files.proofs.Lasting.{Lasts, one_more}
 
 -- both sides of a file have the rows of these runs after the table `before`, and the sides are the same where the file isn't
 -- in doubt
-record Good (head before : List ℕ) (runs : List Run) (sides : Sides) (doubted : Bool) : Type 0 where
+record HasRowsOnBothSides (head before : List ℕ) (runs : List Run) (sides : Sides) (doubted : Bool) : Type 0 where
   read : HasRows head before runs (content sides.read)
   disk : Lasts head before runs sides.disk
   same : doubted ≡ false → sides.read ≡ sides.disk
@@ -44,9 +44,9 @@ module _ (head before : List ℕ) (heads : IsHead head) where
   run_lasts runs sides run lasts same is = one_more head before heads runs sides.disk run lasts (subst (λ (life : Life). IsRun head (content life) run) same is)
 
   -- after a run in a file that isn't in doubt both sides have the run's rows, and are the same
-  ran : (runs : List Run) (sides : Sides) (run : Run) → Lasts head before runs sides.disk → sides.read ≡ sides.disk → IsRun head (content sides.read) run
-      → Good head before (runs ++ run ∷ []) (done_by run.steps sides) false
-  ran runs sides run lasts same is =
+  after_run : (runs : List Run) (sides : Sides) (run : Run) → Lasts head before runs sides.disk → sides.read ≡ sides.disk → IsRun head (content sides.read) run
+      → HasRowsOnBothSides head before (runs ++ run ∷ []) (done_by run.steps sides) false
+  after_run runs sides run lasts same is =
       let more = run_lasts runs sides run lasts same is in
       let both : later_by run.steps sides.read ≡ later_by run.steps sides.disk = ap (later_by run.steps) same in
       record {
@@ -57,10 +57,10 @@ module _ (head before : List ℕ) (heads : IsHead head) where
       }
 
   -- after a run whose last sync failed both sides have its rows, and the file is in doubt
-  failed : (runs : List Run) (sides : Sides) (run : Run) (read disk : List ℕ) → Lasts head before runs sides.disk → sides.read ≡ sides.disk → IsRun head (content sides.read) run
+  after_failed_sync : (runs : List Run) (sides : Sides) (run : Run) (read disk : List ℕ) → Lasts head before runs sides.disk → sides.read ≡ sides.disk → IsRun head (content sides.read) run
       → Loses (later_by run.steps sides.read) read → Loses (later_by run.steps sides.disk) disk
-      → Good head before (runs ++ run ∷ []) (record { read = settled read; disk = settled disk }) true
-  failed runs sides run read disk lasts same is loses_read loses_disk =
+      → HasRowsOnBothSides head before (runs ++ run ∷ []) (record { read = settled read; disk = settled disk }) true
+  after_failed_sync runs sides run read disk lasts same is loses_read loses_disk =
       let all = runs ++ run ∷ [] in
       let more = run_lasts runs sides run lasts same is in
       let there = subst (λ (life : Life). Loses life read) (ap (later_by run.steps) same) loses_read in
@@ -71,44 +71,44 @@ module _ (head before : List ℕ) (heads : IsHead head) where
       }
 
   -- where both sides have the rows of the runs `done`, whatever is found after more events has the rows of their runs, too
-  lasts_on : (done : List Run) (sides : Sides) (doubted : Bool) (events : List Event) → Good head before done sides doubted → Occur is_trusted head sides doubted events
+  lasts_over_events : (done : List Run) (sides : Sides) (doubted : Bool) (events : List Event) → HasRowsOnBothSides head before done sides doubted → Occur IsTrusted head sides doubted events
       → (left : List ℕ) → IsFound (sides_after sides events) left → HasRows head before (done ++ runs_of events) left
-  lasts_on done sides doubted [] good occur left found =
+  lasts_over_events done sides doubted [] good occur left found =
       subst (λ (rs : List Run). HasRows head before rs left) (sym (append-nil done)) (elim found [
         | inl is ↦ subst (HasRows head before done) (sym is) good.read
         | inr may ↦ good.disk left may
       ])
-  lasts_on done sides doubted (Ran run ∷ events) good occur left found =
-      let next = subst (Good head before (done ++ run ∷ []) (done_by run.steps sides)) (sym occur.0) (ran done sides run good.disk (good.same occur.0) occur.1) in
+  lasts_over_events done sides doubted (Ran run ∷ events) good occur left found =
+      let next = subst (HasRowsOnBothSides head before (done ++ run ∷ []) (done_by run.steps sides)) (sym occur.0) (after_run done sides run good.disk (good.same occur.0) occur.1) in
       subst (λ (rs : List Run). HasRows head before rs left) (append_assoc done (run ∷ []) (runs_of events))
-      (lasts_on (done ++ run ∷ []) (done_by run.steps sides) doubted events next occur.2 left found)
-  lasts_on done sides doubted (Failed run read disk ∷ events) good occur left found =
-      let next = failed done sides run read disk good.disk (good.same occur.0) occur.1 occur.2 occur.3 in
+      (lasts_over_events (done ++ run ∷ []) (done_by run.steps sides) doubted events next occur.2 left found)
+  lasts_over_events done sides doubted (Failed run read disk ∷ events) good occur left found =
+      let next = after_failed_sync done sides run read disk good.disk (good.same occur.0) occur.1 occur.2 occur.3 in
       subst (λ (rs : List Run). HasRows head before rs left) (append_assoc done (run ∷ []) (runs_of events))
-      (lasts_on (done ++ run ∷ []) (record { read = settled read; disk = settled disk }) true events next occur.4 left found)
-  lasts_on done sides doubted (Copied true ∷ events) good occur left found =
-      let next : Good head before done (one (settled (content sides.read))) false = record {
+      (lasts_over_events (done ++ run ∷ []) (record { read = settled read; disk = settled disk }) true events next occur.4 left found)
+  lasts_over_events done sides doubted (Copied true ∷ events) good occur left found =
+      let next : HasRowsOnBothSides head before done (same_sides (settled (content sides.read))) false = record {
         read = good.read;
         disk = settled_lasts head before done (content sides.read) good.read;
         same = λ _. refl;
       } in
-      lasts_on done (one (settled (content sides.read))) false events next occur left found
-  lasts_on done sides doubted (Copied false ∷ events) good occur left found =
-      let next : Good head before done (record { read = settled (content sides.read); disk = sides.disk }) true = record {
+      lasts_over_events done (same_sides (settled (content sides.read))) false events next occur left found
+  lasts_over_events done sides doubted (Copied false ∷ events) good occur left found =
+      let next : HasRowsOnBothSides head before done (record { read = settled (content sides.read); disk = sides.disk }) true = record {
         read = good.read;
         disk = good.disk;
         same = λ wrong. let clash : true ≡ false = wrong in cc;
       } in
-      lasts_on done (record { read = settled (content sides.read); disk = sides.disk }) true events next occur left found
-  lasts_on done sides doubted (Crashed there ∷ events) good occur left found =
+      lasts_over_events done (record { read = settled (content sides.read); disk = sides.disk }) true events next occur left found
+  lasts_over_events done sides doubted (Crashed there ∷ events) good occur left found =
       let has = good.disk there occur.0 in
-      let next : Good head before done (one (settled there)) false = record { read = has; disk = settled_lasts head before done there has; same = λ _. refl } in
-      lasts_on done (one (settled there)) false events next occur.1 left found
+      let next : HasRowsOnBothSides head before done (same_sides (settled there)) false = record { read = has; disk = settled_lasts head before done there has; same = λ _. refl } in
+      lasts_over_events done (same_sides (settled there)) false events next occur.1 left found
 
 -- the law: the table lasts over failed syncs, too
-pub tables_outlast_failures : (head held : List ℕ) → IsHead head → (events : List Event) → Occur is_trusted head (one (settled held)) false events
-    → (left : List ℕ) → IsFound (sides_after (one (settled held)) events) left → HasRows head (table head held) (runs_of events) left
+pub tables_outlast_failures : (head held : List ℕ) → IsHead head → (events : List Event) → Occur IsTrusted head (same_sides (settled held)) false events
+    → (left : List ℕ) → IsFound (sides_after (same_sides (settled held)) events) left → HasRows head (table head held) (runs_of events) left
 tables_outlast_failures head held heads events occur left found =
     let has : HasRows head (table head held) [] held = ([], tt, sym (append-nil (table head held))) in
-    lasts_on head (table head held) heads [] (one (settled held)) false events
+    lasts_over_events head (table head held) heads [] (same_sides (settled held)) false events
     (record { read = has; disk = settled_lasts head (table head held) [] held has; same = λ _. refl }) occur left found

@@ -3,31 +3,17 @@ use Rattle.std.proofs.Common.{◌≡◌, inl, inr, ℕ, ◌≤◌, true, false, 
 use Rattle.std.proofs.lemmas.List.{append-nil}
 use Rattle.gc_files.specs.Files.{Step, Append, Cut, Sync, Life, has_sync, held_after, content, later_by}
 use Rattle.gc_files.specs.Rows.{table, start_of, mended, cuts_none, appended, Puts, Ran, IsFront, ComesTo}
-use Rattle.gc_files.specs.Runs.{synced, Run, lines, AreRows, IsHead, WereKept, IsRun, life_after, lived, HasRows, IsKilled, AreKilled}
-use Rattle.gc_files.proofs.Adding.{cuts_two, appended_two}
+use Rattle.gc_files.specs.Runs.{synced, Run, lines, AreRows, IsHead, WereKept, IsRun, life_after, life_once_ended, HasRows, IsKilled, AreKilled}
+use Rattle.gc_files.proofs.Adding.{cuts_two, appended_two, synced_all}
 use Rattle.gc_files.proofs.Lasting.{RunHas, run_moments, has_more}
 use Rattle.gc_files.proofs.Moments.{may_stay, behind_two, two_steps, mend_synced}
-
--- steps that end with a sync have a sync among them
-ends_synced : (steps : List Step) → has_sync (steps ++ Sync ∷ []) ≡ true
-ends_synced [] = refl
-ends_synced (Append bytes ∷ steps) = ends_synced steps
-ends_synced (Cut size ∷ steps) = ends_synced steps
-ends_synced (Sync ∷ steps) = refl
-
--- a sync after steps that cut nothing keeps all that they appended
-all_synced : (steps : List Step) → cuts_none steps ≡ true → synced (steps ++ Sync ∷ []) ≡ appended steps
-all_synced [] none = refl
-all_synced (Append bytes ∷ steps) none = rw (ends_synced steps) (ap (λ (l : List ℕ). bytes ++ l) (all_synced steps none))
-all_synced (Sync ∷ steps) none = all_synced steps none
-all_synced (Cut size ∷ steps) none = let wrong : false ≡ true = none in cc
 
 -- a sync after a run keeps all that the run appended
 pub ran_synced : (held : List ℕ) (steps : List Step) (bytes : List ℕ) → Ran held steps bytes → synced (steps ++ Sync ∷ []) ≡ bytes
 ran_synced held steps bytes ran =
     let at : steps ++ Sync ∷ [] ≡ take 2 (mended held) ++ (ran.later ++ Sync ∷ []) =
     ap (λ (xs : List Step). xs ++ Sync ∷ []) ran.split ∙ append_assoc (mended held) ran.later (Sync ∷ []) ∙ ap (λ (xs : List Step). xs ++ (ran.later ++ Sync ∷ [])) (sym (two_steps held)) in
-    ap synced at ∙ mend_synced held 2 (ran.later ++ Sync ∷ []) ∙ all_synced ran.later ran.puts.none_cut ∙ ran.puts.all
+    ap synced at ∙ mend_synced held 2 (ran.later ++ Sync ∷ []) ∙ synced_all ran.later ∙ ran.puts.all
 
 -- an opening, and after it appends and syncs of a front of the lines of some rows, are a run of these rows
 pub calls_opened : (head held : List ℕ) (opening later : List Step) (front : List ℕ) (rows : List (List ℕ)) (kept : ℕ) (left : Option (List ℕ))
@@ -109,18 +95,18 @@ left_by : (life : Life) (run : Run) → content (later_by run.steps life) ≡ he
 left_by life run = behind_two life.start life.steps run.steps
 
 -- runs that end by themselves or by a kill add their rows, one after the other
-kills : (head before : List ℕ) → IsHead head → (done runs : List Run) (life : Life) → HasRows head before done (content life) → AreKilled head life runs
+killed_runs_add_rows : (head before : List ℕ) → IsHead head → (done runs : List Run) (life : Life) → HasRows head before done (content life) → AreKilled head life runs
     → HasRows head before (done ++ runs) (content (life_after life runs))
-kills head before heads done [] life has killed = subst (λ (rs : List Run). HasRows head before rs (content life)) (sym (append-nil done)) has
-kills head before heads done (run ∷ runs) life has killed =
+killed_runs_add_rows head before heads done [] life has killed = subst (λ (rs : List Run). HasRows head before rs (content life)) (sym (append-nil done)) has
+killed_runs_add_rows head before heads done (run ∷ runs) life has killed =
     let one = killed_has head (content life) run heads killed.0 in
     let left = subst (λ (held : List ℕ). RunHas head (content life) run held) (sym (left_by life run)) one in
     let more = has_more head before done run (content life) (content (later_by run.steps life)) has left in
-    let all = kills head before heads (done ++ run ∷ []) runs (later_by run.steps life) more killed.1 in
+    let all = killed_runs_add_rows head before heads (done ++ run ∷ []) runs (later_by run.steps life) more killed.1 in
     subst (λ (rs : List Run). HasRows head before rs (content (life_after life (run ∷ runs)))) (append_assoc done (run ∷ []) runs)
-    (subst (λ (o : Option (List ℕ)). HasRows head before ((done ++ run ∷ []) ++ runs) (content (life_after (lived life run o) runs))) (sym killed.0.killed) all)
+    (subst (λ (o : Option (List ℕ)). HasRows head before ((done ++ run ∷ []) ++ runs) (content (life_after (life_once_ended life run o) runs))) (sym killed.0.killed) all)
 
 -- the law: while the machine goes on no row is lost
 pub kills_lose_nothing : (head : List ℕ) → IsHead head → (life : Life) (runs : List Run) → AreKilled head life runs
     → HasRows head (table head (content life)) runs (content (life_after life runs))
-kills_lose_nothing head heads life runs killed = kills head (table head (content life)) heads [] runs life ([], tt, sym (append-nil (table head (content life)))) killed
+kills_lose_nothing head heads life runs killed = killed_runs_add_rows head (table head (content life)) heads [] runs life ([], tt, sym (append-nil (table head (content life)))) killed

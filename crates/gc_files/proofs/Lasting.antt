@@ -5,9 +5,9 @@ use Rattle.std.proofs.lemmas.Bool.{cases_Bool, cases_lt}
 use Rattle.std.proofs.lemmas.List.{append-nil, take_all, take_at, take-append-le}
 use Rattle.gc_files.specs.Files.{Step, Append, Cut, Sync, Life, settled, has_sync, content, later_by, MayLeave}
 use Rattle.gc_files.specs.Rows.{whole, line, is_empty, start_of, table, mended, appended, Ran, IsFront}
-use Rattle.gc_files.specs.Runs.{synced, Run, lines, AreRows, IsHead, IsRun, lived, Ended, Happen, life_after, rows_of, Counts, HasRows}
+use Rattle.gc_files.specs.Runs.{synced, Run, lines, AreRows, IsHead, IsRun, life_once_ended, CrashMayLeave, Happen, life_after, rows_of, AreRowCounts, HasRows}
 use Rattle.gc_files.proofs.Whole.{whole_whole, whole_more, within}
-use Rattle.gc_files.proofs.Moments.{may_stay, leaves_two, no_sync, mends, mend_moments, two_steps, mend_synced, put_moments}
+use Rattle.gc_files.proofs.Moments.{may_stay, leaves_two, no_sync, mended_leaves_whole, mend_moments, two_steps, mend_synced, put_moments}
 
 -- `left` has some of these rows after what was there before, at least all those that end within the first k bytes
 pub record Has (head held : List ℕ) (rows : List (List ℕ)) (k : ℕ) (left : List ℕ) : Type 0 where
@@ -33,8 +33,8 @@ none_more head held rows left are same =
     }
 
 -- the table of a file with a whole row is its whole rows
-filled : (head : List ℕ) (b : ℕ) (bs : List ℕ) (left : List ℕ) → whole left ≡ b ∷ bs → table head left ≡ b ∷ bs
-filled head b bs left is = table_by head left (b ∷ bs) is ∙ append-nil (b ∷ bs)
+table_of_rows : (head : List ℕ) (b : ℕ) (bs : List ℕ) (left : List ℕ) → whole left ≡ b ∷ bs → table head left ≡ b ∷ bs
+table_of_rows head b bs left is = table_by head left (b ∷ bs) is ∙ append-nil (b ∷ bs)
 
 -- the line of a row has a first byte
 line_first : (row : List ℕ) → (b : ℕ) × (bs : List ℕ) × (line row ≡ b ∷ bs)
@@ -53,7 +53,7 @@ behind_rows head held b bs rows k left are some is =
     record {
       count = w.count;
       few = w.few;
-      is = filled head b (bs ++ lines (take w.count rows)) left first ∙ ap (λ (l : List ℕ). l ++ lines (take w.count rows)) (sym (filled head b bs held some));
+      is = table_of_rows head b (bs ++ lines (take w.count rows)) left first ∙ ap (λ (l : List ℕ). l ++ lines (take w.count rows)) (sym (table_of_rows head b bs held some));
       least = λ m few le. w.least m few (subst (λ (l : List ℕ). length (l ++ lines (take m rows)) ≤ k) start le);
     }
 
@@ -100,7 +100,7 @@ head_first row held rows k left none (suc n) few is least =
     record {
       count = n;
       few = omega (arith, few);
-      is = filled (line row) f.0 (f.1 ++ lines (take n rows)) left first ∙ ap (λ (l : List ℕ). l ++ lines (take n rows)) (sym f.2 ∙ sym (table_by (line row) held [] none));
+      is = table_of_rows (line row) f.0 (f.1 ++ lines (take n rows)) left first ∙ ap (λ (l : List ℕ). l ++ lines (take n rows)) (sym f.2 ∙ sym (table_by (line row) held [] none));
       least = λ m few le. omega (arith, least (suc m) (omega (arith, few)) (subst (λ (l : List ℕ). length (l ++ lines (take m rows)) ≤ k) start le));
     }
 
@@ -153,8 +153,8 @@ kept_within head held run left k one enough has = record {
 
 -- where nothing of a run was synced, none of its rows is kept, so that a file to which nothing was added has what the run must
 -- leave (`RunHas`)
-none_of : (head held : List ℕ) (run : Run) (left : List ℕ) → IsRun head held run → synced run.steps ≡ [] → RunHas head left run left
-none_of head held run left one nothing =
+no_row_kept : (head held : List ℕ) (run : Run) (left : List ℕ) → IsRun head held run → synced run.steps ≡ [] → RunHas head left run left
+no_row_kept head held run left one nothing =
     let w = within run.rows 0 one.rows in
     record {
       count = w.count;
@@ -212,7 +212,7 @@ run_moments head held run left heads one may = elim one.steps [
               let same = mend_moments held 2 left (subst (λ (steps : List Step). MayLeave held steps left) (sym (two_steps held)) before.1) in
               kept_within head held run left 0 one (omega (arith, ap length nothing)) (none_more head held run.rows left one.rows (same_table head left held same))
           | inr behind_it ↦
-              let there = subst (λ (h : List ℕ). MayLeave h ran.later left) (mends held) behind_it in
+              let there = subst (λ (h : List ℕ). MayLeave h ran.later left) (mended_leaves_whole held) behind_it in
               let moment = put_moments ran.later (whole held) left ran.puts.none_cut there in
               let at_bytes : left ≡ whole held ++ take moment.count bytes = moment.is ∙ ap (λ (l : List ℕ). whole held ++ take moment.count l) ran.puts.all in
               let t = front_take (whole held) (start_of head held ++ lines run.rows) bytes moment.count front in
@@ -228,14 +228,14 @@ run_moments head held run left heads one may = elim one.steps [
         whole_mended later = ap (λ (steps : List Step). synced (steps ++ later)) (sym (two_steps held)) ∙ mend_synced held 2 later
 
 -- counts for some runs, and after them a count for one more run, are counts for all of these runs
-pub counts_more : (runs : List Run) (counts : List ℕ) (run : Run) (n : ℕ) → Counts runs counts → run.kept ≤ n → n ≤ length run.rows → Counts (runs ++ run ∷ []) (counts ++ n ∷ [])
+pub counts_more : (runs : List Run) (counts : List ℕ) (run : Run) (n : ℕ) → AreRowCounts runs counts → run.kept ≤ n → n ≤ length run.rows → AreRowCounts (runs ++ run ∷ []) (counts ++ n ∷ [])
 counts_more [] [] run n cs least few = (least, few, tt)
 counts_more [] (m ∷ counts) run n cs least few = absurd cs
 counts_more (r ∷ runs) [] run n cs least few = absurd cs
 counts_more (r ∷ runs) (m ∷ counts) run n cs least few = (cs.0, cs.1, counts_more runs counts run n cs.2 least few)
 
 -- the rows of one more run come after those of the others
-pub rows_more : (runs : List Run) (counts : List ℕ) (run : Run) (n : ℕ) → Counts runs counts → rows_of (runs ++ run ∷ []) (counts ++ n ∷ []) ≡ rows_of runs counts ++ lines (take n run.rows)
+pub rows_more : (runs : List Run) (counts : List ℕ) (run : Run) (n : ℕ) → AreRowCounts runs counts → rows_of (runs ++ run ∷ []) (counts ++ n ∷ []) ≡ rows_of runs counts ++ lines (take n run.rows)
 rows_more [] [] run n cs = append-nil (lines (take n run.rows))
 rows_more [] (m ∷ counts) run n cs = absurd cs
 rows_more (r ∷ runs) [] run n cs = absurd cs
@@ -262,23 +262,23 @@ module _ (head before : List ℕ) (heads : IsHead head) where
   one_more runs life run lasts one left may = elim (leaves_two life.start life.steps run.steps left may) [
     | inl old ↦
         let nothing = no_sync run.steps old.0 in
-        let more = none_of head (content life) run left one nothing in
+        let more = no_row_kept head (content life) run left one nothing in
         has_more head before runs run left left (lasts left old.1) more
     | inr new ↦ has_more head before runs run (content life) left (lasts (content life) (may_stay life.start life.steps)) (run_moments head (content life) run left heads one new)
   ]
 
   -- the table lasts over one more run and its end, also where that end is a crash of the machine
-  ended : (runs : List Run) (life : Life) (run : Run) (left : Option (List ℕ)) → Lasts head before runs life → IsRun head (content life) run
-      → Ended life run left → Lasts head before (runs ++ run ∷ []) (lived life run left)
-  ended runs life run None lasts one end = one_more runs life run lasts one
-  ended runs life run (Some there) lasts one end = λ left may. subst (HasRows head before (runs ++ run ∷ [])) (sym may) (one_more runs life run lasts one there end)
+  one_more_ended : (runs : List Run) (life : Life) (run : Run) (left : Option (List ℕ)) → Lasts head before runs life → IsRun head (content life) run
+      → CrashMayLeave life run left → Lasts head before (runs ++ run ∷ []) (life_once_ended life run left)
+  one_more_ended runs life run None lasts one end = one_more runs life run lasts one
+  one_more_ended runs life run (Some there) lasts one end = λ left may. subst (HasRows head before (runs ++ run ∷ [])) (sym may) (one_more runs life run lasts one there end)
 
   -- the table lasts over all runs
   all_runs : (earlier runs : List Run) (life : Life) → Lasts head before earlier life → Happen head life runs → Lasts head before (earlier ++ runs) (life_after life runs)
   all_runs earlier [] life lasts happen = subst (λ (rs : List Run). Lasts head before rs life) (sym (append-nil earlier)) lasts
   all_runs earlier (run ∷ runs) life lasts happen =
-      subst (λ (rs : List Run). Lasts head before rs (life_after (lived life run run.left) runs)) (append_assoc earlier (run ∷ []) runs)
-      (all_runs (earlier ++ run ∷ []) runs (lived life run run.left) (ended earlier life run run.left lasts happen.0 happen.1) happen.2)
+      subst (λ (rs : List Run). Lasts head before rs (life_after (life_once_ended life run run.left) runs)) (append_assoc earlier (run ∷ []) runs)
+      (all_runs (earlier ++ run ∷ []) runs (life_once_ended life run run.left) (one_more_ended earlier life run run.left lasts happen.0 happen.1) happen.2)
 
 -- the law: over any runs and crashes the table lasts
 pub tables_last : (head held : List ℕ) → IsHead head → (runs : List Run) → Happen head (settled held) runs

@@ -23,15 +23,15 @@ take_nil : (n : ℕ) → take {A = Step} n [] ≡ []
 take_nil n = take_all n [] (omega arith)
 
 -- true isn't false
-is_not : true ≡ false → ⊥
-is_not e = cc
+true_is_not_false : true ≡ false → ⊥
+true_is_not_false e = cc
 
 -- where there is no sync in `xs ++ ys`, there is none in `xs`, and none in `ys`
 sync_two : (xs ys : List Step) → has_sync (xs ++ ys) ≡ false → (has_sync xs ≡ false) × (has_sync ys ≡ false)
 sync_two [] ys none = (refl, none)
 sync_two (Append bytes ∷ xs) ys none = sync_two xs ys none
 sync_two (Cut size ∷ xs) ys none = sync_two xs ys none
-sync_two (Sync ∷ xs) ys none = absurd (is_not none)
+sync_two (Sync ∷ xs) ys none = absurd (true_is_not_false none)
 
 -- what a crash may leave after the steps `xs ++ ys` is what it may leave after `xs` alone, where `ys` have no sync, or what it
 -- may leave after `ys` of the file that `xs` made
@@ -50,11 +50,11 @@ pub no_sync : (steps : List Step) → has_sync steps ≡ false → synced steps 
 no_sync [] none = refl
 no_sync (Append bytes ∷ steps) none = rw (none) refl
 no_sync (Cut size ∷ steps) none = no_sync steps none
-no_sync (Sync ∷ steps) none = absurd (is_not none)
+no_sync (Sync ∷ steps) none = absurd (true_is_not_false none)
 
 -- mending a file leaves its whole rows
-pub mends : (held : List ℕ) → held_after held (mended held) ≡ whole held
-mends held = elim (cases_Bool (length (whole held) == length held)) [
+pub mended_leaves_whole : (held : List ℕ) → held_after held (mended held) ≡ whole held
+mended_leaves_whole held = elim (cases_Bool (length (whole held) == length held)) [
   | inl same ↦
       let t = torn_of held in
       let none : mended held ≡ [] = rw (same) refl in
@@ -79,8 +79,8 @@ cut_moments : (held : List ℕ) (count : ℕ) (left : List ℕ) → MayLeave hel
 cut_moments held zero left may = ap whole may
 cut_moments held (suc zero) left (inl now) = ap whole now.1.2 ∙ whole_take held now.1.0 now.1.1
 cut_moments held (suc zero) left (inr next) = ap whole next ∙ whole_take held (length (whole held)) (omega arith)
-cut_moments held (suc (suc n)) left (inl now) = absurd (is_not now.0)
-cut_moments held (suc (suc n)) left (inr (inl now)) = absurd (is_not now.0)
+cut_moments held (suc (suc n)) left (inl now) = absurd (true_is_not_false now.0)
+cut_moments held (suc (suc n)) left (inr (inl now)) = absurd (true_is_not_false now.0)
 cut_moments held (suc (suc n)) left (inr (inr next)) =
     ap whole (subst (λ (steps : List Step). MayLeave (take (length (whole held)) held) steps left) (take_nil n) next) ∙ whole_take held (length (whole held)) (omega arith)
 
@@ -127,8 +127,8 @@ pub record Reached (held all least left : List ℕ) : Type 0 where
   pub enough : length least ≤ count
 
 -- the first bytes of a front are some first bytes of the whole
-part_of : (held bytes rest : List ℕ) (k : ℕ) → (count : ℕ) × (held ++ take k bytes ≡ held ++ take count (bytes ++ rest))
-part_of held bytes rest k = elim (cases_lt k (length bytes)) [
+front_of_front : (held bytes rest : List ℕ) (k : ℕ) → (count : ℕ) × (held ++ take k bytes ≡ held ++ take count (bytes ++ rest))
+front_of_front held bytes rest k = elim (cases_lt k (length bytes)) [
   | inl less ↦ (k, ap (λ (l : List ℕ). held ++ l) (sym (take-append-le k bytes rest (omega (arith, less)))))
   | inr more ↦ (length bytes, ap (λ (l : List ℕ). held ++ l) (take_all k bytes more ∙ sym (take_at bytes rest (length bytes) refl)))
 ]
@@ -137,7 +137,7 @@ part_of held bytes rest k = elim (cases_lt k (length bytes)) [
 pub put_moments : (steps : List Step) (held left : List ℕ) → cuts_none steps ≡ true → MayLeave held steps left → Reached held (appended steps) (synced steps) left
 put_moments [] held left none may = record { count = 0; is = may ∙ sym (append-nil held); enough = omega arith }
 put_moments (Append bytes ∷ steps) held left none (inl now) =
-    let at = part_of held bytes (appended steps) now.1.0 in
+    let at = front_of_front held bytes (appended steps) now.1.0 in
     record { count = at.0; is = now.1.1 ∙ at.1; enough = subst (λ (l : List ℕ). length l ≤ at.0) (sym (no_sync (Append bytes ∷ steps) now.0)) (omega arith) }
 put_moments (Append bytes ∷ steps) held left none (inr next) =
     let rest = put_moments steps (held ++ bytes) left none next in
@@ -149,6 +149,6 @@ put_moments (Append bytes ∷ steps) held left none (inr next) =
         | inr isnt ↦ rw (isnt) (omega arith)
       ];
     }
-put_moments (Sync ∷ steps) held left none (inl now) = absurd (is_not now.0)
+put_moments (Sync ∷ steps) held left none (inl now) = absurd (true_is_not_false now.0)
 put_moments (Sync ∷ steps) held left none (inr next) = put_moments steps held left none next
-put_moments (Cut size ∷ steps) held left none may = absurd (is_not (sym none))
+put_moments (Cut size ∷ steps) held left none may = absurd (true_is_not_false (sym none))

@@ -2,28 +2,28 @@
 use Rattle.std.proofs.Common.{◌≡◌, inl, inr, ℕ, false, List, [], ◌∷◌, refl, arith, None}
 use Rattle.gc_files.specs.Files.{Append, Sync}
 use Rattle.gc_files.specs.Runs.{Run, IsRun, rows_of}
-use Rattle.gc_files.specs.Failing.{settled, one, Event, Ran, Failed, Occur, runs_of, TablesLastWhere}
+use Rattle.gc_files.specs.Failing.{settled, same_sides, Event, Ran, Failed, Occur, runs_of, TablesLastWhere}
 
 -- a head that is a line feed
-abbrev head : List ℕ
-head = 10 ∷ []
+abbrev line_feed_head : List ℕ
+line_feed_head = 10 ∷ []
 
 -- a run that writes the head, and no row
-abbrev first : Run
-first = record { rows = []; steps = Append (10 ∷ []) ∷ []; kept = 0; left = None }
+abbrev first_run : Run
+first_run = record { rows = []; steps = Append (10 ∷ []) ∷ []; kept = 0; left = None }
 
 -- a second run, which writes a row that is reported to it as kept
-abbrev second : Run
-second = record { rows = (65 ∷ []) ∷ []; steps = Append (65 ∷ 10 ∷ []) ∷ Sync ∷ []; kept = 1; left = None }
+abbrev second_run : Run
+second_run = record { rows = (65 ∷ []) ∷ []; steps = Append (65 ∷ 10 ∷ []) ∷ Sync ∷ []; kept = 1; left = None }
 
 -- the last sync of the first run fails: a read still returns the head, and the disk has a zero in its place. Then the second
 -- run goes on in that file
 abbrev events : List Event
-events = Failed first (10 ∷ []) (0 ∷ []) ∷ Ran second ∷ []
+events = Failed first_run (10 ∷ []) (0 ∷ []) ∷ Ran second_run ∷ []
 
 -- the first run is one over an empty file
-first_is : IsRun head [] first
-first_is = record {
+first_is_a_run : IsRun line_feed_head [] first_run
+first_is_a_run = record {
   rows = tt;
   steps = inr (10 ∷ [], record { later = Append (10 ∷ []) ∷ []; split = refl; puts = record { none_cut = refl; all = refl } }, record { rest = []; split = refl });
   few = omega arith;
@@ -31,8 +31,8 @@ first_is = record {
 }
 
 -- the second run is one over the file that a read returns
-second_is : IsRun head (10 ∷ []) second
-second_is = record {
+second_is_a_run : IsRun line_feed_head (10 ∷ []) second_run
+second_is_a_run = record {
   rows = (refl, tt);
   steps = inr (65 ∷ 10 ∷ [], record { later = Append (65 ∷ 10 ∷ []) ∷ Sync ∷ []; split = refl; puts = record { none_cut = refl; all = refl } }, record { rest = []; split = refl });
   few = omega arith;
@@ -40,18 +40,18 @@ second_is = record {
 }
 
 -- the events happen
-they_occur : Occur (λ doubted. Unit {0}) head (one (settled [])) false events
-they_occur = (
+events_occur : Occur (λ doubted. Unit {0}) line_feed_head (same_sides (settled [])) false events
+events_occur = (
   tt,
-  first_is,
+  first_is_a_run,
   record { front = 10 ∷ []; may = inr refl; hole = []; none = refl; is = refl },
   record { front = []; may = inl (refl, (0, refl)); hole = 0 ∷ []; none = refl; is = refl },
-  (tt, second_is, tt),
+  (tt, second_is_a_run, tt),
 )
 
 -- the law: where runs go on in a file in doubt, the table doesn't last
 pub copies_are_needed : TablesLastWhere (λ doubted. Unit {0}) → ⊥
 copies_are_needed lasts =
-    let has = lasts head [] (inr ([], refl, refl)) events they_occur (0 ∷ 65 ∷ 10 ∷ []) (inr (inr (inr refl))) in
+    let has = lasts line_feed_head [] (inr ([], refl, refl)) events events_occur (0 ∷ 65 ∷ 10 ∷ []) (inr (inr (inr refl))) in
     let wrong : 0 ∷ 65 ∷ 10 ∷ [] ≡ 10 ∷ rows_of (runs_of events) has.0 = has.2 in
     cc

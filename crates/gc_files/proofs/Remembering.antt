@@ -21,9 +21,9 @@ content_step life step = behind_two life.start life.steps (step ∷ [])
 
 -- where a file holds what its noted calls made of its start, it still does once one more call is noted and the file holds what
 -- that call made of it
-pub noted : (start : List ℕ) (calls new : List Call) (c : Call) (old now next : List ℕ) → new ≡ calls ++ c ∷ [] → now ≡ next → next ≡ stepped old (step_of c)
+pub holds_after_note : (start : List ℕ) (calls new : List Call) (c : Call) (old now next : List ℕ) → new ≡ calls ++ c ∷ [] → now ≡ next → next ≡ stepped old (step_of c)
     → old ≡ content (life_by start calls) → now ≡ content (life_by start new)
-noted start calls new c old now next is put made was =
+holds_after_note start calls new c old now next is put made was =
     put ∙ made ∙ ap (λ (held : List ℕ). stepped held (step_of c)) was ∙ sym (content_step (life_by start calls) (step_of c)) ∙ ap content (sym (life_more start calls new c is))
 
 -- a call that is noted is one more step

@@ -1,5 +1,5 @@
 -- Files in which a sync failed: what the system may have lost of them, and what becomes of their rows. This project's own.
-use Rattle.std.specs.Prelude.{◌≡◌, ◌⊎◌, ℕ, Bool, true, false, List, [], ◌∷◌, ◌++◌, ◌+◌, ◌==◌, if◌then◌else◌}
+use Rattle.std.specs.Prelude.{◌≡◌, ◌⊎◌, ℕ, Bool, true, false, List, [], ◌∷◌, ◌++◌, ◌+◌, ◌==◌, if◌then◌else◌, Option, Some}
 use Rattle.gc_files.specs.Files.{Step, Life, content, later_by, MayLeave}
 pub use Rattle.gc_files.specs.Files.{settled}
 use Rattle.gc_files.specs.Rows.{has_feed, table}
@@ -14,18 +14,22 @@ abbrev pub feeds : List ℕ → ℕ
 feeds [] = 0
 feeds (b ∷ bs) = feed_of b + feeds bs
 
+-- if the life of the file is known, so many line feeds are among the bytes that it holds
+abbrev pub IsFeedsIn : Option Life → (count : ℕ) → Type 0
+IsFeedsIn life count = (known : Life) → life ≡ Some known → count ≡ feeds (content known)
+
 -- The two sides of a file. What a read returns comes of one life, and what a crash may leave of the other. They are one until a sync fails:
 -- the system may have dropped bytes that it couldn't write, still return them, and count them as written.
 pub record Sides : Type 0 where
   pub read : Life
   pub disk : Life
 
--- both sides of a file in which no sync failed: this life
-abbrev pub one : Life → Sides
-one life = record { read = life; disk = life }
+-- the sides of a file in which no sync failed: both are this life
+abbrev pub same_sides : Life → Sides
+same_sides life = record { read = life; disk = life }
 
 -- both sides after these steps, each of which is done on both: so a later sync keeps what is on the disk, whatever a read returns
-abbrev pub done_by : List Step → Sides → Sides
+abbrev pub done_by : (steps : List Step) → Sides → Sides
 done_by steps sides = record { read = later_by steps sides.read; disk = later_by steps sides.disk }
 
 -- what a failed sync may make of a side: a front that a crash might have left, and after it, in place of what is lost, bytes
@@ -54,23 +58,23 @@ abbrev pub sides_after : Sides → List Event → Sides
 sides_after sides [] = sides
 sides_after sides (Ran run ∷ events) = sides_after (done_by run.steps sides) events
 sides_after sides (Failed run read disk ∷ events) = sides_after (record { read = settled read; disk = settled disk }) events
-sides_after sides (Copied true ∷ events) = sides_after (one (settled (content sides.read))) events
+sides_after sides (Copied true ∷ events) = sides_after (same_sides (settled (content sides.read))) events
 sides_after sides (Copied false ∷ events) = sides_after (record { read = settled (content sides.read); disk = sides.disk }) events
-sides_after sides (Crashed left ∷ events) = sides_after (one (settled left)) events
+sides_after sides (Crashed left ∷ events) = sides_after (same_sides (settled left)) events
 
 -- these events can happen to a file with these sides; `head` is what a new file gets first. `doubted` is whether the file is in
 -- doubt: a sync of it failed, and no copy has taken its place since. A run goes on only where `goes` allows it for a file that is
 -- in doubt (true) or isn't (false). A failed sync puts the file in doubt; a copy whose name is on the disk, and a crash, end the
 -- doubt
-abbrev pub Occur : (Bool → Type 0) → List ℕ → Sides → Bool → List Event → Type 0
+abbrev pub Occur : (goes : Bool → Type 0) (head : List ℕ) → Sides → (doubted : Bool) → List Event → Type 0
 Occur goes head sides doubted [] = Unit {0}
 Occur goes head sides doubted (Ran run ∷ events) = goes doubted × IsRun head (content sides.read) run × Occur goes head (done_by run.steps sides) doubted events
 Occur goes head sides doubted (Failed run read disk ∷ events) =
     goes doubted × IsRun head (content sides.read) run × Loses (later_by run.steps sides.read) read × Loses (later_by run.steps sides.disk) disk
     × Occur goes head (record { read = settled read; disk = settled disk }) true events
-Occur goes head sides doubted (Copied true ∷ events) = Occur goes head (one (settled (content sides.read))) false events
+Occur goes head sides doubted (Copied true ∷ events) = Occur goes head (same_sides (settled (content sides.read))) false events
 Occur goes head sides doubted (Copied false ∷ events) = Occur goes head (record { read = settled (content sides.read); disk = sides.disk }) true events
-Occur goes head sides doubted (Crashed left ∷ events) = MayLeave sides.disk.start sides.disk.steps left × Occur goes head (one (settled left)) false events
+Occur goes head sides doubted (Crashed left ∷ events) = MayLeave sides.disk.start sides.disk.steps left × Occur goes head (same_sides (settled left)) false events
 
 -- the runs among these events, in order
 abbrev pub runs_of : List Event → List Run
@@ -81,22 +85,22 @@ runs_of (Copied named ∷ events) = runs_of events
 runs_of (Crashed left ∷ events) = runs_of events
 
 -- `left` is what a read of the file returns, or what a crash may leave of the file
-abbrev pub IsFound : Sides → List ℕ → Type 0
+abbrev pub IsFound : Sides → (left : List ℕ) → Type 0
 IsFound sides left = (left ≡ content sides.read) ⊎ MayLeave sides.disk.start sides.disk.steps left
 
 -- after any events among which runs go on only where `goes` allows it: whatever is then found of the file, the next opening
 -- makes of it the table that was there before the events, and after it the rows of the runs
-abbrev pub TablesLastWhere : (Bool → Type 0) → Type 0
-TablesLastWhere goes = (head held : List ℕ) → IsHead head → (events : List Event) → Occur goes head (one (settled held)) false events
-    → (left : List ℕ) → IsFound (sides_after (one (settled held)) events) left → HasRows head (table head held) (runs_of events) left
+abbrev pub TablesLastWhere : (goes : Bool → Type 0) → Type 0
+TablesLastWhere goes = (head held : List ℕ) → IsHead head → (events : List Event) → Occur goes head (same_sides (settled held)) false events
+    → (left : List ℕ) → IsFound (sides_after (same_sides (settled held)) events) left → HasRows head (table head held) (runs_of events) left
 
--- what a run needs to go on: the file isn't in doubt
-abbrev pub is_trusted : Bool → Type 0
-is_trusted doubted = doubted ≡ false
+-- a file is trusted with further rows: it isn't in doubt
+abbrev pub IsTrusted : Bool → Type 0
+IsTrusted doubted = doubted ≡ false
 
 -- tables last over failed syncs, where no run goes on in a file in doubt
 abbrev pub TablesOutlastFailures : Type 0
-TablesOutlastFailures = TablesLastWhere is_trusted
+TablesOutlastFailures = TablesLastWhere IsTrusted
 
 -- where runs go on in any file, tables don't last
 abbrev pub CopiesAreNeeded : Type 0

@@ -24,13 +24,13 @@ stepped held (Cut size) = take size held
 stepped held Sync = held
 
 -- what a file that held `held` holds after these steps
-abbrev pub held_after : List ℕ → List Step → List ℕ
+abbrev pub held_after : (held : List ℕ) → List Step → List ℕ
 held_after held [] = held
 held_after held (step ∷ steps) = held_after (stepped held step) steps
 
 -- what a crash in the course of a step finds: what the file held with a front of what is appended; at a cut, a front of what the file held,
 -- of at least `size` bytes; at a sync, what the file held
-abbrev pub InPart : List ℕ → Step → List ℕ → Type 0
+abbrev pub InPart : (held : List ℕ) → Step → (left : List ℕ) → Type 0
 InPart held (Append bytes) left = (k : ℕ) × (left ≡ held ++ take k bytes)
 InPart held (Cut size) left = (k : ℕ) × (size ≤ k) × (left ≡ take k held)
 InPart held Sync left = left ≡ held
@@ -45,11 +45,11 @@ has_sync (Cut size ∷ steps) = has_sync steps
 -- what a crash after these steps may leave of a file that held `held` before them: what the file holds now, or what it held in
 -- the course of a step that is no sync and that no sync follows. Outside of this is a crash that leaves bytes without those
 -- before them, because the system wrote pages back in another order
-abbrev pub MayLeave : List ℕ → List Step → List ℕ → Type 0
+abbrev pub MayLeave : (held : List ℕ) → List Step → (left : List ℕ) → Type 0
 MayLeave held [] left = left ≡ held
 MayLeave held (step ∷ steps) left = ((has_sync (step ∷ steps) ≡ false) × InPart held step left) ⊎ MayLeave (stepped held step) steps left
 
--- what a read returns
+-- what a file with this life holds, which is what a read returns
 abbrev pub content : Life → List ℕ
 content life = held_after life.start life.steps
 
@@ -57,17 +57,21 @@ content life = held_after life.start life.steps
 abbrev pub IsKept : Life → Type 0
 IsKept life = (left : List ℕ) → MayLeave life.start life.steps left → left ≡ content life
 
+-- if the life of the file is known, a crash leaves what a read returns, and nothing else
+abbrev pub IsKeptFile : Option Life → Type 0
+IsKeptFile life = (known : Life) → life ≡ Some known → IsKept known
+
 -- the same life with these steps added at its end
 abbrev pub later_by : List Step → Life → Life
 later_by steps life = record { start = life.start; steps = life.steps ++ steps }
 
 -- where the life of a file was known (`old`), it is known still (`new`), and has these steps at its end
-abbrev pub Adds : Option Life → Option Life → List Step → Type 0
+abbrev pub Adds : (old new : Option Life) → List Step → Type 0
 Adds old new steps = (life : Life) → old ≡ Some life → new ≡ Some (later_by steps life)
 
 -- a call made this step, and none where it failed. Outside of this are an append that failed and wrote a part all the same, and a cut that
 -- failed and was made, or made in part
-abbrev pub Makes : {X E : Type 0} → Option Life → Option Life → Result X E → (X → Step) → Type 0
+abbrev pub Makes : {X E : Type 0} → (old new : Option Life) → Result X E → (X → Step) → Type 0
 Makes old new (Ok x) step = Adds old new (step x ∷ [])
 Makes old new (Err _) step = new ≡ old
 

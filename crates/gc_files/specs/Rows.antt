@@ -1,14 +1,14 @@
 -- Files of rows, each ended by a line feed: what is whole of such a file, and what an opening makes of it. A head is what a new
 -- file gets first: a line, or nothing. `old` and `new` are a file's life before and after, where it is known. This project's own.
-use Rattle.std.specs.Prelude.{◌≡◌, ◌⊎◌, ℕ, ◌==◌, ◌&&◌, Bool, true, false, List, [], ◌∷◌, ◌++◌, length, take, if◌then◌else◌, Option, Some}
-use Rattle.gc_files.specs.Files.{Step, Append, Cut, Sync, Life, content, later_by}
+use Rattle.std.specs.Prelude.{◌≡◌, ◌⊎◌, ℕ, ◌+◌, ◌==◌, ◌&&◌, Bool, true, false, List, [], ◌∷◌, ◌++◌, length, take, if◌then◌else◌, Option, Some}
+use Rattle.gc_files.specs.Files.{Step, Append, Cut, Sync, Life, Adds, content, later_by}
 
 -- whether a line feed is among these bytes
 abbrev pub has_feed : List ℕ → Bool
 has_feed [] = false
 has_feed (b ∷ bs) = if b == 10 then true else has_feed bs
 
--- the whole rows: all through the last line feed
+-- the whole rows among these bytes: all through the last line feed, and nothing where there is none
 abbrev pub whole : List ℕ → List ℕ
 whole [] = []
 whole (b ∷ bs) = if has_feed (b ∷ bs) then b ∷ whole bs else []
@@ -17,8 +17,8 @@ whole (b ∷ bs) = if has_feed (b ∷ bs) then b ∷ whole bs else []
 abbrev pub line : List ℕ → List ℕ
 line row = row ++ 10 ∷ []
 
--- whether a file holds the sign at its front, or a front of the sign alone
-abbrev pub fits : List ℕ → List ℕ → Bool
+-- whether a file that holds `held` begins with the sign, or holds a front of the sign alone
+abbrev pub fits : (sign held : List ℕ) → Bool
 fits [] held = true
 fits (a ∷ sign) [] = true
 fits (a ∷ sign) (b ∷ held) = (a == b) && fits sign held
@@ -28,15 +28,15 @@ abbrev pub is_empty : List ℕ → Bool
 is_empty [] = true
 is_empty (b ∷ bs) = false
 
--- what an opening writes: the head, where no whole row is there
-abbrev pub start_of : List ℕ → List ℕ → List ℕ
+-- what an opening writes into a file that held `held`: the head, where no whole row is there, and else nothing
+abbrev pub start_of : (head held : List ℕ) → List ℕ
 start_of head held = if is_empty (whole held) then head else []
 
 -- what is in a file once it is opened: its whole rows, or the head where there are none
-abbrev pub table : List ℕ → List ℕ → List ℕ
+abbrev pub table : (head held : List ℕ) → List ℕ
 table head held = whole held ++ start_of head held
 
--- how an opening mends a file: what follows the last line feed is cut off, and that is on the disk before anything follows
+-- the steps by which an opening mends a file: where bytes follow the last line feed, a cut that takes them off, and a sync of it; else none
 abbrev pub mended : List ℕ → List Step
 mended held = if length (whole held) == length held then [] else Cut (length (whole held)) ∷ Sync ∷ []
 
@@ -77,18 +77,54 @@ pub record IsFront (front all : List ℕ) : Type 0 where
 
 -- what a run did, as far as it came, to a file that held `held`: it mended the file, in part or whole, and did nothing else; or
 -- it mended the file whole, and then appended a front of `all`
-abbrev pub ComesTo : List ℕ → List ℕ → List Step → Type 0
+abbrev pub ComesTo : (held all : List ℕ) → List Step → Type 0
 ComesTo held all steps = Mending held steps ⊎ ((bytes : List ℕ) × Ran held steps bytes × IsFront bytes all)
 
 -- an opening mended the file, and wrote the head where no whole row was there
-abbrev pub Opens : List ℕ → Option Life → Option Life → Type 0
+abbrev pub Opens : (head : List ℕ) (old new : Option Life) → Type 0
 Opens head old new = (life : Life) → old ≡ Some life → (steps : List Step) × (new ≡ Some (later_by steps life)) × Ran (content life) steps (start_of head (content life))
 
 -- an opening did a front of what an opening does, as far as it came: it mended the file, in part or whole, and did nothing else;
 -- or it mended the file whole, and then wrote a front of the head, where no whole row was there
-abbrev pub OpensInPart : List ℕ → Option Life → Option Life → Type 0
+abbrev pub OpensInPart : (head : List ℕ) (old new : Option Life) → Type 0
 OpensInPart head old new = (life : Life) → old ≡ Some life → (steps : List Step) × (new ≡ Some (later_by steps life)) × ComesTo (content life) (start_of head (content life)) steps
 
 -- these bytes were appended, in some pieces, and nothing else was done but syncs
-abbrev pub PutsAll : Option Life → Option Life → List ℕ → Type 0
+abbrev pub PutsAll : (old new : Option Life) (bytes : List ℕ) → Type 0
 PutsAll old new bytes = (life : Life) → old ≡ Some life → (steps : List Step) × (new ≡ Some (later_by steps life)) × Puts steps bytes
+
+-- The file with this life, if that is known.
+
+-- so many bytes are in the file
+abbrev pub IsLengthOf : Option Life → (len : ℕ) → Type 0
+IsLengthOf life len = (known : Life) → life ≡ Some known → len ≡ length (content known)
+
+-- so many bytes are in the whole rows of the file
+abbrev pub IsEndOfRows : Option Life → (end : ℕ) → Type 0
+IsEndOfRows life end = (known : Life) → life ≡ Some known → end ≡ length (whole (content known))
+
+-- so many bytes follow the whole rows of the file
+abbrev pub IsTorn : Option Life → (torn : ℕ) → Type 0
+IsTorn life torn = (known : Life) → life ≡ Some known → length (content known) ≡ length (whole (content known)) + torn
+
+-- the file begins with the sign or holds a front of it (true), or neither (false)
+abbrev pub Fits : (sign : List ℕ) → Option Life → Bool → Type 0
+Fits sign life is = (known : Life) → life ≡ Some known → fits sign (content known) ≡ is
+
+-- What was done to a file.
+
+-- the file was mended
+abbrev pub IsMended : (old new : Option Life) → Type 0
+IsMended old new = (known : Life) → old ≡ Some known → Adds old new (mended (content known))
+
+-- the file was mended, in part or whole
+abbrev pub IsMendedInPart : (old new : Option Life) → Type 0
+IsMendedInPart old new = (known : Life) → old ≡ Some known → (count : ℕ) × Adds old new (take count (mended (content known)))
+
+-- the file was not touched, if it neither begins with the sign nor holds a front of it
+abbrev pub LeavesForeign : (sign : List ℕ) (old new : Option Life) → Type 0
+LeavesForeign sign old new = (known : Life) → old ≡ Some known → fits sign (content known) ≡ false → new ≡ old
+
+-- all that the file with the life `from` holds was appended to the file whose life was `old`, and is `new`
+abbrev pub CopiesAll : (from old new : Option Life) → Type 0
+CopiesAll from old new = (known : Life) → from ≡ Some known → PutsAll old new (content known)

@@ -4,7 +4,7 @@ use Rattle.std.specs.List.{AllByRecursion}
 use Rattle.gc_files.specs.Files.{Step, Append, Cut, Sync, Life, settled, has_sync, content, later_by, MayLeave}
 use Rattle.gc_files.specs.Rows.{has_feed, line, table, start_of, Puts, Ran, IsFront, ComesTo}
 
--- what was appended before the last sync
+-- what these steps appended before their last sync
 abbrev pub synced : List Step → List ℕ
 synced [] = []
 synced (Append bytes ∷ steps) = if has_sync steps then bytes ++ synced steps else []
@@ -34,7 +34,7 @@ IsHead head = (head ≡ []) ⊎ ((row : List ℕ) × (has_feed row ≡ false) ×
 
 -- the first `kept` rows of a run are kept: they were appended before the last sync, and before them the head where the run
 -- wrote it; or `kept` is 0
-abbrev pub WereKept : List ℕ → List ℕ → List (List ℕ) → ℕ → List Step → Type 0
+abbrev pub WereKept : (head held : List ℕ) (rows : List (List ℕ)) (kept : ℕ) → List Step → Type 0
 WereKept head held rows kept steps = (kept ≡ 0) ⊎ IsFront (start_of head held ++ lines (take kept rows)) (synced steps)
 
 -- what a run can be, as far as it came, over a file that held this; those of its rows that count as kept were kept
@@ -46,42 +46,43 @@ pub record IsRun (head held : List ℕ) (run : Run) : Type 0 where
 
 -- the file's life once the run has ended: the life before with the run's steps; or, where a crash of the machine ended the run, a new life
 -- that starts with what the crash left
-abbrev pub lived : Life → Run → Option (List ℕ) → Life
-lived life run None = later_by run.steps life
-lived life run (Some left) = settled left
+abbrev pub life_once_ended : Life → Run → Option (List ℕ) → Life
+life_once_ended life run None = later_by run.steps life
+life_once_ended life run (Some left) = settled left
 
--- where a crash of the machine ended the run, what the crash left (`left`) is what one may leave of the file then
-abbrev pub Ended : Life → Run → Option (List ℕ) → Type 0
-Ended life run None = Unit {0}
-Ended life run (Some left) = MayLeave life.start (life.steps ++ run.steps) left
+-- where a crash of the machine ended the run, what the crash left of the file is something that a crash at that moment may leave; of a run
+-- that no crash ended (`None`) nothing is claimed
+abbrev pub CrashMayLeave : Life → Run → Option (List ℕ) → Type 0
+CrashMayLeave life run None = Unit {0}
+CrashMayLeave life run (Some left) = MayLeave life.start (life.steps ++ run.steps) left
 
--- these runs happened, one after the other, to the file with this head, which had this life before them
-abbrev pub Happen : List ℕ → Life → List Run → Type 0
+-- these runs can happen, one after the other, to a file with this head, which had this life before them
+abbrev pub Happen : (head : List ℕ) → Life → List Run → Type 0
 Happen head life [] = Unit {0}
-Happen head life (run ∷ runs) = IsRun head (content life) run × Ended life run run.left × Happen head (lived life run run.left) runs
+Happen head life (run ∷ runs) = IsRun head (content life) run × CrashMayLeave life run run.left × Happen head (life_once_ended life run run.left) runs
 
 -- the file's life after these runs
 abbrev pub life_after : Life → List Run → Life
 life_after life [] = life
-life_after life (run ∷ runs) = life_after (lived life run run.left) runs
+life_after life (run ∷ runs) = life_after (life_once_ended life run run.left) runs
 
 -- the lines of the first rows of each run, one run after the other: of each run as many rows as its count says
-abbrev pub rows_of : List Run → List ℕ → List ℕ
+abbrev pub rows_of : List Run → (counts : List ℕ) → List ℕ
 rows_of [] counts = []
 rows_of (run ∷ runs) [] = []
 rows_of (run ∷ runs) (n ∷ counts) = lines (take n run.rows) ++ rows_of runs counts
 
--- a count for each run: at least the rows that were kept, and at most those that there are
-abbrev pub Counts : List Run → List ℕ → Type 0
-Counts [] [] = Unit {0}
-Counts [] (n ∷ counts) = ⊥
-Counts (run ∷ runs) [] = ⊥
-Counts (run ∷ runs) (n ∷ counts) = (run.kept ≤ n) × (n ≤ length run.rows) × Counts runs counts
+-- one count of rows for each run: at least as many as were kept, and at most as many as the run has
+abbrev pub AreRowCounts : List Run → (counts : List ℕ) → Type 0
+AreRowCounts [] [] = Unit {0}
+AreRowCounts [] (n ∷ counts) = ⊥
+AreRowCounts (run ∷ runs) [] = ⊥
+AreRowCounts (run ∷ runs) (n ∷ counts) = (run.kept ≤ n) × (n ≤ length run.rows) × AreRowCounts runs counts
 
 -- a file's table is what was there before, and after it, for each run in order, its first rows: at least those that were
 -- kept, each once, none in part
-abbrev pub HasRows : List ℕ → List ℕ → List Run → List ℕ → Type 0
-HasRows head before runs held = (counts : List ℕ) × Counts runs counts × (table head held ≡ before ++ rows_of runs counts)
+abbrev pub HasRows : (head before : List ℕ) → List Run → (held : List ℕ) → Type 0
+HasRows head before runs held = (counts : List ℕ) × AreRowCounts runs counts × (table head held ≡ before ++ rows_of runs counts)
 
 -- Over any runs and crashes the table stays: whatever a crash at any moment leaves, and what a read returns, the next opening
 -- makes of it the table that was there before, and the rows of the runs.
@@ -92,7 +93,7 @@ TablesLast = (head held : List ℕ) → IsHead head → (runs : List Run) → Ha
 
 -- the first `count` rows of a run went out whole: what was appended after the mending begins with the head, where the run
 -- wrote it, and these rows; or `count` is 0
-abbrev pub WereWritten : List ℕ → List ℕ → List (List ℕ) → ℕ → List Step → Type 0
+abbrev pub WereWritten : (head held : List ℕ) (rows : List (List ℕ)) (count : ℕ) → List Step → Type 0
 WereWritten head held rows count steps =
     (count ≡ 0)
     ⊎ ((bytes : List ℕ) × Ran held steps bytes × IsFront bytes (start_of head held ++ lines rows) × IsFront (start_of head held ++ lines (take count rows)) bytes)
@@ -106,7 +107,7 @@ pub record IsKilled (head held : List ℕ) (run : Run) : Type 0 where
   pub killed : run.left ≡ None
 
 -- these runs happened to the file, one after the other, each ended by itself or by a kill
-abbrev pub AreKilled : List ℕ → Life → List Run → Type 0
+abbrev pub AreKilled : (head : List ℕ) → Life → List Run → Type 0
 AreKilled head life [] = Unit {0}
 AreKilled head life (run ∷ runs) = IsKilled head (content life) run × AreKilled head (later_by run.steps life) runs
 

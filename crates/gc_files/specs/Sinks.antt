@@ -12,8 +12,8 @@ known_content None = None
 known_content (Some life) = Some (content life)
 
 -- the file's life is as it was, or has one sync more at its end
-abbrev pub KeepsAll : Option Life → Option Life → Type 0
-KeepsAll old new = (new ≡ old) ⊎ Adds old new (Sync ∷ [])
+abbrev pub MayAddSync : (old new : Option Life) → Type 0
+MayAddSync old new = (new ≡ old) ⊎ Adds old new (Sync ∷ [])
 
 -- the life of the file behind a sink
 abbrev pub life_in : {F : Type 0} {D : Ghosts F} → RowsFile F D → Option Life

@@ -3,8 +3,7 @@
 //! of it counts.
 
 ghost use Rattle.std.specs.Prelude.{◌≡◌, [], true, false, Some, IfOk, OnOk, IsErrOf};
-ghost use Rattle.gc_files.specs.Files.{Life, content};
-ghost use Rattle.gc_files.specs.Rows.{fits};
+ghost use Rattle.gc_files.specs.Rows.{Fits};
 ghost use Rattle.gc_files.specs.Sinks.{has_failed, is_in_doubt, steps_in, IsOpenedAs};
 
 use crate::appending::Appending;
@@ -18,11 +17,14 @@ use std::io::ErrorKind;
 use std::path::Path;
 use std::rt::Files;
 
-// Three paths: of a file, with all symbolic links followed, of its mark, and of its copy.
+// The paths of a file of rows and of what is beside it.
 #[derive(Drop)]
 struct Beside {
+    // The file, with all symbolic links followed.
     file: String,
+    // Its mark.
     mark: String,
+    // Its copy.
     copy: String,
 }
 
@@ -51,8 +53,8 @@ impl Beside {
         }
     }
 
-    // Makes the mark, and syncs it and its folder: then the mark and all names of the folder are on the disk.
-    fn mark<R: Files<File = File>>(&self, rt: &R) -> Result<(), Unfit> {
+    // Makes the mark, and syncs it and its folder, so that the mark and all names in the folder are on the disk.
+    fn make_mark<R: Files<File = File>>(&self, rt: &R) -> Result<(), Unfit> {
         let opened = OpenOptions::new()
             .write(true)
             .create(true)
@@ -66,13 +68,13 @@ impl Beside {
         }
     }
 
-    // Takes the mark away. Where that fails, or a crash brings the mark back, the next start makes a copy that isn't needed.
-    fn clear<R: Files<File = File>>(&self, rt: &R) {
+    // Removes the mark. Where that fails, or a crash brings the mark back, the next start makes a copy that isn't needed.
+    fn remove_mark<R: Files<File = File>>(&self, rt: &R) {
         let _ = fs::remove_file(rt, self.mark.as_str());
     }
 
-    // The file that was opened, in doubt where the mark is there.
-    fn doubted_if_marked<R: Files<File = File>>(
+    // Returns the file that was opened, and puts it in doubt where the mark is there.
+    fn doubt_if_marked<R: Files<File = File>>(
         &self,
         rt: &R,
         file: SystemFile,
@@ -83,9 +85,9 @@ impl Beside {
         Ok(file)
     }
 
-    // The file that takes further rows, and how many lines were copied into it. A copy takes the place of a file in doubt, and
-    // its name may not be on the disk yet. Any other file stays, with no line copied.
-    fn trusted<R: Files<File = File>>(
+    // Where the file is in doubt, a copy of it takes its place: returns the copy, whose name may not be on the disk yet, and how
+    // many lines were copied. Any other file is returned as it is, with 0 lines.
+    fn replace_if_doubted<R: Files<File = File>>(
         &self,
         rt: &R,
         file: SystemFile,
@@ -108,7 +110,7 @@ impl Beside {
     }
 
     // Copies a file into a fresh one, which then takes its place. It returns the fresh one, and how many lines were copied.
-    // Both are held, so that no other program gets in between.
+    // Both are locked, so that no other program gets in between.
     fn replace<R: Files<File = File>>(
         &self,
         rt: &R,
@@ -156,11 +158,11 @@ fn sync_link<R: Files<File = File>>(rt: &R, path: &str) -> Result<(), Unfit> {
     }
 }
 
-// Whether the last row of a file is torn: bytes follow the last line feed. `Foreign`: the file neither begins with the sign
-// nor is a front of it.
-fn has_torn_row<F: Appending>(file: &F, sign: &[u8]) -> Result<bool, Refused>
-    ensures taken { OnOk result ((known : Life) → F.life file.now ≡ Some known → fits sign.now (content known) ≡ true) }
-    ensures why { IsErrOf result Refused.Foreign → (known : Life) → F.life file.now ≡ Some known → fits sign.now (content known) ≡ false }
+// Checks that a file is one of rows, and returns whether its last row is torn: bytes follow the last line feed. `Foreign`: the
+// file neither begins with the sign nor is a front of it. `Failed`: a call of the file failed.
+fn check_for_torn_row<F: Appending>(file: &F, sign: &[u8]) -> Result<bool, Refused>
+    ensures taken { OnOk result (Fits sign.now (F.life file.now) true) }
+    ensures why { IsErrOf result Refused.Foreign → Fits sign.now (F.life file.now) false }
 {
     let Ok(len) = file.len() else {
         return Err(Refused::Failed);
@@ -190,7 +192,7 @@ fn rows_of(lines: u64, head: &[u8]) -> u64 {
 ///
 /// With `sync` the file's name is on the disk before anything is written into the file, also where the file was there
 /// already, because whoever made it may not have synced its name. A mark beside the file, `FILE.open`, is made and is on the
-/// disk by then, too; [`end_at`] takes it away.
+/// disk by then, too; [`end_at`] removes it.
 ///
 /// Where a mark is found, an earlier run was killed, or one of its syncs failed. Then what the file holds is copied to a new one,
 /// which is synced and takes its place. The second result is how many rows were copied. A copy takes as much room as the file
@@ -213,29 +215,29 @@ pub fn open_at<R: Files<File = File>>(
     if !file.is_at(rt, path) {
         return Err(Unfit::Held);
     }
-    let is_torn = has_torn_row(&file, sign)?;
+    let is_torn = check_for_torn_row(&file, sign)?;
     let beside = Beside::of(rt, alloc, path)?;
-    let file = beside.doubted_if_marked(rt, file)?;
+    let file = beside.doubt_if_marked(rt, file)?;
     // Where a row is torn, the opening cuts it off and syncs that: so this counts as a sync to come.
     let is_marked = sync || is_torn || file.is_doubted();
-    let (file, lines) = beside.trusted(rt, file)?;
+    let (file, lines) = beside.replace_if_doubted(rt, file)?;
     if is_marked {
         sync_link(rt, path)?;
-        beside.mark(rt)?;
+        beside.make_mark(rt)?;
     }
     let rows = match open_rows(file, head, sign, sync) {
         Ok(rows) => rows,
         Err((why, _)) => return Err(why.into()),
     };
     if is_marked && !sync {
-        beside.clear(rt);
+        beside.remove_mark(rt);
     }
     Ok((rows, rows_of(lines, head)))
 }
 
 /// Ends the appending to a file that [`open_at`] opened at this path. A file opened without `sync` is only closed. One opened
 /// with `sync` is synced once more if some of it may not be on the disk. Where all that it holds is on the disk then, the mark
-/// beside it is taken away. Where the path now leads to another file, the mark stays, because it may be another program's.
+/// beside it is removed. Where the path now leads to another file, the mark stays, because it may be another program's.
 pub fn end_at<R: Files<File = File>>(
     rt: &R,
     alloc: Global,
@@ -245,11 +247,11 @@ pub fn end_at<R: Files<File = File>>(
     if !rows.is_synced() {
         return;
     }
-    let (file, is_kept) = rows.settle();
+    let (file, is_kept) = rows.finish();
     if !is_kept || !file.is_at(rt, path) {
         return;
     }
     if let Ok(beside) = Beside::of(rt, alloc, path) {
-        beside.clear(rt);
+        beside.remove_mark(rt);
     }
 }

@@ -2,8 +2,8 @@
 //! `Appending` asks for.
 
 ghost use Rattle.std.specs.Prelude.{◌≡◌, ℕ, List, Some};
-ghost use Rattle.gc_files.specs.Calls.{step_of, life_by};
-ghost use Rattle.gc_files.specs.Files.{content, stepped, Makes};
+ghost use Rattle.gc_files.specs.Calls.{HoldsAfter, MakesCall, step_of, life_by};
+ghost use Rattle.gc_files.specs.Files.{content, stepped};
 
 use crate::appending::Appending;
 use gc_lines::PortFailed;
@@ -25,12 +25,17 @@ pub enum Call {
 #[derive(Drop)]
 pub struct MemoryFile {
     alloc: Global,
+    // What it held at first.
     start: Vec<u8>,
+    // The calls since then.
     calls: Vec<Call>,
+    // What it holds.
     bytes: Vec<u8>,
+    // How many more bytes it takes.
     room: usize,
-    // Whether its syncs fail, and whether one did.
+    // Whether its syncs fail.
     fails: bool,
+    // Whether a sync of it has failed.
     doubted: bool,
     // The calls made `bytes` out of `start`.
     ghost same: { bytes.items ≡ content (life_by start.items calls.items) },
@@ -64,7 +69,8 @@ impl MemoryFile {
     }
 }
 
-// Notes a call that leaves `next` in the file, and puts `next` there. It fails, and changes nothing, where memory was refused.
+// Adds a call, after which the file holds `next`, to the file's calls, and sets its bytes to `next`. It fails, and changes nothing,
+// where memory was refused.
 fn note(
     calls: &mut Vec<Call>,
     bytes: &mut Vec<u8>,
@@ -72,8 +78,8 @@ fn note(
     next: Vec<u8>,
 ) -> Result<(), PortFailed>
     requires { next.items ≡ stepped bytes.old.items (step_of call) }
-    ensures same { (start : List ℕ) → bytes.old.items ≡ content (life_by start calls.old.items) → bytes.new.items ≡ content (life_by start calls.new.items) }
-    ensures step { (start : List ℕ) → Makes (Some (life_by start calls.old.items)) (Some (life_by start calls.new.items)) result (λ _. step_of call) }
+    ensures same { (start : List ℕ) → HoldsAfter start calls.old.items bytes.old.items → HoldsAfter start calls.new.items bytes.new.items }
+    ensures step { (start : List ℕ) → MakesCall start calls.old.items calls.new.items result call }
 {
     match calls.push(call) {
         Ok(()) => {

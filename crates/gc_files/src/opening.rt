@@ -4,15 +4,15 @@
 ghost use Rattle.std.specs.Prelude.{◌≡◌, ◌<◌, ◌≤◌, ◌+◌, ◌-◌, ◌^◌, ◌++◌, [], List, ℕ, length, take, drop, true, false, Some, IfOk, IfErr, OnOk, OnErr, IsErrOf, IsTrue, IsFalse};
 ghost use Rattle.gc_files.specs.declared.opening.Refused.TheVariants.{Foreign};
 ghost use Rattle.gc_files.specs.Sinks.{life_in, has_failed, torn_in, steps_in, IsOpenedAs};
-ghost use Rattle.gc_files.specs.Files.{Life, Step, content, Adds};
-ghost use Rattle.gc_files.specs.Rows.{whole, fits, start_of, mended, table, Mending, Opens, OpensInPart, PutsAll, IsFront};
+ghost use Rattle.gc_files.specs.Files.{Life, content};
+ghost use Rattle.gc_files.specs.Rows.{Fits, IsEndOfRows, IsLengthOf, IsMended, IsMendedInPart, IsTorn, LeavesForeign, whole, fits, Opens, OpensInPart, PutsAll, IsFront};
 
 use crate::appending::Appending;
 use crate::rows_file::RowsFile;
 use gc_lines::PortFailed;
 use memchr::memrchr;
 
-// How many bytes are read at once.
+// How many bytes are read at once at most.
 pub(crate) const BLOCK: usize = 4096;
 
 /// Why a file isn't opened as a file of rows.
@@ -33,7 +33,7 @@ fn behind(bytes: &[u8], at: usize) -> &[u8]
     &bytes[at..]
 }
 
-// Whether this piece is the front of a text.
+// Whether a text begins with this piece, which is no longer than the text.
 fn is_front(text: &[u8], piece: &[u8]) -> bool
     requires { length piece.now ≤ length text.now }
     ensures same { IsTrue result → take (length piece.now) text.now ≡ piece.now }
@@ -65,7 +65,7 @@ pub(crate) fn read_all<F: Appending>(file: &F, at: u64, buf: &mut [u8]) -> Resul
 
 // Whether a file of `len` bytes begins with the sign, or is a front of it.
 pub(crate) fn has_sign<F: Appending>(file: &F, len: u64, sign: &[u8]) -> Result<bool, PortFailed>
-    requires { (known : Life) → F.life file.now ≡ Some known → len ≡ length (content known) }
+    requires { IsLengthOf (F.life file.now) len }
     ensures { IfOk result (λ b. (known : Life) → F.life file.now ≡ Some known → b ≡ fits sign.now (content known)) }
 {
     let mut buf = [0u8; BLOCK];
@@ -87,7 +87,7 @@ pub(crate) fn has_sign<F: Appending>(file: &F, len: u64, sign: &[u8]) -> Result<
     Ok(true)
 }
 
-// How many bytes of a block there are up to and including its last line feed.
+// How many bytes a block has up to and including its last line feed; 0 without one.
 fn whole_len(block: &[u8]) -> usize
     ensures len { result ≡ length (whole block.now) }
     ensures within { result ≤ length block.now }
@@ -101,9 +101,9 @@ fn whole_len(block: &[u8]) -> usize
 // Where the last whole row of a file of `len` bytes ends: after its last line feed, or at 0 without one. The blocks are read
 // from the end.
 pub(crate) fn end_of_rows<F: Appending>(file: &F, len: u64) -> Result<u64, PortFailed>
-    requires { (known : Life) → F.life file.now ≡ Some known → len ≡ length (content known) }
+    requires { IsLengthOf (F.life file.now) len }
     ensures within { IfOk result (λ end. end ≤ len) }
-    ensures end { IfOk result (λ end. (known : Life) → F.life file.now ≡ Some known → end ≡ length (whole (content known))) }
+    ensures end { IfOk result (λ end. IsEndOfRows (F.life file.now) end) }
 {
     let mut buf = [0u8; BLOCK];
     let mut end = len;
@@ -127,11 +127,11 @@ pub(crate) fn end_of_rows<F: Appending>(file: &F, len: u64) -> Result<u64, PortF
 // Cuts a file of `len` bytes to its first `end` bytes, and syncs that cut before anything is appended. Where `end` is `len`, it
 // does nothing.
 fn repair<F: Appending>(file: &mut F, len: u64, end: u64) -> Result<(), PortFailed>
-    requires len { (known : Life) → F.life file.old ≡ Some known → len ≡ length (content known) }
-    requires end { (known : Life) → F.life file.old ≡ Some known → end ≡ length (whole (content known)) }
+    requires len { IsLengthOf (F.life file.old) len }
+    requires end { IsEndOfRows (F.life file.old) end }
     requires within { end ≤ len }
-    ensures ok { OnOk result ((known : Life) → F.life file.old ≡ Some known → Adds (F.life file.old) (F.life file.new) (mended (content known))) }
-    ensures err { OnErr result ((known : Life) → F.life file.old ≡ Some known → (count : ℕ) × Adds (F.life file.old) (F.life file.new) (take count (mended (content known)))) }
+    ensures ok { OnOk result (IsMended (F.life file.old) (F.life file.new)) }
+    ensures err { OnErr result (IsMendedInPart (F.life file.old) (F.life file.new)) }
 {
     if end < len {
         file.cut(end)?;
@@ -140,7 +140,7 @@ fn repair<F: Appending>(file: &mut F, len: u64, end: u64) -> Result<(), PortFail
     Ok(())
 }
 
-// Appends all of these bytes. Where an append fails, a front of them has been appended.
+// Appends all of these bytes, in as many calls as the file needs. Where it fails, a front of them was appended.
 pub(crate) fn append_all<F: Appending>(file: &mut F, bytes: &[u8]) -> Result<(), PortFailed>
     ensures ok { OnOk result (PutsAll (F.life file.old) (F.life file.new) bytes.now) }
     ensures err { OnErr result ((front : List ℕ) × IsFront front bytes.now × PutsAll (F.life file.old) (F.life file.new) front) }
@@ -157,8 +157,8 @@ pub(crate) fn append_all<F: Appending>(file: &mut F, bytes: &[u8]) -> Result<(),
 
 // Cuts off what follows the last whole row, and writes the head where there is no whole row.
 fn mend<F: Appending>(file: &mut F, len: u64, end: u64, head: &[u8]) -> Result<(), PortFailed>
-    requires len { (known : Life) → F.life file.old ≡ Some known → len ≡ length (content known) }
-    requires end { (known : Life) → F.life file.old ≡ Some known → end ≡ length (whole (content known)) }
+    requires len { IsLengthOf (F.life file.old) len }
+    requires end { IsEndOfRows (F.life file.old) end }
     requires within { end ≤ len }
     ensures ok { OnOk result (Opens head.now (F.life file.old) (F.life file.new)) }
     ensures err { OnErr result (OpensInPart head.now (F.life file.old) (F.life file.new)) }
@@ -176,16 +176,16 @@ fn mend<F: Appending>(file: &mut F, len: u64, end: u64, head: &[u8]) -> Result<(
     }
 }
 
-// Looks for the sign, cuts off what follows the last whole row, and writes the head where there is no whole row. It returns
-// how many bytes were cut off.
-fn prepare<F: Appending>(file: &mut F, head: &[u8], sign: &[u8]) -> Result<u64, Refused>
+// Checks that a file has the sign or is a front of it, cuts off what follows the last whole row, and writes the head where there
+// is no whole row. It returns how many bytes were cut off.
+fn check_and_mend<F: Appending>(file: &mut F, head: &[u8], sign: &[u8]) -> Result<u64, Refused>
     ensures opened { OnOk result (Opens head.now (F.life file.old) (F.life file.new)) }
-    ensures torn { IfOk result (λ torn. (known : Life) → F.life file.old ≡ Some known → length (content known) ≡ length (whole (content known)) + torn) }
-    ensures taken { OnOk result ((known : Life) → F.life file.old ≡ Some known → fits sign.now (content known) ≡ true) }
+    ensures torn { IfOk result (λ torn. IsTorn (F.life file.old) torn) }
+    ensures taken { OnOk result (Fits sign.now (F.life file.old) true) }
     ensures foreign { IsErrOf result Refused.Foreign → F.life file.new ≡ F.life file.old }
-    ensures why { IsErrOf result Refused.Foreign → (known : Life) → F.life file.old ≡ Some known → fits sign.now (content known) ≡ false }
+    ensures why { IsErrOf result Refused.Foreign → Fits sign.now (F.life file.old) false }
     ensures failed { OnErr result (OpensInPart head.now (F.life file.old) (F.life file.new)) }
-    ensures untouched { OnErr result ((known : Life) → F.life file.old ≡ Some known → fits sign.now (content known) ≡ false → F.life file.new ≡ F.life file.old) }
+    ensures untouched { OnErr result (LeavesForeign sign.now (F.life file.old) (F.life file.new)) }
 {
     let Ok(len) = file.len() else {
         return Err(Refused::Failed);
@@ -206,7 +206,7 @@ fn prepare<F: Appending>(file: &mut F, head: &[u8], sign: &[u8]) -> Result<u64, 
 }
 
 /// Opens a file of rows: one that begins with `sign`, or that is a front of it, as an empty one is. It cuts off what follows
-/// the last line feed, and writes `head` into a file that is empty then. An `Err` hands the file back.
+/// the last line feed, and writes `head` into a file that is empty then. With an error it returns the file, too.
 ///
 /// For a table, `head` and `sign` are its header. For rows without a header, `head` is empty, and `sign` is what each row
 /// begins with. With `sync` what is appended is on the disk after each sync of the sink.
@@ -218,10 +218,10 @@ pub fn open_rows<F: Appending>(
     sign: &'static [u8],
     sync: bool,
 ) -> Result<RowsFile<F>, (Refused, F)>
-    // What was taken has the sign, is mended and has its head.
+    // A file that is opened has the sign or is a front of it; then it is mended, and has its head.
     ensures opened { IfOk result (λ rows. Opens head.now (F.life file) (life_in rows)) }
-    ensures taken { OnOk result ((known : Life) → F.life file ≡ Some known → fits sign.now (content known) ≡ true) }
-    ensures torn { IfOk result (λ rows. (known : Life) → F.life file ≡ Some known → length (content known) ≡ length (whole (content known)) + torn_in rows) }
+    ensures taken { OnOk result (Fits sign.now (F.life file) true) }
+    ensures torn { IfOk result (λ rows. IsTorn (F.life file) (torn_in rows)) }
     ensures sound { IfOk result (λ rows. has_failed rows ≡ false) }
     ensures asked { IfOk result (λ rows. IsOpenedAs head.now sign.now sync rows) }
     ensures trusted { OnOk result (F.doubted file ≡ false) }
@@ -229,16 +229,16 @@ pub fn open_rows<F: Appending>(
 
     // `Foreign`: the file neither begins with the sign nor is a front of it, and was not touched.
     ensures foreign { IfErr result (λ why. why.0 ≡ Foreign → F.life why.1 ≡ F.life file) }
-    ensures why { IfErr result (λ why. why.0 ≡ Foreign → (known : Life) → F.life file ≡ Some known → fits sign.now (content known) ≡ false) }
+    ensures why { IfErr result (λ why. why.0 ≡ Foreign → Fits sign.now (F.life file) false) }
 
     // Where a call of the file failed, the file may be mended in part. A file without the sign was not touched, whatever the error.
     ensures failed { IfErr result (λ why. OpensInPart head.now (F.life file) (F.life why.1)) }
-    ensures untouched { IfErr result (λ why. (known : Life) → F.life file ≡ Some known → fits sign.now (content known) ≡ false → F.life why.1 ≡ F.life file) }
+    ensures untouched { IfErr result (λ why. LeavesForeign sign.now (F.life file) (F.life why.1)) }
 {
     if file.is_doubted() {
         return Err((Refused::Failed, file));
     }
-    match prepare(&mut file, head, sign) {
+    match check_and_mend(&mut file, head, sign) {
         Ok(torn) => Ok(RowsFile::new(file, head, sign, sync, torn)),
         Err(why) => Err((why, file)),
     }

@@ -1,5 +1,5 @@
-//! The past of a file: what was done to it since it was opened. It is there for proofs alone: no code reads it, and it takes
-//! no memory.
+//! The past of a file: what was done to it since it was opened. It exists for proofs alone: no code reads it, and it has no
+//! bytes.
 
 ghost use Rattle.std.specs.Prelude.{◌≡◌, [], ◌++◌, List};
 ghost use base.Fml.{ftrue};

@@ -1,8 +1,8 @@
 //! A sink whose bytes stay in a file: a row is appended as it ends, and synced where that is asked for.
 
-ghost use Rattle.std.specs.Prelude.{◌≡◌, ◌<◌, ◌⊎◌, ◌++◌, ◌∷◌, [], true, false, take, length, Some, OnOk, IsTrue};
-ghost use Rattle.gc_files.specs.Files.{Life, Append, Sync, IsKept, Makes};
-ghost use Rattle.gc_files.specs.Noted.{Notes};
+ghost use Rattle.std.specs.Prelude.{◌≡◌, ◌<◌, ◌⊎◌, ◌++◌, ◌∷◌, [], true, false, length, Some, OnOk, IsTrue};
+ghost use Rattle.gc_files.specs.Files.{Life, IsKept, IsKeptFile, Makes};
+ghost use Rattle.gc_files.specs.Noted.{MayNoteSync, Notes, append_front};
 ghost use Rattle.gc_files.specs.Rows.{cuts_none, appended, Puts};
 ghost use Rattle.gc_files.specs.Runs.{synced};
 ghost use Rattle.std.specs.Io.KnownBytes.{Keeps};
@@ -17,17 +17,19 @@ use gc_lines::{Durable, PortFailed, Sink};
 #[derive(Drop)]
 pub struct RowsFile<F: Appending> {
     file: F,
-    // What a new file of its rows gets first, and what each such file begins with.
+    // What a new file of its rows gets first.
     head: &'static [u8],
+    // What each file of its rows begins with.
     sign: &'static [u8],
-    // Whether a sync of the sink has what was appended on the disk before it ends.
+    // Whether a sync of the sink syncs the file.
     sync: bool,
     // How many bytes of a torn last row the opening cut off.
     torn: u64,
-    // Whether something may not be on the disk.
+    // Whether something that the file holds may not be on the disk.
     unkept: bool,
+    // Whether a write or a sync has failed.
     broken: bool,
-    // What was done to the file since it was opened: in proofs alone.
+    // What was done to the file since it was opened, for proofs alone.
     past: Past,
     // Since its opening the file was only appended to and synced.
     ghost only_appends: { cuts_none past.steps ≡ true },
@@ -81,7 +83,7 @@ impl<F: Appending> RowsFile<F> {
         self.sign
     }
 
-    /// Whether the file was opened with `sync`, so that each sync of the sink has on the disk what was appended before it.
+    /// Whether the file was opened with `sync`, so that each sync of the sink syncs it.
     pub fn is_synced(&self) -> bool
         ensures { result ≡ asks_sync self.now }
     {
@@ -95,10 +97,10 @@ impl<F: Appending> RowsFile<F> {
         self.torn
     }
 
-    // Gives the file back, and says whether all that it holds is on the disk. Where some of it may not be, the file is synced
-    // first, also after a failed write, unless the file is in doubt.
-    pub(crate) fn settle(self) -> (F, bool)
-        ensures { IsTrue result.1 → (known : Life) → F.life result.0 ≡ Some known → IsKept known }
+    // Ends the sink: returns the file, and whether all that it holds is on the disk. Where some of it may not be, the file is
+    // synced first, also after a failed write, unless it is in doubt.
+    pub(crate) fn finish(self) -> (F, bool)
+        ensures { IsTrue result.1 → IsKeptFile (F.life result.0) }
     {
         let RowsFile {
             mut file,
@@ -132,7 +134,7 @@ impl<F: Appending> RowsFile<F> {
     /// The file behind the sink. Where the sink is durable and was opened with `sync`, a crash leaves all that was taken.
     pub fn file(&self) -> &F
         ensures is { F.life result.now ≡ life_in self.now }
-        ensures is_durable { is_durable self.now ≡ true → asks_sync self.now ≡ true → (known : Life) → life_in self.now ≡ Some known → IsKept known }
+        ensures is_durable { is_durable self.now ≡ true → asks_sync self.now ≡ true → IsKeptFile (life_in self.now) }
     {
         &self.file
     }
@@ -152,8 +154,8 @@ impl<F: Appending> Sink for RowsFile<F> {
         ensures fails { Fails (has_failed self.old) (has_failed self.new) result }
         // One piece is appended and noted, or none where the call failed.
         ensures content { TakesBytes (known_content (life_in self.old)) (known_content (life_in self.new)) result bytes.now }
-        ensures step { Makes (life_in self.old) (life_in self.new) result (λ n. Append (take n bytes.now)) }
-        ensures noted { Notes (steps_in self.old) (steps_in self.new) result (λ n. Append (take n bytes.now)) }
+        ensures step { Makes (life_in self.old) (life_in self.new) result (append_front bytes.now) }
+        ensures noted { Notes (steps_in self.old) (steps_in self.new) result (append_front bytes.now) }
         ensures sync { asks_sync self.new ≡ asks_sync self.old }
     {
         if self.broken {
@@ -178,7 +180,7 @@ impl<F: Appending> Sink for RowsFile<F> {
 }
 
 impl<F: Appending> Durable for RowsFile<F> {
-    ghost use Rattle.gc_files.specs.Sinks.{KeepsAll, known_content, life_in, has_failed, asks_sync, is_durable, steps_in, taken_in};
+    ghost use Rattle.gc_files.specs.Sinks.{MayAddSync, known_content, life_in, has_failed, asks_sync, is_durable, steps_in, taken_in};
 
     ghost is_durable = { λ r. is_durable r };
 
@@ -191,10 +193,10 @@ impl<F: Appending> Durable for RowsFile<F> {
         ensures same { Keeps (Some (taken_in self.old)) (Some (taken_in self.new)) }
         ensures fails { Fails (has_failed self.old) (has_failed self.new) result }
         ensures content { Keeps (known_content (life_in self.old)) (known_content (life_in self.new)) }
-        ensures noted { (steps_in self.new ≡ steps_in self.old) ⊎ (steps_in self.new ≡ steps_in self.old ++ Sync ∷ []) }
+        ensures noted { MayNoteSync (steps_in self.old) (steps_in self.new) }
         ensures lasts { OnOk result (asks_sync self.new ≡ true → synced (steps_in self.new) ≡ taken_in self.new) }
-        ensures kept { OnOk result (asks_sync self.new ≡ true → (known : Life) → life_in self.new ≡ Some known → IsKept known) }
-        ensures steps { KeepsAll (life_in self.old) (life_in self.new) }
+        ensures kept { OnOk result (asks_sync self.new ≡ true → IsKeptFile (life_in self.new)) }
+        ensures steps { MayAddSync (life_in self.old) (life_in self.new) }
         ensures idle { asks_sync self.old ≡ false → life_in self.new ≡ life_in self.old }
         ensures sync { asks_sync self.new ≡ asks_sync self.old }
     {

@@ -11,7 +11,7 @@ use std::io::{self, ErrorKind, Write};
 use std::os::unix::fs::{FileExt, MetadataExt};
 use std::rt::Files;
 
-/// Why a path can't be had as a file of rows. In each case what was in the file stays.
+/// Why a path can't be used as a file of rows. In each case what was in the file stays.
 #[derive(Clone, Copy, Debug, PartialEq, Eq)]
 pub enum Unfit {
     /// It can't be opened for reading and appending: it is a folder or another thing that is no regular file, the path isn't
@@ -27,7 +27,7 @@ pub enum Unfit {
     Failed,
 }
 
-// Why a file isn't one of rows is also why its path can't be had.
+// Why a file can't be used is also why its path can't be.
 impl From<Refused> for Unfit {
     fn from(why: Refused) -> Unfit {
         match why {
@@ -66,7 +66,8 @@ impl SystemFile {
         }
     }
 
-    // A new file at a path, for a copy of this one: with its mode and, where the system allows it, its owner.
+    // Makes a new file at a path, for a copy of this one: with this one's mode and, where the system allows it, its owner.
+    // `Failed`: the path isn't free, or a call of the system failed.
     pub(crate) fn fresh<R: Files<File = File>>(
         &self,
         rt: &R,
@@ -100,7 +101,7 @@ impl SystemFile {
 }
 
 // The result of a call of the system, with an error of any kind as `PortFailed`.
-fn failed<T>(answer: io::Result<T>) -> Result<T, PortFailed> {
+fn port_result<T>(answer: io::Result<T>) -> Result<T, PortFailed> {
     answer.map_err(|_| PortFailed)
 }
 
@@ -115,7 +116,7 @@ impl Appending for SystemFile {
     }
 
     fn len(&self) -> Result<u64, PortFailed> {
-        Ok(failed(self.file.metadata())?.len())
+        Ok(port_result(self.file.metadata())?.len())
     }
 
     fn read_at(&self, at: u64, buf: &mut [u8]) -> Result<usize, PortFailed> {
@@ -126,7 +127,7 @@ impl Appending for SystemFile {
     }
 
     fn cut(&mut self, len: u64) -> Result<(), PortFailed> {
-        failed(self.file.set_len(len))
+        port_result(self.file.set_len(len))
     }
 
     // One write of the system. A write that took nothing counts as failed.
@@ -139,7 +140,7 @@ impl Appending for SystemFile {
 
     // Syncs the file's bytes and length. Where that fails, the file is in doubt from then on.
     fn sync(&mut self) -> Result<(), PortFailed> {
-        let synced = failed(self.file.sync_data());
+        let synced = port_result(self.file.sync_data());
         if synced.is_err() {
             self.doubted = true;
         }
@@ -157,8 +158,8 @@ fn expect_file<R: Files<File = File>>(rt: &R, path: &str) -> Result<(), Unfit> {
     }
 }
 
-/// Opens a regular file by its path for reading and appending. Where the path is free, it makes the file. What is in it
-/// stays.
+/// Opens a regular file by its path for reading and appending, and makes it where the path is free. What is in it stays.
+/// `Unopened`: the path leads to something else, or the file can't be opened. `Failed`: the system doesn't say what was opened.
 pub fn open_file<R: Files<File = File>>(rt: &R, path: &str) -> Result<SystemFile, Unfit> {
     expect_file(rt, path)?;
     let opened = OpenOptions::new()

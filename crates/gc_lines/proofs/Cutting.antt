@@ -105,7 +105,7 @@ cut_first r (b ∷ bs) xs clean =
     let same = not_feed b clean.0 in
     (rw same (no.0 ∙ ap (λ p. p ∷ pieces_behind [] xs) (append_assoc r (b ∷ []) bs)), rw same no.1)
 
--- bytes without a line feed make no piece, and are the rest
+-- as `cut_none`, where no byte is 10
 cut_last : (r xs : List ℕ) → HasNoLineFeed xs → (pieces_behind r xs ≡ []) × (rest_behind r xs ≡ r ++ xs)
 cut_last r [] clean = (refl, sym (append-nil r))
 cut_last r (b ∷ bs) clean =

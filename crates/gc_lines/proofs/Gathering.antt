@@ -6,7 +6,7 @@ use Rattle.std.proofs.lemmas.Bool.{ltb-true, ltb-false, lt-ltb}
 use Rattle.std.proofs.lemmas.List.{append-nil, length-map, map-append, take-append-le}
 use Rattle.std.proofs.Math.Seq.{take-append-add}
 use Rattle.gc_lines.specs.Answering.{AnswerRule, AnswersInOrder, AnswersAll, AnswersPart, all_of}
-use Rattle.gc_lines.specs.Passing.{Gathering, GathersPart, parted, Progress}
+use Rattle.gc_lines.specs.Passing.{Gathering, GathersPart, whole_and_part, Progress}
 use Rattle.gc_lines.specs.Ports.{TakesFront}
 use Rattle.gc_lines.specs.declared.frame.Frame.{Frame}
 use Rattle.gc_lines.proofs.InOrder.{in_order_then, in_order_one, all_of-append, all_then, part_then, one_part}
@@ -94,7 +94,7 @@ gathering_written rule from to seen text lengths after total g took counts =
     subst (λ (fs : List Frame). AnswersAll rule from.state to.state fs from.taken after from.whole total) (sym g.order)
     (all_then rule from.state g.state to.state g.done g.held from.taken to.taken after from.whole to.whole total g.all out)
 
--- the first n bytes of the texts end within one of them: the frames up to that text, and what `parted` counts
+-- the first n bytes of the texts end within one of them: the frames up to that text, and what `whole_and_part` counts
 record EndsWithin {State : Type 0} (rule : AnswerRule State) (from : State) (seen : List Frame) (texts : List (List ℕ)) (whole n : ℕ) : Type 0 where
   earlier : List Frame
   frame : Frame
@@ -107,7 +107,7 @@ record EndsWithin {State : Type 0} (rule : AnswerRule State) (from : State) (see
   text : List ℕ
   draws : rule state frame reached (Some text)
   bytes : ℕ
-  counts : parted whole n (map length texts) ≡ (whole + length out, bytes)
+  counts : whole_and_part whole n (map length texts) ≡ (whole + length out, bytes)
   not_all : bytes < length text
   front : take n (all_of texts) ≡ all_of out ++ take bytes text
 
@@ -130,7 +130,7 @@ ends_in_first rule s u frame later t rest whole n draws e =
       text = t;
       draws = draws;
       bytes = n;
-      counts = ap (λ (b : Bool). cond b (whole, n) (parted (whole + 1) (n - length t) (map length rest))) e ∙ ap (λ (w : ℕ). (w, n)) same;
+      counts = ap (λ (b : Bool). cond b (whole, n) (whole_and_part (whole + 1) (n - length t) (map length rest))) e ∙ ap (λ (w : ℕ). (w, n)) same;
       not_all = less;
       front = take-append-le n t (all_of rest) within;
     }
@@ -154,7 +154,7 @@ ends_in_later rule s u frame later t rest whole n draws e k =
       text = k.text;
       draws = k.draws;
       bytes = k.bytes;
-      counts = ap (λ (b : Bool). cond b (whole, n) (parted (whole + 1) (n - length t) (map length rest))) e ∙ k.counts ∙ ap (λ (w : ℕ). (w, k.bytes)) counted;
+      counts = ap (λ (b : Bool). cond b (whole, n) (whole_and_part (whole + 1) (n - length t) (map length rest))) e ∙ k.counts ∙ ap (λ (w : ℕ). (w, k.bytes)) counted;
       not_all = k.not_all;
       front = ap (λ (m : ℕ). take m (t ++ all_of rest)) sizes ∙ take-append-add t (all_of rest) (n - length t) ∙ ap (λ (xs : List ℕ). t ++ xs) k.front
           ∙ sym (append_assoc t (all_of k.out) (take k.bytes k.text));
@@ -206,11 +206,11 @@ ends_within rule from to (frame ∷ later) texts whole n h less =
 
 -- where a part of the texts that waited went out, frames were answered up to one whose text went out in part
 pub gathering_part : {State : Type 0} (rule : AnswerRule State) (from to : Progress State) (seen : List Frame) (text lengths : List ℕ) (after : Option (List ℕ)) (total bytes n : ℕ)
-    → Gathering rule from to seen text lengths → TakesFront to.taken after n text → (total, bytes) ≡ parted to.whole n lengths
+    → Gathering rule from to seen text lengths → TakesFront to.taken after n text → (total, bytes) ≡ whole_and_part to.whole n lengths
     → (reached : State) × AnswersPart rule from.state reached seen from.taken after from.whole total bytes
 gathering_part rule from to seen text lengths after total bytes n g took counts =
     let k = ends_within rule g.state to.state g.held g.texts to.whole n g.holds (subst (λ (xs : List ℕ). n < length xs) g.text_is took.0) in
-    let same : (total, bytes) ≡ (to.whole + length k.out, k.bytes) = counts ∙ ap (λ (ns : List ℕ). parted to.whole n ns) g.lengths_are ∙ k.counts in
+    let same : (total, bytes) ≡ (to.whole + length k.out, k.bytes) = counts ∙ ap (λ (ns : List ℕ). whole_and_part to.whole n ns) g.lengths_are ∙ k.counts in
     let out : AnswersPart rule g.state k.reached g.held to.taken after to.whole total bytes = record {
       earlier = k.earlier;
       frame = k.frame;
@@ -235,7 +235,7 @@ gathering_part rule from to seen text lengths after total bytes n g took counts 
 pub answered_part : {State : Type 0} (rule : AnswerRule State) (from to last : Progress State) (seen : List Frame) (frame : Frame)
     (text lengths more text' lengths' : List ℕ) (bytes n : ℕ) (gathers : Bool)
     → (gathers ≡ false → lengths ≡ []) → rule to.state frame last.state (Some more) → Gathering rule from to seen text lengths
-    → text' ≡ text ++ more → lengths' ≡ lengths ++ length more ∷ [] → TakesFront to.taken last.taken n text' → (last.whole, bytes) ≡ parted to.whole n lengths'
+    → text' ≡ text ++ more → lengths' ≡ lengths ++ length more ∷ [] → TakesFront to.taken last.taken n text' → (last.whole, bytes) ≡ whole_and_part to.whole n lengths'
     → GathersPart rule from last (seen ++ frame ∷ []) bytes gathers
 answered_part rule from to last seen frame text lengths more text' lengths' bytes n true alone draws g longer counted took counts =
     let it = gathering_part rule from (record { state = last.state; taken = to.taken; whole = to.whole }) (seen ++ frame ∷ []) text' lengths' last.taken last.whole bytes n
@@ -246,7 +246,7 @@ answered_part rule from to last seen frame text lengths more text' lengths' byte
     let nothing : text ≡ [] = g.text_is ∙ ap all_of (no_texts g.texts (sym none ∙ g.lengths_are)) in
     let took_more : TakesFront to.taken last.taken n more = subst (λ (xs : List ℕ). TakesFront to.taken last.taken n xs) (longer ∙ ap (λ (xs : List ℕ). xs ++ more) nothing) took in
     let less : nat_lt n (length more) ≡ true = lt-ltb n (length more) took_more.0 in
-    let same : (last.whole, bytes) ≡ (to.whole, n) = counts ∙ ap (λ (ns : List ℕ). parted to.whole n ns) (counted ∙ ap (λ (ns : List ℕ). ns ++ length more ∷ []) none)
+    let same : (last.whole, bytes) ≡ (to.whole, n) = counts ∙ ap (λ (ns : List ℕ). whole_and_part to.whole n ns) (counted ∙ ap (λ (ns : List ℕ). ns ++ length more ∷ []) none)
     ∙ ap (λ (b : Bool). cond b (to.whole, n) (to.whole + 1, n - length more)) less in
     let part : AnswersPart rule to.state last.state (frame ∷ []) to.taken last.taken to.whole to.whole n =
     one_part rule to.state last.state frame more to.taken last.taken to.whole n draws took_more in
@@ -262,7 +262,7 @@ answered_part rule from to last seen frame text lengths more text' lengths' byte
 -- part
 pub rest_part : {State : Type 0} (rule : AnswerRule State) (from to : Progress State) (seen : List Frame) (text lengths : List ℕ) (after : Option (List ℕ)) (total bytes n : ℕ) (gathers : Bool)
     → (gathers ≡ false → lengths ≡ []) → Gathering rule from to seen text lengths
-    → TakesFront to.taken after n text → (total, bytes) ≡ parted to.whole n lengths → GathersPart rule from (record { state = to.state; taken = after; whole = total }) seen bytes gathers
+    → TakesFront to.taken after n text → (total, bytes) ≡ whole_and_part to.whole n lengths → GathersPart rule from (record { state = to.state; taken = after; whole = total }) seen bytes gathers
 rest_part rule from to seen text lengths after total bytes n true alone g took counts =
     let it = gathering_part rule from to seen text lengths after total bytes n g took counts in
     record { reached = it.0; part = it.1; alone = λ e. cc }

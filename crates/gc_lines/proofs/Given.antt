@@ -10,7 +10,8 @@ use Rattle.gc_lines.specs.Passing.{frames_behind, GathersPart}
 use Rattle.gc_lines.specs.declared.frame.Frame.{Frame}
 use Rattle.gc_lines.proofs.Known.{Consumes-append}
 use Rattle.gc_lines.proofs.InOrder.{all_then, part_then}
-use Rattle.gc_lines.proofs.Passing.{frames-append, rest_behind-append}
+use Rattle.gc_lines.proofs.Cutting.{rest-append}
+use Rattle.gc_lines.proofs.Passing.{frames-append}
 
 -- what the loop has done so far: the bytes that the source gave, and that all of their frames were answered
 pub record AnsweredSoFar {State : Type 0} (rule : AnswerRule State) (source_old source_new sink_old sink_new : Option (List ℕ)) (kept : Kept) (from to : State) (reads count : ℕ) : Type 0 where
@@ -31,7 +32,7 @@ given_more rule a a' a'' b b' b'' kept kept' s t u reads n n' piece so gave shor
       given = so.given ++ piece;
       gave = Consumes-append a a' a'' so.given piece so.gave gave;
       few = omega (arith, so.few, length-append so.given piece);
-      stands = subst (λ (rest : List ℕ). StandsFor kept' rest) (sym (rest_behind-append so.given piece)) it.0;
+      stands = subst (λ (rest : List ℕ). StandsFor kept' rest) (sym (rest-append [] so.given piece)) it.0;
       all = subst (λ (seen : List Frame). AnswersAll rule s u seen b b'' 0 n') (sym (frames-append so.given piece))
           (all_then rule s t u (frames so.given) (frames_behind (rest_behind [] so.given) piece) b b' b'' 0 n n' so.all it.1);
     }

@@ -1,8 +1,7 @@
 -- What a source gave and a sink took, call after call.
-use Rattle.std.proofs.Common.{◌≡◌, ℕ, ◌+◌, ◌≤◌, List, [], ◌++◌, length, take, drop, Option, Some, None, refl, sym, ap, ◌∙◌, subst, append_assoc, length-append}
+use Rattle.std.proofs.Common.{◌≡◌, ℕ, ◌+◌, ◌≤◌, List, [], ◌++◌, length, take, Option, Some, None, refl, sym, ap, ◌∙◌, subst, append_assoc, length-append}
 use Rattle.std.specs.Io.KnownBytes.{Appends, Consumes}
-use Rattle.std.proofs.lemmas.List.{append-nil, take-append-drop, length-take-le}
-use Rattle.std.proofs.Math.Seq.{take-append-add}
+use Rattle.std.proofs.lemmas.List.{append-nil, length-take-le}
 
 -- appending bytes, and then others, is appending both
 pub Appends-append : (a b c : Option (List ℕ)) (xs ys : List ℕ) → Appends a b xs → Appends b c ys → Appends a c (xs ++ ys)
@@ -16,7 +15,7 @@ pub Appends-nil : (a : Option (List ℕ)) → Appends a a []
 Appends-nil None = tt
 Appends-nil (Some a) = sym (append-nil a)
 
--- appending bytes is appending equal ones
+-- what is said of appended bytes is true of bytes that equal them
 pub Appends-is : (a b : Option (List ℕ)) (xs ys : List ℕ) → xs ≡ ys → Appends a b xs → Appends a b ys
 Appends-is a b xs ys e h = subst (λ (zs : List ℕ). Appends a b zs) e h
 
@@ -31,13 +30,6 @@ Consumes-append (Some a) (Some b) (Some c) xs ys h k = h ∙ ap (λ zs. xs ++ zs
 pub Consumes-nil : (a : Option (List ℕ)) → Consumes a a []
 Consumes-nil None = tt
 Consumes-nil (Some a) = refl
-
--- the first at + n elements are the first `at`, and n of those after
-pub take-plus : (at n : ℕ) (xs : List ℕ) → at ≤ length xs → take (at + n) xs ≡ take at xs ++ take n (drop at xs)
-take-plus at n xs h =
-    let len : length (take at xs) ≡ at = length-take-le at xs h in
-    let whole = take-append-drop at xs in
-    ap (λ m. take (m + n) xs) (sym len) ∙ ap (λ ys. take (length (take at xs) + n) ys) (sym whole) ∙ take-append-add (take at xs) (drop at xs) n
 
 -- a text with the first n bytes of a buffer after it is n bytes longer
 pub length_more : (text buf : List ℕ) (n : ℕ) → n ≤ length buf → length (text ++ take n buf) ≡ length text + n

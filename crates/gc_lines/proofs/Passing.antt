@@ -9,7 +9,7 @@ use Rattle.gc_lines.specs.Frames.{is_line_feed, ends_in_return, frame_of, frames
 use Rattle.gc_lines.specs.Passing.{completed, frames_behind, Gathering, GathersPart, Progress}
 use Rattle.gc_lines.specs.declared.frame.Frame.{Frame}
 use Rattle.gc_lines.specs.declared.frame.Frame.TheVariants.{Line, Cleared, Overlong, More}
-use Rattle.gc_lines.proofs.Cutting.{cut_none, cut_some, pieces-append, rest-append}
+use Rattle.gc_lines.proofs.Cutting.{cut_none, cut_some, pieces-append}
 use Rattle.gc_lines.proofs.Gathering.{gathering_start}
 use Rattle.gc_lines.proofs.InOrder.{all_none, part_before}
 
@@ -17,10 +17,6 @@ use Rattle.gc_lines.proofs.InOrder.{all_none, part_before}
 -- rest
 pub frames-append : (given piece : List ℕ) → frames (given ++ piece) ≡ frames given ++ frames_behind (rest_behind [] given) piece
 frames-append given piece = ap (λ ps. map frame_of ps) (pieces-append [] given piece) ∙ map-append frame_of (pieces_behind [] given) (pieces_behind (rest_behind [] given) piece)
-
--- with one more piece, a stream's rest is that of the piece after the rest that it had
-pub rest_behind-append : (given piece : List ℕ) → rest_behind [] (given ++ piece) ≡ rest_behind (rest_behind [] given) piece
-rest_behind-append given piece = rest-append [] given piece
 
 -- a frame that a line feed made is completed
 frame_is_completed : (bytes : List ℕ) → completed (frame_of bytes) ≡ frame_of bytes ∷ []
@@ -32,8 +28,8 @@ frame_is_completed bytes = by_tests (ends_in_return bytes) _ where
   by_tests true false = refl
   by_tests false b = refl
 
--- an assembler that stood for `rest` used the first `used` bytes of `left`, gave `frame`, and now keeps `kept`: so these are the
--- frames of `rest` and `left`
+-- an assembler that stood for `rest` used the first `used` bytes of `left`, returned `frame`, and now keeps `kept`, which stands for
+-- `now`: the frames of `rest` and `left` are `frame`, where it is complete, and then those of `now` and the bytes that weren't used
 pub record Takes (rest left : List ℕ) (used : ℕ) (frame : Frame) (kept : Kept) : Type 0 where
   pub now : List ℕ
   pub stands : StandsFor kept now
@@ -41,9 +37,9 @@ pub record Takes (rest left : List ℕ) (used : ℕ) (frame : Frame) (kept : Kep
   pub rests : rest_behind rest left ≡ rest_behind now (drop used left)
 
 -- without a line feed all bytes are used, and no frame is completed
-uses_empty : (rest left : List ℕ) (used : ℕ) (frame : Frame) (kept : Kept) → position is_line_feed left ≡ None → used ≡ length left → frame ≡ More
+takes_without_feed : (rest left : List ℕ) (used : ℕ) (frame : Frame) (kept : Kept) → position is_line_feed left ≡ None → used ≡ length left → frame ≡ More
     → StandsFor kept (rest ++ left) → Takes rest left used frame kept
-uses_empty rest left used frame kept none all more s =
+takes_without_feed rest left used frame kept none all more s =
     let cut = cut_none rest left none in
     let nothing : drop used left ≡ [] = drop_all used left (omega arith) in
     record {
@@ -54,9 +50,9 @@ uses_empty rest left used frame kept none all more s =
     }
 
 -- with a line feed the bytes through it are used, and they complete a frame
-uses_some : (rest left : List ℕ) (at used : ℕ) (frame : Frame) (kept : Kept) → position is_line_feed left ≡ Some at → used ≡ at + 1
+takes_with_feed : (rest left : List ℕ) (at used : ℕ) (frame : Frame) (kept : Kept) → position is_line_feed left ≡ Some at → used ≡ at + 1
     → frame ≡ frame_of (rest ++ take at left) → StandsFor kept [] → Takes rest left used frame kept
-uses_some rest left at used frame kept some next is s =
+takes_with_feed rest left at used frame kept some next is s =
     let cut = cut_some rest left at some in
     record {
       now = [];
@@ -65,16 +61,15 @@ uses_some rest left at used frame kept some next is s =
       rests = rw next cut.1;
     }
 
--- An assembler that stood for `rest` was given `left`: the frames of both are the frame that it gave and those of what it left,
--- as `Takes` has it. The premises are what its `take` ensures, of a `left` without a line feed and of one with its first at place
--- `at`.
+-- `Takes` follows from what `Assembler::next` ensures: of bytes `left` without a line feed, and of bytes whose first line feed is at
+-- place `at`
 pub takes : (rest left : List ℕ) (used : ℕ) (frame : Frame) (kept : Kept)
     → (position is_line_feed left ≡ None → (used ≡ length left) × (frame ≡ More) × StandsFor kept (rest ++ left))
     → ((at : ℕ) → position is_line_feed left ≡ Some at → (used ≡ at + 1) × (frame ≡ frame_of (rest ++ take at left)) × StandsFor kept [])
     → Takes rest left used frame kept
 takes rest left used frame kept more whole = elim (position is_line_feed left) as (λ v. position is_line_feed left ≡ v → Takes rest left used frame kept) [
-  | None ↦ λ e. let m = more e in uses_empty rest left used frame kept e m.0 m.1 m.2
-  | Some at ↦ λ e. let m = whole at e in uses_some rest left at used frame kept e m.0 m.1 m.2
+  | None ↦ λ e. let m = more e in takes_without_feed rest left used frame kept e m.0 m.1 m.2
+  | Some at ↦ λ e. let m = whole at e in takes_with_feed rest left at used frame kept e m.0 m.1 m.2
 ] refl
 
 -- some frames of a piece after `rest` were answered, and some of their texts wait; `left` is what is left of the piece

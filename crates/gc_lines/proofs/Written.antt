@@ -59,8 +59,8 @@ abbrev request_has : (q : RequestFields) → IsRequestInRange q → IsRequest (r
 request_has q r = record { number = decimal q.rpc; is_number = decimal_number q.rpc r.rpc; is_id = r.id; whole = refl }
 
 -- a request's text is a written one
-is_written : (q : RequestFields) → IsRequestInRange q → IsWrittenRequest (request_text q) q
-is_written q r = record { is = request_has q r; number = decimal_zeros q.rpc r.rpc }
+request_is_written : (q : RequestFields) → IsRequestInRange q → IsWrittenRequest (request_text q) q
+request_is_written q r = record { is = request_has q r; number = decimal_zeros q.rpc r.rpc }
 
 -- a request's text is the one written line with its fields
 pub request_written : (line : List ℕ) (q : RequestFields) → IsWrittenRequest line q ↔ (IsRequestInRange q × (line ≡ request_text q))
@@ -69,7 +69,7 @@ request_written line q = (
     record { rpc = w.is.is_number.bound; id = w.is.is_id },
     w.is.whole ∙ ap (λ t. request_signature ++ (t ++ (id_text q.id ++ 58 ∷ q.params))) (number_written w.is.number q.rpc w.is.is_number w.number),
   ),
-  λ r. subst (λ (l : List ℕ). IsWrittenRequest l q) (sym r.1) (is_written q r.0),
+  λ r. subst (λ (l : List ℕ). IsWrittenRequest l q) (sym r.1) (request_is_written q r.0),
 )
 
 -- a request's text reads back

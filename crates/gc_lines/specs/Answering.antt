@@ -12,13 +12,13 @@ use Rattle.gc_lines.specs.declared.served.Served.{Served}
 use Rattle.gc_lines.specs.declared.served.ServeFault.{ServeFault}
 use Rattle.gc_lines.specs.declared.served.ServeFault.TheVariants.{Read, Write, TooManyReads}
 
--- the number of a fault
+-- the number of a fault that ends a run
 abbrev pub fault_number : ServeFault → ℕ
 fault_number (Read _) = 42
 fault_number (Write _ _) = 43
 fault_number (TooManyReads _) = 44
 
--- how a printed fault begins: the word and its number
+-- how a printed fault begins: the word "fault" and its number
 abbrev pub numbered : ℕ → List ℕ
 numbered number = codes "fault " ++ decimal number
 
@@ -26,7 +26,7 @@ numbered number = codes "fault " ++ decimal number
 abbrev pub how_far : (replies bytes : ℕ) → List ℕ
 how_far replies bytes = codes " reply " ++ (decimal replies ++ (codes " byte " ++ decimal bytes))
 
--- a fault as it is printed
+-- the text of a fault that ends a run, as it is printed
 abbrev pub fault_text : ServeFault → List ℕ
 fault_text (Read _) = numbered 42
 fault_text (Write replies bytes) = numbered 43 ++ how_far replies bytes
@@ -47,17 +47,18 @@ AnswersInOrder State rule before (frame ∷ later) after texts =
 abbrev pub all_of : List (List ℕ) → List ℕ
 all_of texts = flat_map (λ text. text) texts
 
--- all of the frames `seen` were answered, which took the answerer from one state to another, and all texts went out whole, so
--- that what the sink has taken, where that is known, grew from `old` to `new`. With the `before` texts that had gone out earlier,
--- `count` have
+-- all of the frames `seen` were answered, which took the answerer from the state `from` to `to`, and the sink took all of their texts, so
+-- that what it has taken, where that is known, grew from `old` to `new`. `before` is how many texts it had taken earlier, and `count` how
+-- many it has taken since the start
 pub record AnswersAll {State : Type 0} (rule : AnswerRule State) (from to : State) (seen : List Frame) (old new : Option (List ℕ)) (before count : ℕ) : Type 0 where
   pub texts : List (List ℕ)
   pub answers : AnswersInOrder State rule from seen to texts
   pub counts : count ≡ before + length texts
   pub took : Appends old new (all_of texts)
 
--- the frames `seen` were answered up to one whose text was cut: only its first `bytes` bytes went out, and no later frame was
--- answered. With the `before` texts that had gone out earlier, `count` went out whole; the rest is as in `AnswersAll`
+-- the frames `seen` were answered up to one, `frame`, of whose text the sink took only the first `bytes` bytes; no later frame was
+-- answered. `count` is how many texts the sink has taken whole, the `before` earlier ones included; the other parameters are those of
+-- `AnswersAll`
 pub record AnswersPart {State : Type 0} (rule : AnswerRule State) (from to : State) (seen : List Frame) (old new : Option (List ℕ)) (before count bytes : ℕ) : Type 0 where
   pub earlier : List Frame
   pub frame : Frame
@@ -72,7 +73,8 @@ pub record AnswersPart {State : Type 0} (rule : AnswerRule State) (from to : Sta
   pub not_all : bytes < length text
   pub took : Appends old new (all_of texts ++ take bytes text)
 
--- how many of the frames `seen`, which were read, were answered, by the result: all, or at a failed write those up to the one whose text was cut
+-- which of the frames `seen`, all that were read, were answered, by the result of the run: all of them, or after a failed write those up to
+-- the one whose text was cut
 abbrev pub AnswersFrames : {State : Type 0} → AnswerRule State → State → State → List Frame → Option (List ℕ) → Option (List ℕ) → Result Served ServeFault → Type 0
 AnswersFrames rule from to seen old new (Ok served) = AnswersAll rule from to seen old new 0 served.replies
 AnswersFrames rule from to seen old new (Err (Read count)) = AnswersAll rule from to seen old new 0 count
@@ -103,7 +105,7 @@ ports_of of_source source of_sink sink = record {
 -- what each result of a run of at most `most` reads says of the ports before (`old`) and after it (`new`). Ok: a read was answered, and the
 -- last was the end. Read: one of the reads failed at the source, so fewer than `most` were answered, and none was the end. Write: the sink
 -- failed, after a read that wasn't the end. TooManyReads: all `most` reads were answered, none was the end, and no port failed. Where no
--- read was answered, `ended` is as old as an earlier run, and nothing is said of it. A source whose read was answered hasn't failed
+-- read was answered, `ended` is left from an earlier run, and nothing is claimed of it. A source whose read was answered hasn't failed
 abbrev pub EndsBecause : Ports → Ports → ℕ → Result Served ServeFault → Type 0
 EndsBecause old new most (Ok _) = (old.reads < new.reads) × (new.reads ≤ old.reads + most) × (new.ended ≡ true) × (new.source_failed ≡ false) × (new.sink_failed ≡ old.sink_failed)
 EndsBecause old new most (Err (Read _)) = (new.reads < old.reads + most) × (old.reads < new.reads → new.ended ≡ false) × (new.source_failed ≡ true) × (new.sink_failed ≡ old.sink_failed)
@@ -113,16 +115,16 @@ EndsBecause old new most (Err (TooManyReads _)) = (new.reads ≡ old.reads + mos
 
 -- answering in at most `most` reads took the ports from `old` to `new`, and gave this result
 pub record HasEnded (old new : Ports) (most : ℕ) (result : Result Served ServeFault) : Type 0 where
-  -- where it is served, the source has no byte left
+  -- where the result is `Ok`, the source has no byte left
   pub whole : OnOk result (IsAtEnd new.remaining)
-  -- why it ended
+  -- why the run ended
   pub ends : EndsBecause old new most result
-  -- it is served exactly where the last read was the end
+  -- the result is `Ok` exactly where a read was answered and the last one was the end
   pub served : IsOk result ↔ ((old.reads < new.reads) × (new.ended ≡ true))
-  -- a port that hadn't failed before: 42 exactly where the source failed, 43 exactly where the sink did
+  -- of a port that hadn't failed before: the fault is 42 exactly where the source failed, and 43 exactly where the sink did
   pub read : old.source_failed ≡ false → IsErrAnd result (λ fault. fault_number fault ≡ 42) ↔ (new.source_failed ≡ true)
   pub write : old.sink_failed ≡ false → IsErrAnd result (λ fault. fault_number fault ≡ 43) ↔ (new.sink_failed ≡ true)
-  -- ports that hadn't failed before: 44 exactly where all reads were answered, none was the end, and no port failed
+  -- of ports that hadn't failed before: the fault is 44 exactly where all reads were answered, none was the end, and no port failed
   pub too_many : old.source_failed ≡ false → old.sink_failed ≡ false → IsErrAnd result (λ fault. fault_number fault ≡ 44)
       ↔ ((new.reads ≡ old.reads + most) × (old.reads < new.reads → new.ended ≡ false) × (new.source_failed ≡ false) × (new.sink_failed ≡ false))
 

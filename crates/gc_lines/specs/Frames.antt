@@ -19,13 +19,15 @@ frame_of bytes =
     then (if nat_lt 512 (length bytes - 1) then Overlong else Line (record { items = take (length bytes - 1) bytes }))
     else Cleared
 
--- the pieces of a stream that a line feed ends, each without it, where some bytes without a line feed are before the stream
-abbrev pub pieces_behind : List ℕ → List ℕ → List (List ℕ)
+-- the pieces of a stream that a line feed ends, each without it, where the bytes `before`, which have no line feed, come before the
+-- stream and belong to its first piece
+abbrev pub pieces_behind : (before stream : List ℕ) → List (List ℕ)
 pieces_behind before [] = []
 pieces_behind before (b ∷ bs) = if is_line_feed b then before ∷ pieces_behind [] bs else pieces_behind (before ++ b ∷ []) bs
 
--- what follows the last line feed of a stream, where some bytes without a line feed are before it
-abbrev pub rest_behind : List ℕ → List ℕ → List ℕ
+-- what follows the last line feed of a stream; without a line feed in it, all of it after the bytes `before`, which have no line feed
+-- and come before the stream
+abbrev pub rest_behind : (before stream : List ℕ) → List ℕ
 rest_behind before [] = before
 rest_behind before (b ∷ bs) = if is_line_feed b then rest_behind [] bs else rest_behind (before ++ b ∷ []) bs
 
@@ -41,14 +43,14 @@ rest_of stream = rest_behind [] stream
 abbrev pub frames : List ℕ → List Frame
 frames stream = map frame_of (pieces stream)
 
--- the bytes of a line, where a frame is one
+-- the bytes of a frame's line, where the frame is a line
 abbrev pub line_in : Frame → Option (List ℕ)
 line_in (Line line) = Some line.items
 line_in Cleared = None
 line_in Overlong = None
 line_in More = None
 
--- the lines of a stream
+-- the lines of a stream, without the frames that are cleared or overlong
 abbrev pub lines : List ℕ → List (List ℕ)
 lines stream = filter_map line_in (frames stream)
 

@@ -5,13 +5,13 @@ use Rattle.gc_lines.specs.declared.fault.LineFault.{LineFault}
 use Rattle.gc_lines.specs.declared.fault.LineFault.TheVariants.{Signature, Number, Id, Colon, Code, TooLong}
 use Rattle.gc_lines.specs.Numbers.{NoDigitFirst, HasNumber}
 
--- an id after a comma, or nothing
+-- an id as it is in a line: its digit after a comma, or nothing where there is no id
 abbrev pub id_text : Option ℕ → List ℕ
 id_text None = []
 id_text (Some id) = 44 ∷ (48 + id) ∷ []
 
--- an id ends before these bytes: no further digit follows it, and without an id no comma follows
-abbrev pub EndsId : Option ℕ → List ℕ → Type 0
+-- the field of an id ends before the bytes `rest`: no further digit follows an id, and no comma comes where there is no id
+abbrev pub EndsId : Option ℕ → (rest : List ℕ) → Type 0
 EndsId None rest = (after : List ℕ) → rest ≢ 44 ∷ after
 EndsId (Some id) rest = NoDigitFirst rest
 
@@ -23,8 +23,8 @@ pub record HasId (bytes : List ℕ) (id : Option ℕ) (rest : List ℕ) : Type 0
 
 -- The first faulty field: the fields before it have their form, and it has not.
 
--- a line's signature has its form, and the rest follows it
-abbrev pub PastSignature : List ℕ → List ℕ → List ℕ → Type 0
+-- the line is this signature and then the rest
+abbrev pub PastSignature : (signature line rest : List ℕ) → Type 0
 PastSignature signature line rest = line ≡ signature ++ rest
 
 -- the fields through the number have their form, and the rest follows them
@@ -59,7 +59,8 @@ FirstBadField signature Body line TooLong = ⊥
 
 -- What a reader answers.
 
--- a function returned what `read` is: the same fault, or a value that `view` shows to be the one of `read`
+-- a function's result is the one that the definition `read` has: the same fault, or a value `x` where `read` is `Ok (view x)`. `view`
+-- gives what contracts see of a value
 abbrev pub Gives : {X Y : Type 0} → (X → Y) → Result X LineFault → Result Y LineFault → Type 0
 Gives view (Ok x) read = read ≡ Ok (view x)
 Gives view (Err e) read = read ≡ Err e
@@ -67,5 +68,5 @@ Gives view (Err e) read = read ≡ Err e
 -- The written form.
 
 -- the fields through the colon as they are written, without leading zeros
-abbrev pub header_text : List ℕ → ℕ → Option ℕ → List ℕ
+abbrev pub header_text : (signature : List ℕ) (number : ℕ) → Option ℕ → List ℕ
 header_text signature number id = signature ++ (decimal number ++ (id_text id ++ 58 ∷ []))

@@ -21,14 +21,15 @@ abbrev pub PlainIsOneLine : Type 0
 PlainIsOneLine = (bytes : List ℕ) → IsPlain bytes → length bytes ≤ 512
     → (frames (bytes ++ 13 ∷ 10 ∷ []) ≡ Line (record { items = bytes }) ∷ []) × (rest_of (bytes ++ 13 ∷ 10 ∷ []) ≡ [])
 
--- reading gives fields exactly where the line has the grammar of a request with them, and a fault exactly where its field is the first bad one
+-- reading gives fields exactly where the line has the grammar of a request with them, and a fault exactly where its field is
+-- the first bad one; and a line has the grammar of a request with at most one list of fields
 pub record ReadsRequests : Type 0 where
   pub found : (line : List ℕ) (q : RequestFields) → (request_at line ≡ Ok q) ↔ IsRequest line q
   pub fault : (line : List ℕ) (f : LineFault) → (request_at line ≡ Err f) ↔ FirstBadOfRequest line f
   pub one : (line : List ℕ) (p q : RequestFields) → IsRequest line p → IsRequest line q → p ≡ q
 
 -- reading gives fields exactly where the line has the grammar of a reply with them, and a fault exactly where its field is
--- the first bad one
+-- the first bad one; and a line has the grammar of a reply with at most one list of fields
 pub record ReadsReplies : Type 0 where
   pub found : (line : List ℕ) (r : ReplyFields) → (reply_at line ≡ Ok r) ↔ IsReply line r
   pub fault : (line : List ℕ) (f : LineFault) → (reply_at line ≡ Err f) ↔ FirstBadOfReply line f

@@ -5,14 +5,14 @@ use Rattle.gc_lines.specs.declared.frame.Frame.TheVariants as frame
 use Rattle.gc_lines.specs.declared.frame.Lent.{Lent}
 use Rattle.gc_lines.specs.declared.frame.Lent.TheVariants.{Line, Cleared, Overlong, More}
 
--- the frame that a lent one stands for
+-- the frame that a lent one stands for: the same, with its line by value
 abbrev pub lent_seen : Lent → Frame
 lent_seen (Line line) = frame.Line (record { items = line.now })
 lent_seen Cleared = frame.Cleared
 lent_seen Overlong = frame.Overlong
 lent_seen More = frame.More
 
--- a line that is lent has at most 512 bytes
+-- where a lent frame is a line, it has at most 512 bytes
 abbrev pub IsLineWithin : Lent → Type 0
 IsLineWithin (Line line) = length line.now ≤ 512
 IsLineWithin Cleared = Unit {0}

@@ -3,7 +3,7 @@ use Rattle.std.specs.Prelude.{◌≡◌, ℕ, ◌<◌, ◌≤◌, false, List, [
 use Rattle.std.specs.Char.{is_ascii_digit}
 use Rattle.std.specs.Str.Parse.{digits_value, AllDigits}
 
--- a text of one to five digits is worth a number, which is at most 65535
+-- a text of one to five digits writes the number n, which is at most 65535
 pub record IsNumber (text : List ℕ) (n : ℕ) : Type 0 where
   pub some : 0 < length text
   pub few : length text ≤ 5
@@ -11,7 +11,7 @@ pub record IsNumber (text : List ℕ) (n : ℕ) : Type 0 where
   pub value : digits_value 10 text ≡ n
   pub bound : n < 65536
 
--- a text of digits that is not longer than its number needs
+-- a text of digits doesn't begin with 0, except where it is 0 alone
 abbrev pub NoLeadingZero : List ℕ → Type 0
 NoLeadingZero text = slice_index text 0 ≡ 48 → length text ≡ 1
 

@@ -5,8 +5,8 @@ use Rattle.gc_lines.specs.Frames.{frame_of, pieces_behind}
 use Rattle.gc_lines.specs.declared.frame.Frame.{Frame}
 use Rattle.gc_lines.specs.declared.frame.Frame.TheVariants.{Line, Cleared, Overlong, More}
 
--- the frames that a piece completes after a rest, which no line feed ends yet
-abbrev pub frames_behind : List ℕ → List ℕ → List Frame
+-- the frames that a piece completes, where the bytes `rest`, which no line feed ends yet, came before it
+abbrev pub frames_behind : (rest piece : List ℕ) → List Frame
 frames_behind rest piece = map frame_of (pieces_behind rest piece)
 
 -- the frame, in a list of its own, where a line feed has ended it; the empty list where none came yet
@@ -22,8 +22,8 @@ pub record Progress (State : Type 0) : Type 0 where
   pub taken : Option (List ℕ)
   pub whole : ℕ
 
--- the progress with this state, these bytes taken, and this count of texts
-abbrev pub progress_at : {State : Type 0} → State → Option (List ℕ) → ℕ → Progress State
+-- the progress with this state, these bytes taken, and this count of whole texts
+abbrev pub progress_at : {State : Type 0} → State → (taken : Option (List ℕ)) (whole : ℕ) → Progress State
 progress_at state taken whole = record { state = state; taken = taken; whole = whole }
 
 -- between the progress `from` and `to` the frames `seen` were answered; the texts of the first ones, `done`, went out, and those
@@ -46,14 +46,28 @@ pub record GathersPart {State : Type 0} (rule : AnswerRule State) (from to : Pro
   pub part : AnswersPart rule from.state reached seen from.taken to.taken from.whole to.whole bytes
   pub alone : gathers ≡ false → reached ≡ to.state
 
--- there is room for one more text and its length, and no text waits where texts aren't gathered
+-- one more frame was answered, which took the progress from `before` to `after`: where `Gathering` was true of the frames `seen` before
+-- it, whose texts that wait were `text` and `lengths`, it is true of these frames and then `frame`, with `text'` and `lengths'`
+abbrev pub GathersFrame : {State : Type 0} → AnswerRule State → (before after : Progress State) → Frame → (text lengths text' lengths' : List ℕ) → Type 0
+GathersFrame {State} rule before after frame text lengths text' lengths' =
+    (from : Progress State) (seen : List Frame) → Gathering rule from before seen text lengths
+    → Gathering rule from after (seen ++ completed frame) text' lengths'
+
+-- one more frame was answered, and then the sink failed within a text, of which it took the first `bytes` bytes: where `Gathering` was
+-- true of the frames `seen` before it, `GathersPart` is true of these frames and then `frame`
+abbrev pub GathersFramePart : {State : Type 0} → AnswerRule State → (before after : Progress State) → Frame → (text lengths : List ℕ) → ℕ → Bool → Type 0
+GathersFramePart {State} rule before after frame text lengths bytes gathers =
+    (from : Progress State) (seen : List Frame) → Gathering rule from before seen text lengths
+    → GathersPart rule from after (seen ++ completed frame) bytes gathers
+
+-- there is room for one more text, which has at most 514 bytes, and for its length; and no text waits where texts aren't gathered
 pub record HasRoom (text lengths : List ℕ) (gathers : Bool) : Type 0 where
   pub for_text : length text + 514 ≤ 8192
   pub for_length : length lengths < 256
   pub alone : gathers ≡ false → lengths ≡ []
 
--- of texts with these lengths the first `left` bytes went out: how many texts are whole, `whole` earlier ones counted, and how many
--- bytes of the next one went out
-abbrev pub parted : ℕ → ℕ → List ℕ → ℕ × ℕ
-parted whole left [] = (whole, left)
-parted whole left (n ∷ ns) = if nat_lt left n then (whole, left) else parted (whole + 1) (left - n) ns
+-- where a sink took the first `taken` bytes of texts with these lengths: how many texts it took whole, `whole` earlier ones included, and
+-- how many bytes of the next text it took
+abbrev pub whole_and_part : (whole taken : ℕ) → List ℕ → ℕ × ℕ
+whole_and_part whole taken [] = (whole, taken)
+whole_and_part whole taken (n ∷ ns) = if nat_lt taken n then (whole, taken) else whole_and_part (whole + 1) (taken - n) ns

@@ -4,30 +4,31 @@ use Rattle.std.specs.Prelude.{◌≡◌, ℕ, ◌+◌, ◌<◌, ◌≤◌, ◌==
 use Rattle.std.specs.Io.KnownBytes.{Consumes, Appends, Keeps, IsAtEnd}
 
 -- a read gave the first n bytes of buf, and n is 0 only where no byte is left; a failed read gave none
-abbrev pub GivesBytes : {E : Type 0} → Option (List ℕ) → Option (List ℕ) → Result ℕ E → List ℕ → Type 0
+abbrev pub GivesBytes : {E : Type 0} → (old new : Option (List ℕ)) → Result ℕ E → (buf : List ℕ) → Type 0
 GivesBytes old new (Ok n) buf = (n ≤ length buf) × Consumes old new (take n buf) × (n ≡ 0 → IsAtEnd new)
 GivesBytes old new (Err _) buf = Keeps old new
 
 -- an answered read is counted, and was the end where it gave no byte; a failed one changes neither the count nor the end
-abbrev pub CountsRead : {E : Type 0} → ℕ → ℕ → Bool → Bool → Result ℕ E → Type 0
+abbrev pub CountsRead : {E : Type 0} → (old_reads new_reads : ℕ) (old_end new_end : Bool) → Result ℕ E → Type 0
 CountsRead old_reads new_reads old_end new_end (Ok n) = (new_reads ≡ old_reads + 1) × (new_end ≡ (n == 0))
 CountsRead old_reads new_reads old_end new_end (Err _) = (new_reads ≡ old_reads) × (new_end ≡ old_end)
 
--- a call has failed exactly where the port has failed after it, and a port stays failed
-abbrev pub Fails : {X E : Type 0} → Bool → Bool → Result X E → Type 0
+-- a call that asks the port fails exactly where the port has failed after it, and a port stays failed
+abbrev pub Fails : {X E : Type 0} → (old new : Bool) → Result X E → Type 0
 Fails old new (Ok _) = (old ≡ false) × (new ≡ false)
 Fails old new (Err _) = new ≡ true
 
 -- a write took the first n bytes, at least one where some were offered; a failed write took none
-abbrev pub TakesBytes : {E : Type 0} → Option (List ℕ) → Option (List ℕ) → Result ℕ E → List ℕ → Type 0
+abbrev pub TakesBytes : {E : Type 0} → (old new : Option (List ℕ)) → Result ℕ E → (bytes : List ℕ) → Type 0
 TakesBytes old new (Ok n) bytes = (n ≤ length bytes) × (0 < length bytes → 0 < n) × Appends old new (take n bytes)
 TakesBytes old new (Err _) bytes = Keeps old new
 
--- after a call that failed the sink has failed; any other call leaves the sink failed or not, as it was
-abbrev pub FailsWith : {X E : Type 0} → Result X E → Bool → Bool → Type 0
+-- a call that fails leaves the sink failed, and any other leaves it as it was. Unlike `Fails`, that is also true of a call that has
+-- nothing to write, and so succeeds over a sink that has failed
+abbrev pub FailsWith : {X E : Type 0} → Result X E → (old new : Bool) → Type 0
 FailsWith (Ok _) old new = new ≡ old
 FailsWith (Err _) old new = new ≡ true
 
 -- a sink took the first n bytes of a text, which aren't all of it
-abbrev pub TakesFront : Option (List ℕ) → Option (List ℕ) → ℕ → List ℕ → Type 0
+abbrev pub TakesFront : (old new : Option (List ℕ)) (n : ℕ) (text : List ℕ) → Type 0
 TakesFront old new n text = (n < length text) × Appends old new (take n text)

@@ -10,21 +10,21 @@ use Rattle.gc_lines.specs.declared.header.Header.{Header}
 use Rattle.gc_lines.specs.Requests.{RequestFields, request_signature}
 use Rattle.gc_lines.specs.Replies.{ReplyFields, reply_signature}
 
--- goes on with what was read where there was no fault, and else keeps the fault
+-- the next reader applied to the value that was read; a fault stays the fault
 infixl 10 ◌>>=◌
 abbrev pub ◌>>=◌ : {A B : Type 0} → Result A LineFault → (A → Result B LineFault) → Result B LineFault
 (Ok x) >>= f = f x
 (Err e) >>= f = Err e
 
 -- what follows the signature at the front of a line, or the fault `Signature`
-abbrev pub signature_at : List ℕ → List ℕ → Result (List ℕ) LineFault
+abbrev pub signature_at : (signature line : List ℕ) → Result (List ℕ) LineFault
 signature_at signature line = if pointwise nat_eq (take (length signature) line) signature then Ok (drop (length signature) line) else Err Signature
 
 -- how many digits are at the front
 abbrev pub digits_len : List ℕ → ℕ
 digits_len bytes = length (take_while is_ascii_digit bytes)
 
--- the number at the front of some bytes and what follows it, or this fault
+-- the number at the front of the bytes and what follows it, or this fault where no number of one to five digits, at most 65535, is there
 abbrev pub number_at : LineFault → List ℕ → Result (ℕ × List ℕ) LineFault
 number_at fault bytes =
     let len = digits_len bytes in
@@ -43,7 +43,7 @@ id_at bytes =
 abbrev pub colon_at : List ℕ → Result (List ℕ) LineFault
 colon_at bytes = if slice_index bytes 0 == 58 then Ok (drop 1 bytes) else Err Colon
 
--- what the fields up to the colon say, and what follows the colon
+-- the values of the fields up to the colon, and what follows the colon
 pub record HeaderFields : Type 0 where
   pub number : ℕ
   pub id : Option ℕ
@@ -69,12 +69,12 @@ request_at line = do
   header ← header_at request_signature line
   Ok (record { rpc = header.number; id = header.id; params = header.rest })
 
--- the parameters after a return code, or the fault `Code`
+-- the parameters after a return code: none at the end of the line, else all that follows a comma; or the fault `Code`
 abbrev pub params_at : List ℕ → Result (List ℕ) LineFault
 params_at [] = Ok []
 params_at (b ∷ bs) = if b == 44 then Ok bs else Err Code
 
--- the return code and the parameters after it, or the fault `Code`
+-- the return code at the front and the parameters after it, or the fault `Code`
 abbrev pub code_at : List ℕ → Result (ℕ × List ℕ) LineFault
 code_at bytes = do
   code ← number_at Code bytes

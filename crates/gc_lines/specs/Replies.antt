@@ -6,7 +6,8 @@ use Rattle.gc_lines.specs.declared.reply.Reply.{Reply}
 use Rattle.gc_lines.specs.Numbers.{IsNumber, NoLeadingZero}
 use Rattle.gc_lines.specs.Headers.{id_text, FirstBadField}
 
--- what a reply says
+-- the fields of a reply: the return code of the communication, the transaction id where there is one, the return code of the
+-- procedure, and all bytes after the comma that follows it
 pub record ReplyFields : Type 0 where
   pub rc_com : ℕ
   pub id : Option ℕ
@@ -18,7 +19,7 @@ abbrev pub reply_signature : List ℕ
 reply_signature = codes "%R1P,"
 
 -- after a return code the line ends, or a comma and then the parameters follow
-abbrev pub EndsCode : List ℕ → List ℕ → Type 0
+abbrev pub EndsCode : (tail params : List ℕ) → Type 0
 EndsCode tail params = ((tail ≡ []) × (params ≡ [])) ⊎ (tail ≡ 44 ∷ params)
 
 -- a line has the grammar of a reply with these fields: it is the fields' texts, one after the other
@@ -61,6 +62,6 @@ abbrev pub params_text : List ℕ → List ℕ
 params_text [] = []
 params_text (b ∷ bs) = 44 ∷ b ∷ bs
 
--- a reply as it is written
+-- a reply as it is written: its numbers without leading zeros, and a comma after the return code only where there are parameters
 abbrev pub reply_text : ReplyFields → List ℕ
 reply_text r = reply_signature ++ (decimal r.rc_com ++ (id_text r.id ++ 58 ∷ (decimal r.rc ++ params_text r.params)))

@@ -6,7 +6,7 @@ use Rattle.gc_lines.specs.declared.request.Request.{Request}
 use Rattle.gc_lines.specs.Numbers.{IsNumber, NoLeadingZero}
 use Rattle.gc_lines.specs.Headers.{id_text, FirstBadField}
 
--- what a request says
+-- the fields of a request: the procedure's number, the transaction id where there is one, and all bytes after the colon
 pub record RequestFields : Type 0 where
   pub rpc : ℕ
   pub id : Option ℕ
@@ -36,6 +36,6 @@ pub record IsWrittenRequest (line : List ℕ) (fields : RequestFields) : Type 0 
   pub is : IsRequest line fields
   pub number : NoLeadingZero is.number
 
--- a request as it is written
+-- a request as it is written: its number without leading zeros
 abbrev pub request_text : RequestFields → List ℕ
 request_text q = request_signature ++ (decimal q.rpc ++ (id_text q.id ++ 58 ∷ q.params))

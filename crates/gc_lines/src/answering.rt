@@ -27,7 +27,8 @@ pub trait Answers {
     /// What answering may do: the state before a frame, the frame, the state after it, and the text, if there is one.
     ghost answers: { Self → Frame → Self → Option (List ℕ) → Type 0 };
 
-    /// Appends the answer to the frame, with the line end, and returns whether there is one. Without one the text stays as it is.
+    /// Appends the answer to the frame, with its line end, to `text`, and returns whether there is an answer. Without one
+    /// `text` stays as it is.
     fn answer(&mut self, frame: Lent<'_>, text: &mut Outgoing) -> bool
         requires { array_vec_len text.old + 514 ≤ 8192 }
         ensures answered { AppendsAnswer (answers self.old (lent_seen frame.entry) self.new) text.old.items text.new.items result }
@@ -36,7 +37,7 @@ pub trait Answers {
 
 /// Answers the frames of a source until its end, in at most `max_reads` reads of at most 256 bytes, and writes the texts
 /// into a sink. Without `gathers` it writes each text before it looks at the next frame. With it the texts of one read are
-/// sent together, before the next read. It takes no memory.
+/// sent together, before the next read. It allocates nothing.
 ///
 /// Bytes without a line feed at the end of the input are no frame. Without `gathers` the answerer has got all frames that were
 /// read; after a failed write it has got none after the frame whose text was on its way. With `gathers` it may then have got
@@ -63,7 +64,7 @@ pub fn answer_frames<A: Answers, S: Source, K: Sink>(
 {
     let mut session = Session::new(gathers);
     let mut buf = [0u8; PIECE];
-    // Where a line that comes in parts is put together.
+    // A line that comes in more than one piece is put together here.
     let mut cut = Line::new();
     for _ in 0..max_reads {
         match source.read(&mut buf) {

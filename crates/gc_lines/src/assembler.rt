@@ -14,15 +14,15 @@ use std::marker::Model;
 
 /// Takes the pieces of a stream, and gives its frames.
 ///
-/// It always stands for some bytes since the last line feed, at first for none. It keeps what the next frame needs of them
-/// and no more, so its size does not grow with the stream.
+/// Of the bytes since the last line feed it keeps what the next frame needs and no more, so its size does not grow with the
+/// stream. Contracts say with `StandsFor` which bytes may have come since the last line feed; at first none have.
 #[derive(Drop)]
 pub struct Assembler {
     // The first 513 bytes since the last line feed.
     front: ArrayVec<u8, 513>,
-    // The last byte since then, or 0 where none came.
+    // The last byte since the last line feed, or 0 where none came.
     last: u8,
-    // Whether more than 513 bytes came since then.
+    // Whether more than 513 bytes came since the last line feed.
     long: bool,
 }
 
@@ -152,7 +152,7 @@ impl Assembler {
     }
 }
 
-// The frame that a line feed makes of a piece's bytes, where they begin a line.
+// The frame that a line feed makes of these bytes of a piece, where they begin at the start of a line.
 #[inline]
 fn frame_in(bytes: &[u8]) -> Lent<'_>
     ensures frame { lent_seen result ≡ frame_of bytes.now }

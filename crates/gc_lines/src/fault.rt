@@ -23,7 +23,7 @@ pub enum LineFault {
     /// 5: after a reply's colon there is no run of one to five digits with a value of at most 65535, or after it neither the
     /// end of the line nor a comma.
     Code,
-    /// 6: the line to be written would pass 512 bytes. No reader answers it.
+    /// 6: the line to be written would pass 512 bytes. No reader returns this fault.
     TooLong,
 }
 

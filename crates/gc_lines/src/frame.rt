@@ -7,20 +7,21 @@ use crate::line::{Line, append};
 /// What is between two line feeds of a stream.
 ///
 /// The manual ends a line by CR LF and says that a lone LF clears the receiver's buffer. That a line above 512 bytes is
-/// dropped whole is this project's own.
+/// discarded whole is this project's own.
 #[derive(Debug, PartialEq, Eq, Drop)]
 pub enum Frame {
     /// A line of at most 512 bytes, without its CR LF. CR LF alone is a line of no bytes.
     Line(Line),
-    /// A line feed without a CR before it: what was before it is dropped.
+    /// A line feed without a CR before it: the bytes before it are discarded.
     Cleared,
-    /// A line of more than 512 bytes, without its CR LF: it is dropped.
+    /// A line of more than 512 bytes, without its CR LF: it is discarded.
     Overlong,
     /// No line feed came yet.
     More,
 }
 
-/// A frame whose line is lent: as it is in a piece, or where it was put together.
+/// A frame whose line is borrowed: from the piece, where the whole line is in one piece, and else from the buffer in which it was
+/// put together.
 #[derive(Clone, Copy, Debug, PartialEq, Eq)]
 pub enum Lent<'a> {
     /// As [`Frame::Line`].
@@ -36,7 +37,7 @@ pub enum Lent<'a> {
 ghost use Rattle.gc_lines.specs.Lent.{lent_seen, IsLineWithin};
 
 impl Lent<'_> {
-    // The same frame with a copy of its line.
+    // The same frame, with a copy of its line.
     pub(crate) fn to_frame(self) -> Frame
         requires { IsLineWithin self }
         ensures { result ≡ lent_seen self.entry }

@@ -12,8 +12,11 @@ use std::io::Read;
 #[derive(Drop)]
 pub struct FromReader<R> {
     reader: R,
+    // How many reads were answered.
     answered: u64,
+    // Whether the last answered read was the end.
     at_end: bool,
+    // Whether a read has failed.
     broken: bool,
 }
 

@@ -11,15 +11,18 @@ use crate::line::append;
 use crate::number::{count_digits, number_of, push_number};
 use arrayvec::ArrayVec;
 
-// The fields up to the colon, and what follows the colon.
+// The values of the fields up to the colon, and what follows the colon.
 #[derive(Clone, Copy)]
 pub(crate) struct Header<'a> {
+    // In a request the procedure's number, in a reply the return code of the communication.
     pub(crate) number: u16,
+    // The transaction id, from 0 to 7, where there is one.
     pub(crate) id: Option<u8>,
+    // The bytes after the colon.
     pub(crate) rest: &'a [u8],
 }
 
-// Reads the fields through the colon, from the left. A refusal names the first faulty one.
+// Reads the fields through the colon, from the left. The error names the first faulty one.
 #[inline(always)]
 #[tactic(auto, unfolding(crate::specs::Readers::header_at))]
 pub(crate) fn header_of<'a>(signature: &[u8], line: &'a [u8]) -> Result<Header<'a>, LineFault>
@@ -66,7 +69,7 @@ fn after_colon(bytes: &[u8]) -> Result<&[u8], LineFault>
     }
 }
 
-// Appends the fields through the colon.
+// Appends the signature, the number, the id with a comma before it where there is one, and a colon: at most 13 bytes.
 #[inline(always)]
 pub(crate) fn push_header<const N: usize>(
     to: &mut ArrayVec<u8, N>,
@@ -85,7 +88,7 @@ pub(crate) fn push_header<const N: usize>(
     to.push(b':');
 }
 
-// Appends an id after a comma, if there is one.
+// Appends a comma and the id, if there is one: at most 2 bytes.
 #[inline(always)]
 fn push_id<const N: usize>(to: &mut ArrayVec<u8, N>, id: Option<u8>)
     requires id { ForSome id (λ i. i < 8) }

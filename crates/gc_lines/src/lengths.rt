@@ -8,6 +8,7 @@ use std::marker::Model;
 #[derive(Drop)]
 pub(crate) struct Lengths {
     all: [usize; 256],
+    // How many places of `all` are in use, from the first on.
     count: usize,
 }
 

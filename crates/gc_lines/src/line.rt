@@ -9,14 +9,14 @@ use arrayvec::ArrayVec;
 /// A line without its CR LF, of at most 512 bytes. The limit is this project's own.
 pub type Line = ArrayVec<u8, 512>;
 
-/// Whether there is neither CR nor LF in these bytes, so that they are allowed inside a line.
+/// Whether these bytes hold neither CR nor LF, so that they can be inside a line.
 pub fn is_plain(bytes: &[u8]) -> bool
     ensures { IsTrue result ↔ IsPlain bytes.now }
 {
     bytes.iter().all(|b| *b != b'\n' && *b != b'\r')
 }
 
-/// Appends bytes, for which there is room.
+/// Appends these bytes. The caller proves that there is room for them.
 #[inline]
 pub fn append<const N: usize>(to: &mut ArrayVec<u8, N>, bytes: &[u8])
     requires { array_vec_len to.old + length bytes.now ≤ N }

@@ -11,7 +11,7 @@ use crate::fault::LineFault;
 use crate::line::append;
 use arrayvec::ArrayVec;
 
-// How many digits are at the front.
+// How many digits are at the front of the bytes.
 #[inline]
 pub(crate) fn count_digits(bytes: &[u8]) -> usize
     ensures run { result ≡ digits_len bytes.now }
@@ -20,7 +20,8 @@ pub(crate) fn count_digits(bytes: &[u8]) -> usize
     bytes.iter().take_while(|b| b.is_ascii_digit()).count()
 }
 
-// The number at the front and the bytes after it. Where there is none, `fault` is returned, which names the number's field.
+// The number at the front, of one to five digits and at most 65535, and the bytes after it. Where there is none, `fault` is
+// returned, which names the number's field.
 #[inline(always)]
 pub(crate) fn number_of(bytes: &[u8], fault: LineFault) -> Result<(u16, &[u8]), LineFault>
     ensures { Gives (λ x. (x.0, x.1.now)) result (number_at fault bytes.now) }
@@ -40,7 +41,7 @@ pub(crate) fn number_of(bytes: &[u8], fault: LineFault) -> Result<(u16, &[u8]), 
     Ok((value as u16, &bytes[len..]))
 }
 
-// Appends a number without leading zeros.
+// Appends a number without leading zeros, at most 5 bytes.
 #[inline]
 pub(crate) fn push_number<const N: usize>(to: &mut ArrayVec<u8, N>, n: u16)
     requires { array_vec_len to.old + 5 ≤ N }
@@ -54,7 +55,7 @@ pub(crate) fn push_number<const N: usize>(to: &mut ArrayVec<u8, N>, n: u16)
     }
 }
 
-// Appends a number of two digits or more.
+// Appends a number without leading zeros, at most 5 bytes. `push_number` calls it for those of two digits or more.
 fn push_digits<const N: usize>(to: &mut ArrayVec<u8, N>, n: u16)
     requires { array_vec_len to.old + 5 ≤ N }
     ensures items { to.new.items ≡ to.old.items ++ decimal n }

@@ -10,18 +10,18 @@ use std::marker::Model;
 /// How many bytes are read ahead at most.
 const AHEAD: usize = 8192;
 
-/// A reader that reads ahead from another one, up to 8192 bytes at a time. Takes no memory.
+/// A reader that reads ahead from another one, up to 8192 bytes at a time. It allocates nothing.
 ///
-/// A call gives bytes that are held, and doesn't ask the other reader. Where none are held, the call first reads the other once,
-/// and gives of what that read gave. The other's end, or its error, comes only once all bytes before that were given; a later
-/// call asks the other again.
+/// A call returns bytes that are held, and doesn't read from the other reader. Where none are held, the call first reads once from
+/// the other, and returns some of the bytes that came. The other's end, or its error, is returned only after all bytes before it; a
+/// later call reads from the other again.
 #[derive(Drop)]
 pub struct ReadAhead<R> {
     held: Held,
     reader: R,
 }
 
-// The bytes that were read and not yet given.
+// The bytes that were read and not yet given: `bytes[start..end]`.
 #[derive(Drop)]
 struct Held {
     bytes: [u8; AHEAD],
@@ -59,7 +59,7 @@ impl Held {
         self.start == self.end
     }
 
-    // Reads once from `reader`, and holds what it gives. Where the read fails, nothing is held.
+    // Reads once from `reader`, and holds the bytes that came. Where the read fails, nothing is held.
     fn refill<R: Read>(&mut self, reader: &mut R) -> io::Result<()>
         requires { self.old ≡ [] }
         ensures ok { OnOk result (Consumes (R.remaining reader.old) (R.remaining reader.new) self.new × (self.new ≡ [] → IsAtEnd (R.remaining reader.new))) }
@@ -104,11 +104,11 @@ impl<R: Read> Read for ReadAhead<R> {
         ensures bytes { ReadConsumes (⟦<ReadAhead<R> as Read>⟧.remaining self.old)
             (⟦<ReadAhead<R> as Read>⟧.remaining self.new) result buf.new }
 
-        // While it holds bytes it gives of them, and the other isn't asked.
+        // While it holds bytes it returns some of them, and doesn't read from the other.
         ensures held { 0 < length self.old.held
             → (result ≡ Ok (min (length self.old.held) (length buf.old))) × (self.new.reader ≡ self.old.reader) }
 
-        // Where the other failed, nothing is held: all that came before was given.
+        // Where the other failed, nothing is held: all bytes before that were returned.
         ensures failed { OnErr result ((self.old.held ≡ []) × (self.new.held ≡ [])) }
     {
         if self.held.is_empty() {

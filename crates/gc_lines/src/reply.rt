@@ -11,16 +11,19 @@ use crate::line::{Line, append};
 use crate::number::{number_of, push_number};
 use arrayvec::ArrayVec;
 
-/// A reply: how the communication went, the request's transaction id, how the procedure went, and the bytes of the
-/// parameters.
+/// A reply's fields. For both return codes 0 is success.
 ///
-/// 0 is success for both codes. `params` is all that follows the comma after `rc`, and empty where there is none. The form
-/// is that of the GeoCOM manual's chapter on the ASCII protocol; that ids are one digit from 0 to 7 is this project's own.
+/// The form is that of the GeoCOM manual's chapter on the ASCII protocol; that ids are one digit from 0 to 7 is this project's
+/// own.
 #[derive(Clone, Copy, Debug, PartialEq, Eq)]
 pub struct Reply<'a> {
+    /// The return code of the communication.
     pub rc_com: u16,
+    /// The request's transaction id, from 0 to 7, where there is one.
     pub id: Option<u8>,
+    /// The return code of the procedure.
     pub rc: u16,
+    /// All bytes after the comma that follows `rc`, and none where there is no comma.
     pub params: &'a [u8],
 }
 
@@ -50,7 +53,8 @@ fn code_of(bytes: &[u8]) -> Result<(u16, &[u8]), LineFault>
     Ok((rc, params))
 }
 
-// Reads a reply line's fields from the left. A refusal names the first faulty one.
+// As `read_reply`. Its contract says only that the result is that of `reply_at`; the contract of `read_reply`, which says what the
+// grammar has, is proved from it.
 #[inline(always)]
 #[tactic(auto, unfolding(crate::specs::Readers::reply_at))]
 fn reply_of(line: &[u8]) -> Result<Reply<'_>, LineFault>
@@ -66,7 +70,7 @@ fn reply_of(line: &[u8]) -> Result<Reply<'_>, LineFault>
     })
 }
 
-/// Reads a reply line, given without its CR LF. A refusal names the first faulty field from the left, and is never
+/// Reads a reply line, given without its CR LF. The error names the first faulty field from the left, and is never
 /// [`LineFault::TooLong`].
 #[inline(always)]
 pub fn read_reply(line: &[u8]) -> Result<Reply<'_>, LineFault>
@@ -79,7 +83,7 @@ pub fn read_reply(line: &[u8]) -> Result<Reply<'_>, LineFault>
     reply_of(line)
 }
 
-/// Appends a reply through its return code; parameters may follow, each after a comma.
+/// Appends a reply through its return code, at most 18 bytes; parameters may follow, each after a comma.
 #[inline]
 pub fn push_reply<const N: usize>(to: &mut ArrayVec<u8, N>, rc_com: u16, id: u8, rc: u16)
     requires id { id < 8 }
@@ -109,7 +113,7 @@ pub fn push_reply<const N: usize>(to: &mut ArrayVec<u8, N>, rc_com: u16, id: u8,
     }
 }
 
-// Appends a reply through its return code; the id may be left out.
+// As `push_reply`, for any return codes, and with an id or without one: field by field.
 fn push_reply_fields<const N: usize>(to: &mut ArrayVec<u8, N>, rc_com: u16, id: Option<u8>, rc: u16)
     requires id { ForSome id (λ i. i < 8) }
     requires room { array_vec_len to.old + 18 ≤ N }
@@ -131,7 +135,8 @@ fn begin_reply(rc_com: u16, id: Option<u8>, rc: u16) -> Line
     line
 }
 
-/// Writes a reply line, without its CR LF. It is refused with [`LineFault::TooLong`] exactly where it would pass 512 bytes.
+/// Writes a reply line, without its CR LF. It fails with [`LineFault::TooLong`] exactly where the line would have more than 512
+/// bytes.
 #[inline]
 pub fn write_reply(r: &Reply<'_>) -> Result<Line, LineFault>
     requires id { ForSome r.now.id (λ i. i < 8) }

@@ -11,21 +11,25 @@ use crate::header::{header_of, push_header};
 use crate::line::{Line, append};
 use arrayvec::ArrayVec;
 
-/// A request: a procedure's number, a transaction id, and the bytes of its parameters.
+/// A request's fields.
 ///
-/// `params` is all that follows the colon. The form is that of the GeoCOM manual's chapter on the ASCII protocol; that ids
-/// are one digit from 0 to 7 is this project's own.
+/// The form is that of the GeoCOM manual's chapter on the ASCII protocol; that ids are one digit from 0 to 7 is this project's
+/// own.
 #[derive(Clone, Copy, Debug, PartialEq, Eq)]
 pub struct Request<'a> {
+    /// The procedure's number.
     pub rpc: u16,
+    /// The transaction id, from 0 to 7, where there is one.
     pub id: Option<u8>,
+    /// All bytes after the colon: the parameters.
     pub params: &'a [u8],
 }
 
 ghost use Rattle.gc_lines.specs.Requests.{RequestFields, request_seen, IsRequest, FirstBadOfRequest, request_text};
 ghost use Rattle.gc_lines.specs.Readers.{request_at};
 
-// Reads a request line's fields from the left. A refusal names the first faulty one.
+// As `read_request`. Its contract says only that the result is that of `request_at`; the contract of `read_request`, which says
+// what the grammar has, is proved from it.
 #[inline(always)]
 #[tactic(auto, unfolding(crate::specs::Readers::request_at))]
 fn request_of(line: &[u8]) -> Result<Request<'_>, LineFault>
@@ -39,7 +43,7 @@ fn request_of(line: &[u8]) -> Result<Request<'_>, LineFault>
     })
 }
 
-/// Reads a request line, given without its CR LF. A refusal names the first faulty field from the left, and is never
+/// Reads a request line, given without its CR LF. The error names the first faulty field from the left, and is never
 /// [`LineFault::Code`] or [`LineFault::TooLong`].
 #[inline(always)]
 pub fn read_request(line: &[u8]) -> Result<Request<'_>, LineFault>
@@ -52,7 +56,7 @@ pub fn read_request(line: &[u8]) -> Result<Request<'_>, LineFault>
     request_of(line)
 }
 
-/// Appends a request through its colon; the parameters may follow.
+/// Appends a request through its colon, at most 13 bytes; the parameters may follow.
 #[inline]
 pub fn push_request<const N: usize>(to: &mut ArrayVec<u8, N>, rpc: u16, id: Option<u8>)
     requires id { ForSome id (λ i. i < 8) }
@@ -63,7 +67,7 @@ pub fn push_request<const N: usize>(to: &mut ArrayVec<u8, N>, rpc: u16, id: Opti
     push_header(to, b"%R1Q,", rpc, id);
 }
 
-/// Begins a request line: it is written through the colon, and the parameters may be appended.
+/// A request line through its colon, at most 13 bytes, to which the parameters may be appended.
 pub fn begin_request(rpc: u16, id: Option<u8>) -> Line
     requires { ForSome id (λ i. i < 8) }
     ensures items { result.items ≡ request_text (record { rpc = rpc; id = id; params = [] }) }
@@ -74,7 +78,7 @@ pub fn begin_request(rpc: u16, id: Option<u8>) -> Line
     line
 }
 
-/// Writes a request line, without its CR LF. It is refused with [`LineFault::TooLong`] exactly where it would pass 512
+/// Writes a request line, without its CR LF. It fails with [`LineFault::TooLong`] exactly where the line would have more than 512
 /// bytes.
 #[inline]
 pub fn write_request(r: &Request<'_>) -> Result<Line, LineFault>

@@ -1,15 +1,14 @@
 //! What the answering loop keeps from one read to the next, and how texts are sent: each at once, or gathered. All writing
 //! of a whole run lives here.
 
-ghost use Rattle.std.specs.Prelude.{◌≡◌, ℕ, ◌+◌, ◌<◌, ◌≤◌, ◌^◌, [], ◌∷◌, List, Option, ◌++◌, length, IfErr, OnOk, true, false};
+ghost use Rattle.std.specs.Prelude.{◌≡◌, ℕ, ◌+◌, ◌<◌, ◌≤◌, ◌^◌, [], ◌∷◌, List, Option, length, IfErr, OnOk, true, false};
 ghost use Rattle.std.specs.Io.KnownBytes.{Appends};
 ghost use Rattle.gc_lines.specs.Answering.{AnswersAll};
 ghost use Rattle.gc_lines.specs.Assembler.{StandsFor};
 ghost use Rattle.gc_lines.specs.Frames.{rest_behind};
 ghost use Rattle.gc_lines.specs.Lent.{lent_seen};
-ghost use Rattle.gc_lines.specs.Passing.{completed, frames_behind, Gathering, GathersPart, HasRoom, parted, Progress, progress_at};
+ghost use Rattle.gc_lines.specs.Passing.{frames_behind, GathersFrame, GathersFramePart, GathersPart, HasRoom, progress_at, whole_and_part};
 ghost use Rattle.gc_lines.specs.Ports.{FailsWith, TakesFront};
-ghost use Rattle.gc_lines.specs.declared.frame.Frame.{Frame};
 
 use crate::answering::{Answers, Outgoing};
 use crate::assembler::Assembler;
@@ -49,8 +48,8 @@ impl Session {
         }
     }
 
-    // Answers the frames that a piece completes, and writes all of their texts; a line that comes in parts is put together in
-    // `cut`. `Err(bytes)`: the sink failed, and took only the first `bytes` bytes of a text.
+    // Answers the frames that a piece completes, and writes all of their texts. A line that earlier pieces began is put
+    // together in `cut`. `Err(bytes)`: the sink failed, and took only the first `bytes` bytes of a text.
     pub(crate) fn answer_piece<A: Answers, K: Sink>(
         &mut self,
         answerer: &mut A,
@@ -87,8 +86,9 @@ impl Session {
         Ok(())
     }
 
-    // Has a frame answered, if a line feed has ended it, and writes the texts that wait unless they may wait for one more.
-    // `Err(bytes)`: the sink failed, and took only the first `bytes` bytes of a text.
+    // Answers a frame, unless it is `More`, and adds the answer to the texts that wait. It then writes all of them, unless
+    // texts are gathered and there is room for one more. `Err(bytes)`: the sink failed, and took only the first `bytes` bytes
+    // of a text.
     fn answer_frame<A: Answers, K: Sink>(
         &mut self,
         answerer: &mut A,
@@ -102,16 +102,12 @@ impl Session {
         ensures room { OnOk result (HasRoom self.new.text.items self.new.lengths self.new.gathers) }
         ensures same { (self.new.assembler ≡ self.old.assembler) × (self.new.gathers ≡ self.old.gathers) }
         ensures failed { FailsWith result (K.failed sink.old) (K.failed sink.new) }
-        ensures ok { OnOk result ((from : Progress A) (seen : List Frame)
-            → Gathering A.answers from (progress_at answerer.old (K.taken sink.old) self.old.replies)
-            seen self.old.text.items self.old.lengths
-            → Gathering A.answers from (progress_at answerer.new (K.taken sink.new) self.new.replies)
-            (seen ++ completed (lent_seen frame.entry)) self.new.text.items self.new.lengths) }
-        ensures err { IfErr result (λ bytes. (from : Progress A) (seen : List Frame)
-            → Gathering A.answers from (progress_at answerer.old (K.taken sink.old) self.old.replies)
-            seen self.old.text.items self.old.lengths
-            → GathersPart A.answers from (progress_at answerer.new (K.taken sink.new) self.new.replies)
-            (seen ++ completed (lent_seen frame.entry)) bytes self.old.gathers) }
+        ensures ok { OnOk result (GathersFrame A.answers (progress_at answerer.old (K.taken sink.old) self.old.replies)
+            (progress_at answerer.new (K.taken sink.new) self.new.replies) (lent_seen frame.entry)
+            self.old.text.items self.old.lengths self.new.text.items self.new.lengths) }
+        ensures err { IfErr result (λ bytes. GathersFramePart A.answers (progress_at answerer.old (K.taken sink.old) self.old.replies)
+            (progress_at answerer.new (K.taken sink.new) self.new.replies) (lent_seen frame.entry)
+            self.old.text.items self.old.lengths bytes self.old.gathers) }
     {
         if let Lent::More = frame {
             return Ok(());
@@ -130,7 +126,8 @@ impl Session {
         Ok(())
     }
 
-    // Whether the texts that wait may wait for one more: texts are gathered, and there is room for it.
+    // Whether the texts that wait may wait for one more: texts are gathered, and there is room for one of 514 bytes and for its
+    // length.
     #[inline]
     fn may_wait(&self) -> bool
         ensures { result ≡ true → HasRoom self.now.text.items self.now.lengths self.now.gathers }
@@ -138,7 +135,8 @@ impl Session {
         self.gathers && self.lengths.len() < 256 && self.text.len() <= 8192 - 514
     }
 
-    // Writes all texts that wait. `Err(bytes)`: the sink failed, and took only the first `bytes` bytes of one of them.
+    // Writes all texts that wait, and counts those that the sink took whole. `Err(bytes)`: the sink failed, and took only the first
+    // `bytes` bytes of one of them.
     #[inline]
     fn write_texts<K: Sink>(&mut self, sink: &mut K) -> Result<(), usize>
         requires { self.old.replies + length self.old.lengths < 2 ^ 64 }
@@ -149,7 +147,7 @@ impl Session {
         ensures ok { OnOk result (Appends (K.taken sink.old) (K.taken sink.new) self.old.text.items
             × (self.new.replies ≡ self.old.replies + length self.old.lengths)) }
         ensures err { IfErr result (λ bytes. (n : ℕ) × TakesFront (K.taken sink.old) (K.taken sink.new) n self.old.text.items
-            × ((self.new.replies, bytes) ≡ parted self.old.replies n self.old.lengths)) }
+            × ((self.new.replies, bytes) ≡ whole_and_part self.old.replies n self.old.lengths)) }
     {
         match write_whole(sink, self.text.as_slice()) {
             Ok(()) => {
@@ -162,36 +160,36 @@ impl Session {
         }
     }
 
-    // Counts the texts that went out whole, where the sink took the first `taken` bytes of those that wait, and returns how
-    // many bytes of the next one went out.
+    // Where the sink took the first `taken` bytes of the texts that wait: counts the texts that it took whole, and returns
+    // how many bytes of the next text it took.
     #[inline(never)]
     fn count_part(&mut self, taken: usize) -> usize
         requires { self.old.replies + length self.old.lengths < 2 ^ 64 }
         ensures bound { self.new.replies ≤ self.old.replies + length self.old.lengths }
         ensures same { (self.new.assembler ≡ self.old.assembler) × (self.new.gathers ≡ self.old.gathers) }
-        ensures parts { (self.new.replies, result) ≡ parted self.old.replies taken self.old.lengths }
+        ensures parts { (self.new.replies, result) ≡ whole_and_part self.old.replies taken self.old.lengths }
     {
-        let (replies, bytes) = parted(self.replies, taken, self.lengths.as_slice());
+        let (replies, bytes) = whole_and_part(self.replies, taken, self.lengths.as_slice());
         self.replies = replies;
         bytes
     }
 }
 
-// Returns how many of the texts with these lengths went out whole, `whole` earlier ones included, where the sink took the
-// first `taken` bytes, and how many bytes of the next one went out.
-fn parted(whole: u64, taken: usize, lengths: &[usize]) -> (u64, usize)
+// Where a sink took the first `taken` bytes of texts with these lengths: returns how many texts it took whole, `whole`
+// earlier ones included, and how many bytes of the next text it took.
+fn whole_and_part(whole: u64, taken: usize, lengths: &[usize]) -> (u64, usize)
     requires { whole + length lengths.now < 2 ^ 64 }
-    ensures parts { result ≡ parted whole taken lengths.now }
+    ensures parts { result ≡ whole_and_part whole taken lengths.now }
     ensures bound { result.0 ≤ whole + length lengths.now }
 {
     let mut count = whole;
-    let mut left = taken;
+    let mut bytes = taken;
     for length in lengths {
-        if left < *length {
-            return (count, left);
+        if bytes < *length {
+            return (count, bytes);
         }
-        left -= *length;
+        bytes -= *length;
         count += 1;
     }
-    (count, left)
+    (count, bytes)
 }

@@ -11,6 +11,7 @@ use std::io::Write;
 #[derive(Drop)]
 pub struct ToWriter<W> {
     writer: W,
+    // Whether a write has failed.
     broken: bool,
 }
 

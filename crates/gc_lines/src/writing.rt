@@ -25,8 +25,8 @@ pub fn write_whole<K: Sink>(sink: &mut K, bytes: &[u8]) -> Result<(), usize>
     Ok(())
 }
 
-/// Writes a line with its CR LF, in one write where the sink takes all of it. `Err(n)`: the sink took only the first n bytes of
-/// the line and its CR LF, and failed.
+/// Writes a line and then CR LF, in a single write where the sink takes all of it at once. `Err(n)`: the sink took only the first n
+/// bytes of the line and its CR LF, and failed.
 pub fn write_line<K: Sink>(sink: &mut K, line: &Line) -> Result<(), usize>
     ensures failed { FailsWith result (K.failed sink.old) (K.failed sink.new) }
     ensures ok { OnOk result (Appends (K.taken sink.old) (K.taken sink.new) (with_end line.now.items)) }

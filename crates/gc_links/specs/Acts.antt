@@ -14,9 +14,9 @@ pub data Act : Type 0 where
   Put : (bytes : List ℕ) → Act
   -- of these bytes the first `count` went out, and the connection failed
   Cut : (bytes : List ℕ) (count : ℕ) → Act
-  -- a read gave these, and then it was this moment
+  -- a read gave these bytes, and then it was this moment
   Gave : (bytes : List ℕ) (moment : Moment) → Act
-  -- a read gave nothing in its time, and then it was this moment
+  -- a read gave no byte in the time that it was allowed; none had come by this moment
   Silent : (moment : Moment) → Act
   -- the other end closed the connection, as a read said
   Ended : Act
@@ -29,42 +29,42 @@ pub data Act : Type 0 where
   -- no new connection could be made
   Unopened : Act
 
--- where the acts of a link were known before a call, they are known after it, and are those before and then `acts`; of a link
--- whose acts aren't known (`None`) nothing is said
-abbrev pub Tells : Option (List Act) → Option (List Act) → List Act → Type 0
+-- where the acts of a link were known before a call (`old`), they are known after it (`new`), and are those before and then `acts`. Of a
+-- link whose acts aren't known (`None`) nothing is claimed
+abbrev pub Tells : (old new : Option (List Act)) (acts : List Act) → Type 0
 Tells None new acts = Unit {0}
 Tells (Some xs) None acts = ⊥
 Tells (Some xs) (Some ys) acts = ys ≡ xs ++ acts
 
 -- the act of a reading of the clock, by its result
-abbrev pub told_as : {E : Type 0} → Result Moment E → Act
-told_as (Ok moment) = Told moment
-told_as (Err _) = Untold
+abbrev pub clock_act : {E : Type 0} → Result Moment E → Act
+clock_act (Ok moment) = Told moment
+clock_act (Err _) = Untold
 
 -- the act of a write of these bytes, by its result
-abbrev pub put_as : Result (Unit {0}) ℕ → List ℕ → Act
-put_as (Ok _) bytes = Put bytes
-put_as (Err n) bytes = Cut bytes n
+abbrev pub put_act : Result (Unit {0}) ℕ → (bytes : List ℕ) → Act
+put_act (Ok _) bytes = Put bytes
+put_act (Err n) bytes = Cut bytes n
 
 -- the act of a read, by its outcome and the buffer after it
-abbrev pub came_as : Came → List ℕ → Act
-came_as (Bytes n moment) buf = Gave (take n buf) moment
-came_as (Silence moment) buf = Silent moment
-came_as End buf = Ended
-came_as Failure buf = Broke
-came_as NoMoment buf = Untold
+abbrev pub read_act : Came → (buf : List ℕ) → Act
+read_act (Bytes n moment) buf = Gave (take n buf) moment
+read_act (Silence moment) buf = Silent moment
+read_act End buf = Ended
+read_act Failure buf = Broke
+read_act NoMoment buf = Untold
 
 -- the act of an opening, by its result
-abbrev pub opened_as : {X E : Type 0} → Result X E → Act
-opened_as (Ok _) = Opened
-opened_as (Err _) = Unopened
+abbrev pub open_act : {X E : Type 0} → Result X E → Act
+open_act (Ok _) = Opened
+open_act (Err _) = Unopened
 
--- where a read gave bytes, they are at least one, and no more than the buffer has room for
-abbrev pub IsWithin : Came → List ℕ → Type 0
+-- where a read gave bytes, there is at least one, and no more than the buffer has room for
+abbrev pub IsWithin : Came → (buf : List ℕ) → Type 0
 IsWithin (Bytes n moment) buf = (0 < n) × (n ≤ length buf)
 IsWithin _ buf = Unit {0}
 
 -- where a write of these bytes failed, fewer than all of them went out
-abbrev pub IsPart : Result (Unit {0}) ℕ → List ℕ → Type 0
+abbrev pub IsPart : Result (Unit {0}) ℕ → (bytes : List ℕ) → Type 0
 IsPart (Ok _) bytes = Unit {0}
 IsPart (Err n) bytes = n < length bytes

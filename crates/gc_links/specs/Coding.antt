@@ -9,12 +9,12 @@ use Rattle.gc_links.specs.Acts.{Act, Told, Untold, Put, Cut, Gave, Silent, Ended
 abbrev Parts : Type 0
 Parts = ℕ × (List ℕ × (ℕ × (ℕ × (ℕ × Bool))))
 
--- what stands for the moment of an act that has none
+-- the moment that is stored with an act that has none
 abbrev no_moment : Moment
 no_moment = record { elapsed = 0; utc = 0; stops = false }
 
 -- the parts of an act of this kind, with these bytes, this count and this moment
-abbrev parts : ℕ → List ℕ → ℕ → Moment → Parts
+abbrev parts : (kind : ℕ) (bytes : List ℕ) (count : ℕ) → Moment → Parts
 parts kind bytes count m = (kind, (bytes, (count, (m.elapsed, (m.utc, m.stops)))))
 
 -- an act as its parts
@@ -55,6 +55,6 @@ from_parts-to_parts Closed = refl
 from_parts-to_parts Opened = refl
 from_parts-to_parts Unopened = refl
 
--- how a list of acts is stored
+-- the coding of a list of acts, for the field `acts` of `history.rt`
 abbrev pub acts_code : Coded (List Act)
 acts_code = coded_list (code_by Parts (coded× coded_ℕ (coded× (coded_list coded_ℕ) (coded× coded_ℕ (coded× coded_ℕ (coded× coded_ℕ coded_bool))))) to_parts from_parts from_parts-to_parts)

@@ -4,15 +4,15 @@ use Rattle.gc_values.specs.Whole.{NamesNumber}
 use Rattle.gc_links.specs.declared.place.Place.{Place}
 use Rattle.gc_links.specs.declared.place.Place.TheVariants.{Port, Host, Device}
 
--- digits write a port, from 1 to 65535
-abbrev pub IsPort : List ℕ → ℕ → Type 0
+-- these bytes are digits that write this port, which is from 1 to 65535
+abbrev pub IsPort : (digits : List ℕ) (port : ℕ) → Type 0
 IsPort digits port = NamesNumber digits port × (1 ≤ port) × (port ≤ 65535)
 
 -- a slash is in a word
 abbrev pub HasSlash : List ℕ → Type 0
 HasSlash word = (at : ℕ) × (at < length word) × (get_or word at 0 ≡ 47)
 
--- the word says this place: digits alone are a port; something, a colon and a port, without a slash, are a host; a word with a slash is the
+-- the word names this place: digits alone are a port; something, a colon and a port, without a slash, are a host; a word with a slash is the
 -- path of a device
 abbrev pub IsPlace : List ℕ → Place → Type 0
 IsPlace word (Port port) = IsPort word port

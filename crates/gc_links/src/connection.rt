@@ -5,7 +5,7 @@ use std::net::{Net, SocketAddr, TcpListener, TcpStream, ToSocketAddrs};
 use std::time::Duration;
 
 /// How long the making of a connection, or one write, may wait for the other end, in milliseconds. A radio modem takes a
-/// request line in less than a second. A put whose line is sent in parts may wait so long for each of them over TCP.
+/// request line in less than a second. Over TCP a put that needs more than one write may wait this long for each.
 pub(crate) const PATIENCE: u64 = 10_000;
 
 /// The other end of a connection over TCP.
@@ -68,7 +68,8 @@ pub(crate) fn here(port: u16) -> SocketAddr {
     SocketAddr::from(([127, 0, 0, 1], port))
 }
 
-/// Makes a connection send each line as it is written. Where the system can't do that, lines only come later, so there is no error.
+/// Makes a connection send each line as soon as it is written (no delay by Nagle's algorithm). Where the system can't do that,
+/// lines only arrive later, so there is no error.
 pub(crate) fn send_at_once(stream: &TcpStream) {
     let _ = stream.set_nodelay(true);
 }

@@ -15,10 +15,10 @@ use std::rt::Files;
 use std::thread;
 use std::time::{Clock, Duration};
 
-/// How long to rest where nothing has come, or nothing can go, in milliseconds. At 19,200 baud a byte takes half a millisecond.
+/// How long to rest where nothing has come, or nothing can go, yet, in milliseconds. At 19,200 baud a byte takes half a millisecond.
 pub(crate) const REST: u64 = 2;
 
-/// Why a path is no device that a link can be had over.
+/// Why a path can't be used as the device of a link.
 #[derive(Clone, Copy, Debug, PartialEq, Eq)]
 pub enum Unusable {
     /// The path leads to something that is no terminal.
@@ -50,13 +50,14 @@ pub(crate) fn open_device<R: Files<File = File>>(
         Err(TryLockError::WouldBlock) => return Err(Some(Unusable::Held)),
         Err(TryLockError::Error(_)) => return Err(None),
     }
-    match set_free(&file) {
+    match set_nonblocking(&file) {
         Ok(()) => Ok(file),
         Err(_) => Err(None),
     }
 }
 
-// Why a device can't be opened, where that has a name.
+// Why a device can't be opened, by the error of the opening. `None`: the error has no name in [`Unusable`], or the device isn't
+// there now.
 fn reason_of(kind: ErrorKind) -> Option<Unusable> {
     match kind {
         ErrorKind::PermissionDenied => Some(Unusable::Forbidden),
@@ -68,17 +69,18 @@ fn reason_of(kind: ErrorKind) -> Option<Unusable> {
 
 // Sets a device so that no read or write of it waits. `File` has no call for that. So the call is made on a second descriptor of
 // the same open file, which is taken for a socket: the system keeps the setting with the open file, for both descriptors.
-fn set_free(file: &File) -> io::Result<()> {
+fn set_nonblocking(file: &File) -> io::Result<()> {
     let other = TcpStream::from(file.as_fd().try_clone_to_owned()?);
     other.set_nonblocking(true)
 }
 
-/// Whether an error says only that nothing came or went until now, so that the call is to be made again after a rest.
-pub(crate) fn is_rest(kind: ErrorKind) -> bool {
+/// Whether an error of a read or a write says only that nothing has come, or nothing can go, yet: the call is to be made again
+/// after a rest.
+pub(crate) fn is_not_ready(kind: ErrorKind) -> bool {
     matches!(kind, ErrorKind::WouldBlock | ErrorKind::Interrupted)
 }
 
-/// Rests before the next look at a device.
+/// Sleeps for [`REST`] milliseconds, before the next read or write of a device.
 pub(crate) fn rest<R: Clock>(rt: &R) {
     thread::sleep(rt, Duration::from_millis(REST));
 }
@@ -97,7 +99,7 @@ pub(crate) fn write_some<R: Clock>(
     let mut file = file;
     while *rests < PATIENCE / REST {
         match file.write(bytes) {
-            Err(error) if is_rest(error.kind()) => {
+            Err(error) if is_not_ready(error.kind()) => {
                 *rests += 1;
                 rest(rt);
             }
@@ -115,10 +117,11 @@ pub struct DeviceLink<'a, R> {
     rt: &'a R,
     timer: Timer<'a, R>,
     path: &'a str,
+    // The device, while a connection is open.
     file: Option<File>,
     // Whether the device ended or failed in this connection: it may come back under another name.
     gone: bool,
-    // The device where no connection is open, so that its lock stays: as `look` opened it, or as the last connection left it.
+    // The device where no connection is open, so that its lock stays: as `hold` opened it, or as the last connection left it.
     held: Option<File>,
 }
 
@@ -137,18 +140,18 @@ impl<'a, R: Files<File = File> + Clock> DeviceLink<'a, R> {
 
     /// Opens the device, and holds it for the link's first opening. `None` as the reason: it isn't there now, or it can't be
     /// opened for a reason without a name.
-    pub fn look(&mut self) -> Result<(), Option<Unusable>> {
+    pub fn hold(&mut self) -> Result<(), Option<Unusable>> {
         self.held = Some(open_device(self.rt, self.path)?);
         Ok(())
     }
 
     // Takes the device that is held. `None`: none is held, or the held one is no terminal any more; it is then closed.
-    fn still_held(&mut self) -> Option<File> {
+    fn take_held(&mut self) -> Option<File> {
         let held = self.held.take()?;
         if held.is_terminal() { Some(held) } else { None }
     }
 
-    // One read: how many bytes came, 0 where the device is gone or not open, or `None` where nothing has come.
+    // Reads once, and returns how many bytes came: 0 where the device has ended or isn't open. `None`: nothing has come yet.
     fn read_once(&mut self, buf: &mut [u8]) -> io::Result<Option<usize>>
         ensures { IfOk result (λ read. IfSome read (λ n. n ≤ length buf.new)) }
     {
@@ -157,7 +160,7 @@ impl<'a, R: Files<File = File> + Clock> DeviceLink<'a, R> {
         };
         match file.read(buf) {
             Ok(n) => Ok(Some(n)),
-            Err(error) if is_rest(error.kind()) => Ok(None),
+            Err(error) if is_not_ready(error.kind()) => Ok(None),
             Err(error) => Err(error),
         }
     }
@@ -182,11 +185,11 @@ impl<'a, R: Files<File = File> + Clock> DeviceLink<'a, R> {
                     return Came::Failure;
                 }
             }
-            let gone = moment.elapsed.saturating_sub(began);
-            if gone >= millis {
+            let waited = moment.elapsed.saturating_sub(began);
+            if waited >= millis {
                 return Came::Silence(moment);
             }
-            self.timer.rest(REST.min(millis - gone));
+            self.timer.rest(REST.min(millis - waited));
         }
         // Never in practice: 2^64 reads that gave nothing.
         Came::End
@@ -243,7 +246,7 @@ impl<'a, R: Files<File = File> + Clock> Link for DeviceLink<'a, R> {
     // Takes the device that is held, if one is held and still there, and else reopens the path.
     fn open(&mut self) -> Result<(), PortFailed> {
         self.close();
-        self.file = match self.still_held() {
+        self.file = match self.take_held() {
             Some(held) => Some(held),
             None => Some(open_device(self.rt, self.path).map_err(|_| PortFailed)?),
         };

@@ -1,5 +1,4 @@
-//! The history of a link: the results of its calls, in order. It exists for proofs alone: no code reads it, and it takes no
-//! memory.
+//! The history of a link: the results of its calls, in order. It exists for proofs alone: no code reads it, and it has no bytes.
 
 ghost use Rattle.std.specs.Prelude.{◌≡◌, [], ◌∷◌, ◌++◌, List};
 ghost use base.Fml.{ftrue};
@@ -9,7 +8,7 @@ ghost use Rattle.gc_links.specs.Coding.{acts_code};
 use crate::link::Moment;
 use std::marker::Model;
 
-/// The acts so far.
+/// The acts of a link so far, in order.
 #[derive(Drop)]
 pub struct History {
     pub ghost acts: { List Act } by { acts_code },
@@ -19,20 +18,20 @@ impl Model for History {
     ghost also_owns = { λ _. ftrue };
 }
 
-/// One act, with the bytes that it speaks of.
+/// A note of one act of a link, with the bytes that were written or read in it, and the moment that it reported.
 #[derive(Clone, Copy, Drop)]
 pub enum Note<'a> {
-    /// The clock was read.
+    /// The clock was read, and it was this moment.
     Told(Moment),
-    /// The clock couldn't be read.
+    /// The clock couldn't be read, alone or after a read.
     Untold,
     /// All of these bytes went out.
     Put(&'a [u8]),
     /// `Cut(bytes, n)`: only the first n of these bytes went out.
     Cut(&'a [u8], usize),
-    /// A read gave these bytes.
+    /// A read gave these bytes, and then it was this moment.
     Gave(&'a [u8], Moment),
-    /// A read gave no byte in its time.
+    /// A read gave no byte in the time that it was allowed; none had come by this moment.
     Silent(Moment),
     /// The other end closed the connection.
     Ended,

@@ -1,7 +1,7 @@
 //! A link: a connection that can be made again, and a clock, as one port, so that the order of all its calls is known.
 
 ghost use Rattle.std.specs.Prelude.{[], ◌∷◌, ◌<◌, length};
-ghost use Rattle.gc_links.specs.Acts.{Closed, Tells, told_as, put_as, came_as, opened_as, IsWithin, IsPart};
+ghost use Rattle.gc_links.specs.Acts.{Closed, Tells, clock_act, put_act, read_act, open_act, IsWithin, IsPart};
 
 use gc_lines::PortFailed;
 
@@ -43,21 +43,21 @@ pub trait Link {
 
     /// Reads the clock.
     fn now(&mut self) -> Result<Moment, PortFailed>
-        ensures { Tells (acts self.old) (acts self.new) (told_as result ∷ []) };
+        ensures { Tells (acts self.old) (acts self.new) (clock_act result ∷ []) };
 
     /// Reads some bytes into the front of `buf`, and waits for them no longer than `millis` milliseconds.
     ///
     /// Without a connection it waits that long, and returns `Silence`.
     fn read(&mut self, buf: &mut [u8], millis: u64) -> Came
         requires { 0 < length buf.old }
-        ensures tells { Tells (acts self.old) (acts self.new) (came_as result buf.new ∷ []) }
+        ensures tells { Tells (acts self.old) (acts self.new) (read_act result buf.new ∷ []) }
         ensures within { IsWithin result buf.new };
 
     /// Writes all of these bytes. `Err(n)`: only the first n of them went out, and the connection failed. A write that stalls
     /// is cut off.
     fn put(&mut self, bytes: &[u8]) -> Result<(), usize>
         requires { 0 < length bytes.now }
-        ensures tells { Tells (acts self.old) (acts self.new) (put_as result bytes.now ∷ []) }
+        ensures tells { Tells (acts self.old) (acts self.new) (put_act result bytes.now ∷ []) }
         ensures part { IsPart result bytes.now };
 
     /// Closes the connection.
@@ -66,5 +66,5 @@ pub trait Link {
 
     /// Makes a new connection. `Err`: none could be made.
     fn open(&mut self) -> Result<(), PortFailed>
-        ensures { Tells (acts self.old) (acts self.new) (opened_as result ∷ []) };
+        ensures { Tells (acts self.old) (acts self.new) (open_act result ∷ []) };
 }

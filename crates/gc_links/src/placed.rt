@@ -25,8 +25,8 @@ impl<
     'a,
     R: Net<Listener = TcpListener, Stream = TcpStream> + Files<File = File> + Clock,
 > PlacedLink<'a, R> {
-    /// A link to a place. A device is looked at first. One that can't be used is refused. One that can be used is held for the
-    /// link's first opening. One that isn't there may still come. `None` as the reason: the clock can't be read.
+    /// A link to a place. A device is opened at once: one that can't be used is refused, and one that can be is held for the link's
+    /// first opening. One that isn't there yet is not refused. `None` as the reason: the clock can't be read.
     pub fn new(rt: &'a R, place: Place<'a>) -> Result<PlacedLink<'a, R>, Option<Unusable>> {
         match place {
             Place::Port(port) => TcpLink::new(rt, port)
@@ -39,12 +39,12 @@ impl<
         }
     }
 
-    // A link to a device, which is looked at first, as `new` says.
+    // A link to a device, which is opened at once, as `new` says.
     fn to_device(rt: &'a R, path: &'a str) -> Result<PlacedLink<'a, R>, Option<Unusable>> {
         let Ok(mut link) = DeviceLink::new(rt, path) else {
             return Err(None);
         };
-        match link.look() {
+        match link.hold() {
             Err(Some(unusable)) => Err(Some(unusable)),
             Ok(()) | Err(None) => Ok(PlacedLink::Device(link)),
         }

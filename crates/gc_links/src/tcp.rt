@@ -11,12 +11,11 @@ use std::io::{self, ErrorKind, Read, Write};
 use std::net::{Net, TcpListener, TcpStream};
 use std::time::{Clock, Duration};
 
-// The system may end a wait this many milliseconds too late. So a read that may wait no longer than this rests for a
-// millisecond, reads once with the shortest timeout, and leaves it to the caller to read again. So the caller isn't late for
-// what it waits for.
+// The system may end a wait this many milliseconds too late. A read that may wait no longer than this therefore only rests for a
+// millisecond and reads briefly. The caller then reads again, and isn't late for what it waits for.
 const SHORT: u64 = 40;
 
-// How often one put is tried again where it was interrupted.
+// How many interrupted writes of one put are made again at most.
 const MOST_INTERRUPTIONS: u32 = 1000;
 
 /// A connection to a port of this machine or to a host, and the time since the link was made. No clause says what a socket
@@ -60,8 +59,8 @@ impl<'a, R: Net<Listener = TcpListener, Stream = TcpStream> + Clock> TcpLink<'a,
         })
     }
 
-    // Reads, and returns how many bytes came, 0 at the end of the stream. It waits `millis` milliseconds, where 0 counts as 1,
-    // but the system may end the wait too late. `None`: nothing came, the read was interrupted, or there is no connection.
+    // Reads, and returns how many bytes came, 0 at the end of the stream. It waits for them `millis` milliseconds at most, where 0
+    // counts as 1, but the system may end the wait too late. `None`: nothing came, the read was interrupted, or there is no connection.
     fn read_for(&mut self, buf: &mut [u8], millis: u64) -> io::Result<Option<usize>>
         ensures { IfOk result (λ read. IfSome read (λ n. n ≤ length buf.new)) }
     {
@@ -77,9 +76,9 @@ impl<'a, R: Net<Listener = TcpListener, Stream = TcpStream> + Clock> TcpLink<'a,
         }
     }
 
-    // Reads once more after a read that gave nothing: bytes may have come while this program was stopped. The moment is taken
-    // first. Where this read gives nothing either, nothing had come by that moment.
-    fn read_again(&mut self, buf: &mut [u8]) -> Came
+    // Reads with the shortest timeout, a millisecond. The moment of a silence is taken before the read: since the read gave nothing,
+    // nothing had come by that moment, even if this program was stopped for a while before it.
+    fn read_briefly(&mut self, buf: &mut [u8]) -> Came
         ensures { IsWithin result buf.new }
     {
         let Ok(moment) = self.timer.moment() else {
@@ -130,11 +129,11 @@ impl<'a, R: Net<Listener = TcpListener, Stream = TcpStream> + Clock> Link for Tc
         }
         if millis <= SHORT {
             self.timer.rest(1);
-            return self.read_again(buf);
+            return self.read_briefly(buf);
         }
         match self.read_for(buf, in_time(millis)) {
             Ok(Some(n)) => self.timer.came(n),
-            Ok(None) => self.read_again(buf),
+            Ok(None) => self.read_briefly(buf),
             Err(_) => Came::Failure,
         }
     }

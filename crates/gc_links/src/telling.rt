@@ -2,7 +2,7 @@
 //! noted in a history that exists in proofs alone.
 
 ghost use Rattle.std.specs.Prelude.{◌≡◌, []};
-ghost use Rattle.gc_links.specs.Acts.{IsWithin, came_as};
+ghost use Rattle.gc_links.specs.Acts.{IsWithin, read_act};
 ghost use Rattle.gc_links.specs.Noted.{act_of};
 
 use crate::history::{History, Note};
@@ -14,7 +14,7 @@ use gc_lines::PortFailed;
 pub struct Telling<L> {
     /// The link inside.
     pub link: L,
-    /// What its calls came to: in proofs alone.
+    /// The results of its calls so far, which proofs alone can read.
     pub history: History,
 }
 
@@ -30,10 +30,10 @@ impl<L: Link> Telling<L> {
     }
 }
 
-// What a read came to, with the bytes that it gave.
-fn noted<'a>(came: Came, buf: &'a [u8]) -> Note<'a>
+// The note of a read, by its outcome and the buffer after it.
+fn note_of_read<'a>(came: Came, buf: &'a [u8]) -> Note<'a>
     requires { IsWithin came buf.now }
-    ensures { act_of result ≡ came_as came buf.now }
+    ensures { act_of result ≡ read_act came buf.now }
 {
     match came {
         Came::Bytes(n, moment) => Note::Gave(&buf[..n], moment),
@@ -44,7 +44,7 @@ fn noted<'a>(came: Came, buf: &'a [u8]) -> Note<'a>
     }
 }
 
-// Each call is that of the link inside, and what it came to is noted in the history.
+// Each call is that of the link inside, and its result is added to the history.
 impl<L: Link> Link for Telling<L> {
     ghost use Rattle.std.specs.Prelude.{Some};
 
@@ -62,7 +62,7 @@ impl<L: Link> Link for Telling<L> {
 
     fn read(&mut self, buf: &mut [u8], millis: u64) -> Came {
         let came = self.link.read(buf, millis);
-        self.history = self.history.then(&noted(came, buf));
+        self.history = self.history.then(&note_of_read(came, buf));
         came
     }
 

@@ -7,7 +7,7 @@ use crate::link::{Came, Moment};
 use std::time::{Clock, Duration, Instant, SystemTime, UNIX_EPOCH};
 use std::{io, thread};
 
-/// A clock that was started.
+/// The clock of a link: the time since the clock was made, and the time of day.
 #[derive(Drop)]
 pub(crate) struct Timer<'a, R> {
     rt: &'a R,

@@ -34,7 +34,7 @@ impl<'a, R: Files, L> Watched<'a, R, L> {
         }
     }
 
-    // A moment that the link inside reported, with whether the file is there.
+    // A moment that the link inside reported, which also says whether the file is there.
     fn seen(&self, moment: Moment) -> Moment {
         Moment {
             elapsed: moment.elapsed,

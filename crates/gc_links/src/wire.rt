@@ -1,9 +1,9 @@
-//! A connection whose reads have no deadline, as `ask` and `serve` use it.
+//! Connections whose reads may wait without a deadline, for `ask` and `serve`.
 
 ghost use Rattle.std.specs.Prelude.{◌≤◌, length, IfOk, IfSome};
 
 use crate::connection::{PATIENCE, Peer, connect};
-use crate::device::{REST, Unusable, is_rest, open_device, rest, write_some};
+use crate::device::{REST, Unusable, is_not_ready, open_device, rest, write_some};
 use crate::place::Place;
 use crate::tcp::is_silence;
 use std::fs::File;
@@ -51,7 +51,8 @@ pub fn wire_on<'a, R: Files<File = File>>(
 }
 
 impl<'a, R: Clock> Wire<'a, R> {
-    /// Reads as `read` does, but waits no longer than about so many milliseconds, and at least one. `None`: nothing came in that time.
+    /// Reads as `read` does, but waits no longer than about `millis` milliseconds, where 0 counts as 1. `None`: nothing came in that
+    /// time.
     pub fn read_within(&self, buf: &mut [u8], millis: u64) -> io::Result<Option<usize>>
         ensures { IfOk result (λ read. IfSome read (λ n. n ≤ length buf.new)) }
     {
@@ -102,8 +103,8 @@ fn write_to(stream: &TcpStream, buf: &[u8]) -> io::Result<usize>
     stream.write(buf)
 }
 
-/// Reads what comes over a connection within so many milliseconds, at least one. `None`: nothing came in that time. After it
-/// each read may wait as long as `longest` says, without end where that is `None`.
+/// Reads what comes over a connection within `millis` milliseconds, where 0 counts as 1. `None`: nothing came in that time. The
+/// reads after this one may each wait as long as `longest` says, and for ever where that is `None`.
 pub fn read_stream_within(
     stream: &TcpStream,
     buf: &mut [u8],
@@ -123,8 +124,8 @@ pub fn read_stream_within(
     }
 }
 
-// Reads what has come over a device, and rests for about so many milliseconds at most until something has. A device that was pulled
-// out is at its end.
+// Reads what has come over a device, and rests for about `millis` milliseconds at most until something has. `None`: nothing came in
+// that time. A device that was pulled out is at its end.
 fn read_device_within<R: Clock>(
     rt: &R,
     file: &File,
@@ -137,7 +138,7 @@ fn read_device_within<R: Clock>(
     for _ in 0..millis / REST + 1 {
         match file.read(buf) {
             Ok(n) => return Ok(Some(n)),
-            Err(error) if is_rest(error.kind()) => rest(rt),
+            Err(error) if is_not_ready(error.kind()) => rest(rt),
             Err(error) if error.raw_os_error() == Some(PULLED_OUT) => return Ok(Some(0)),
             Err(error) => return Err(error),
         }
@@ -152,10 +153,11 @@ fn read_device<R: Clock>(rt: &R, file: &File, buf: &mut [u8]) -> io::Result<usiz
     let mut file = file;
     for _ in 0..u64::MAX {
         match file.read(buf) {
-            Err(error) if is_rest(error.kind()) => rest(rt),
+            Err(error) if is_not_ready(error.kind()) => rest(rt),
             Err(error) if error.raw_os_error() == Some(PULLED_OUT) => return Ok(0),
             ended => return ended,
         }
     }
+    // Never in practice: 2^64 reads that gave nothing.
     Err(io::Error::from(ErrorKind::TimedOut))
 }

@@ -48,11 +48,12 @@ impl Pipe {
         }
     }
 
-    // Takes bytes out of the pipe into the front of `buf`, and returns how many.
+    // Takes bytes out of the pipe into the front of `buf`, as many as the pipe has and `buf` has room for, and returns how many.
     fn give(&self, buf: &mut [u8]) -> usize
         ensures within { result ≤ length buf.old }
         ensures same { length buf.new ≡ length buf.old }
     {
+        // Never in practice: no call leaves the bytes borrowed.
         let Ok(mut held) = self.bytes.try_borrow_mut() else {
             return 0;
         };
@@ -72,6 +73,7 @@ impl Pipe {
     fn store(&self, bytes: &[u8]) -> usize
         ensures { result ≤ length bytes.now }
     {
+        // Never in practice: no call leaves the bytes borrowed.
         let Ok(mut held) = self.bytes.try_borrow_mut() else {
             return 0;
         };
@@ -89,9 +91,13 @@ impl Pipe {
 #[derive(Drop)]
 pub struct PipeSource<'a> {
     pipe: &'a Pipe,
+    // How many reads are answered in all.
     answers: u64,
+    // How many reads were answered.
     reads: u64,
+    // Whether the last answered read was the end.
     ended: bool,
+    // Whether a read has failed.
     failed: bool,
 }
 
@@ -124,8 +130,11 @@ impl<'a> Source for PipeSource<'a> {
 #[derive(Drop)]
 pub struct PipeSink<'a> {
     pipe: &'a Pipe,
+    // How many bytes are taken for each call at most.
     most: usize,
+    // How many more writes are answered.
     answers: u64,
+    // Whether a write has failed.
     failed: bool,
 }
 

@@ -2,7 +2,7 @@
 
 ghost use Rattle.std.specs.Prelude.{◌≡◌, ◌<◌, [], Some, true, false, length};
 ghost use Rattle.gc_lines.specs.Ports.{TakesBytes, Fails};
-ghost use Rattle.gc_probes.specs.Seen.{SinkSeen, WritesAsTold};
+ghost use Rattle.gc_probes.specs.Seen.{SinkSeen, WritesAsAsked};
 
 use gc_lines::{Durable, PortFailed, Sink};
 use std::alloc::Global;
@@ -13,9 +13,13 @@ use std::marker::Model;
 #[derive(Drop)]
 pub struct PieceSink {
     taken: Vec<u8>,
+    // How many bytes are taken for each call at most.
     most: usize,
+    // How many more writes are answered.
     answers: u64,
+    // Whether a write has failed.
     failed: bool,
+    // Whether a write failed because memory ran out.
     lacks_memory: bool,
 }
 
@@ -78,7 +82,7 @@ impl Sink for PieceSink {
         ensures fails { Fails self.old.failed self.new.failed result }
 
         // The sink takes as many bytes as the test asked for, and fails exactly at the call that the test named, or where memory ran out.
-        ensures told { WritesAsTold self.old self.new bytes.now result }
+        ensures told { WritesAsAsked self.old self.new bytes.now result }
     {
         if self.failed || self.answers == 0 {
             self.failed = true;
@@ -102,7 +106,7 @@ impl Sink for PieceSink {
 impl Durable for PieceSink {
     ghost is_durable = { λ _. true };
 
-    // Fails where the sink has failed; else there is nothing to sync.
+    // Fails where a write has failed. Else there is nothing to sync.
     fn sync(&mut self) -> Result<(), PortFailed> {
         if self.failed {
             return Err(PortFailed);

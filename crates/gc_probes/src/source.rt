@@ -2,20 +2,26 @@
 
 ghost use Rattle.std.specs.Prelude.{◌≡◌, ◌<◌, ◌≤◌, Some, false, length, max, drop, min};
 ghost use Rattle.gc_lines.specs.Ports.{GivesBytes, CountsRead, Fails};
-ghost use Rattle.gc_probes.specs.Seen.{SourceSeen, ReadsAsTold, piece_size};
+ghost use Rattle.gc_probes.specs.Seen.{SourceSeen, ReadsAsAsked, piece_size};
 
 use gc_lines::{PortFailed, Source};
 use std::marker::Model;
 
-/// Gives bytes in pieces of the sizes that it was made with, one for each read. After the last piece each read gets what it
-/// has room for. A piece of size 0 gives one byte.
+/// Gives bytes in pieces of the sizes that it was made with, one for each read. After the last size each read gets as many bytes
+/// as it has room for. A size of 0 counts as 1.
 #[derive(Drop)]
 pub struct PieceSource<'a> {
+    // The bytes that no read has given yet.
     left: &'a [u8],
+    // The sizes of the next pieces.
     sizes: &'a [usize],
+    // How many reads are answered in all.
     answers: u64,
+    // How many reads were answered.
     reads: u64,
+    // Whether the last answered read was the end.
     ended: bool,
+    // Whether a read has failed.
     failed: bool,
 }
 
@@ -57,7 +63,8 @@ impl<'a> PieceSource<'a> {
         }
     }
 
-    // Takes the next size off the list, and returns how many bytes the next piece has: at most `room`, and at most what is left.
+    // Takes the next size off the list, and returns how many bytes the next piece has: as many as the size, at least one, but at
+    // most `room`, and no more than are left. Without a size: as many as are left and fit into `room`.
     fn next_size(&mut self, room: usize) -> usize
         ensures size { result ≡ piece_size self.old.sizes (length self.old.left) room }
         ensures within { (result ≤ length self.old.left) × (result ≤ room) }
@@ -91,7 +98,7 @@ impl<'a> Source for PieceSource<'a> {
         ensures fails { Fails self.old.failed self.new.failed result }
 
         // The source gives pieces of the sizes that the test named, and fails exactly at the call that the test named.
-        ensures told { ReadsAsTold self.old self.new (length buf.old) result }
+        ensures told { ReadsAsAsked self.old self.new (length buf.old) result }
     {
         if self.failed || self.reads >= self.answers {
             self.failed = true;

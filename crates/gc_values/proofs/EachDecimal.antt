@@ -2,13 +2,12 @@
 -- doesn't.
 use Rattle.std.proofs.Common.{◌≡◌, ℕ, ◌+◌, ◌*◌, ◌^◌, ◌<◌, ◌≤◌, Bool, true, false, List, [], ◌∷◌, ◌++◌, length, ℤ, unsigned_abs, Option, Some, None, refl, sym, ap, ◌∙◌, subst, ◌⊎◌, inl, inr, arith}
 use Rattle.std.proofs.lemmas.Bool.{cases_lt, cases_eq}
-use Rattle.std.proofs.lemmas.List.{append-nil}
 use Rattle.gc_values.specs.Cut.{StartsNoDigit, StartsNoSign, StartsNoPoint, CutsSign, CutsDigits, CutsFraction}
 use Rattle.gc_values.specs.Digits.{AreDigits, number}
 use Rattle.gc_values.specs.Fraction.{Fraction, signed, IsRounded}
 use Rattle.gc_values.specs.Nearest.{half_up}
 use Rattle.gc_values.specs.RoundedFacts.{half_up_rounds}
-use Rattle.gc_values.specs.Spelling.{Sign, is_minus, Exponent, IsShort, IsExponent, exponent_text, mark, ups, downs, fraction_digits, fraction_text, Parts, IsNumeral, spelling, value, Names, Spells, SpellsBeyond, SpellsNothing}
+use Rattle.gc_values.specs.Spelling.{Sign, is_minus, Exponent, IsExponentDigits, IsExponent, exponent_text, mark, ups, downs, fraction_digits, fraction_text, Parts, IsNumeral, spelling, value, Names, Spells, SpellsBeyond, SpellsNothing}
 use Rattle.gc_values.specs.declared.decimal.Decimal.{Decimal}
 use Rattle.gc_values.proofs.EachWhole.{IsDecided, digits_or_not, digits_cut, sign_cut}
 use Rattle.gc_values.proofs.Powers.{ten_pow_pos}
@@ -36,7 +35,7 @@ fraction_cut (b ∷ bs) none = elim (cases_eq b 46) [
 ]
 
 -- a text is one to three digits, or isn't
-short_or_not : (text : List ℕ) → IsDecided (IsShort text)
+short_or_not : (text : List ℕ) → IsDecided (IsExponentDigits text)
 short_or_not [] = inr (λ s. let some = s.some in omega (arith, some))
 short_or_not (b ∷ bs) = elim (cases_lt 3 (length (b ∷ bs))) [
   | inl long ↦ inr (λ s. let few = s.few in omega (arith, long, few))
@@ -52,11 +51,11 @@ ExponentOf text = (e : Option Exponent) × IsExponent e × (text ≡ exponent_te
 
 -- where a mark and the bytes bs are the text of an exponent, and bs is cut into a sign and a rest, the rest is the exponent's
 -- digits
-same_digits : (capital : Bool) (bs : List ℕ) (negative : Bool) (rest : List ℕ) → CutsSign bs negative rest → (e : Exponent) → IsShort e.digits
+same_digits : (capital : Bool) (bs : List ℕ) (negative : Bool) (rest : List ℕ) → CutsSign bs negative rest → (e : Exponent) → IsExponentDigits e.digits
     → mark capital ∷ bs ≡ exponent_text (Some e) → rest ≡ e.digits
 same_digits capital bs negative rest cut e short is =
     let behind : bs ≡ Rattle.gc_values.specs.Spelling.sign_text e.sign ++ e.digits = cc in
-    let bare : StartsNoSign e.digits = subst StartsNoSign (append-nil e.digits) (digits_no_sign e.digits [] short.digits_are short.some) in
+    let bare : StartsNoSign e.digits = digits_no_sign e.digits short.digits_are short.some in
     (sign_once cut.sign e.sign rest e.digits cut.first bare (sym cut.text_is ∙ behind)).1
 
 -- a text that begins with a mark is an exponent, or isn't
@@ -68,9 +67,9 @@ exponent_after_mark capital bs =
       | inr other ↦ inr (none other)
     ] where
       -- where the bytes after the mark and a sign aren't one to three digits, the text is no exponent
-      none : (IsShort (sign_cut bs).1 → ⊥) → ExponentOf (mark capital ∷ bs) → ⊥
+      none : (IsExponentDigits (sign_cut bs).1 → ⊥) → ExponentOf (mark capital ∷ bs) → ⊥
       none other (None, form, is) = absurd (cc)
-      none other (Some e, form, is) = let cut = sign_cut bs in other (subst IsShort (sym (same_digits capital bs cut.0 cut.1 cut.2 e form is)) form)
+      none other (Some e, form, is) = let cut = sign_cut bs in other (subst IsExponentDigits (sym (same_digits capital bs cut.0 cut.1 cut.2 e form is)) form)
 
 -- a text that begins with no mark is no exponent
 no_mark : (b : ℕ) (bs : List ℕ) → (b ≡ 101 → ⊥) → (b ≡ 69 → ⊥) → ExponentOf (b ∷ bs) → ⊥

@@ -7,7 +7,7 @@ use Rattle.hex.specs.Hex.{hex_digit_value}
 use Rattle.gc_values.specs.Boolean.{number_of, NamesBoolean}
 use Rattle.gc_values.specs.Byte.{IsByte, IsNoByte}
 use Rattle.gc_values.specs.Item.{kind_of, IsItem, IsItemFault}
-use Rattle.gc_values.specs.Lists.{kinds_of, AreItems, AreParams, FirstFault, IsListRead, too_many, wrong_count, faulty_item, open_quote, faulty_items}
+use Rattle.gc_values.specs.Lists.{kinds_of, AreItems, AreParams, FirstFault, IsListReadOrFaulty, too_many, wrong_count, faulty_item, open_quote, faulty_items}
 use Rattle.gc_values.specs.Params.{quotes, AreSpaces, IsParams}
 use Rattle.gc_values.specs.Text.{IsStringByte, AreStringBytes, quoted, IsString, IsTextItem, IsNoString, IsLongString}
 use Rattle.gc_values.specs.Whole.{NamesWhole, NamesNoWhole, NamesWholeBeyond, IsBetween}
@@ -67,10 +67,10 @@ abbrev EndsInQuote : List ℕ → Type 0
 EndsInQuote text = (bytes : List ℕ) × (text ≡ bytes ++ 34 ∷ [])
 
 -- a text of one byte, which is no double quote, doesn't end in a double quote
-no_end : (b : ℕ) → b ≢ 34 → EndsInQuote (b ∷ []) → ⊥
-no_end b other ([], is) = other (let same : b ≡ 34 = cc in same)
-no_end b other (x ∷ [], is) = absurd (cc)
-no_end b other (x ∷ y ∷ xs, is) = absurd (cc)
+one_byte_ends_in_no_quote : (b : ℕ) → b ≢ 34 → EndsInQuote (b ∷ []) → ⊥
+one_byte_ends_in_no_quote b other ([], is) = other (let same : b ≡ 34 = cc in same)
+one_byte_ends_in_no_quote b other (x ∷ [], is) = absurd (cc)
+one_byte_ends_in_no_quote b other (x ∷ y ∷ xs, is) = absurd (cc)
 
 -- a text of at least two bytes that ends in a double quote still does without its first byte
 end_behind : (b c : ℕ) (rest : List ℕ) → EndsInQuote (b ∷ c ∷ rest) → EndsInQuote (c ∷ rest)
@@ -86,7 +86,7 @@ end_or_not [] = inr none where
   none (x ∷ xs, is) = absurd (cc)
 end_or_not (b ∷ []) = elim (cases_eq b 34) [
   | inl quote ↦ inl ([], ap (λ x. x ∷ []) quote)
-  | inr other ↦ inr (no_end b other)
+  | inr other ↦ inr (one_byte_ends_in_no_quote b other)
 ]
 end_or_not (b ∷ c ∷ rest) = elim (end_or_not (c ∷ rest)) [
   | inl found ↦ inl (b ∷ found.0, ap (λ xs. b ∷ xs) found.1)
@@ -194,7 +194,7 @@ items_read (k ∷ ks) (item ∷ items) same = elim (each_item k item) [
 ]
 
 -- each split list is read as values of the kinds, or has a fault
-params_read : (ks : List Kind) (params : List ℕ) (items : List (List ℕ)) → IsParams params items → IsListRead ks params
+params_read : (ks : List Kind) (params : List ℕ) (items : List (List ℕ)) → IsParams params items → IsListReadOrFaulty ks params
 params_read ks params items split = elim (cases_lt 16 (length items)) [
   | inl many ↦ inr (fault.TooMany, faulty_items items split (too_many refl many))
   | inr few ↦ elim (cases_eq (length items) (length ks)) [
@@ -227,7 +227,7 @@ spaces_or_not (b ∷ bs) = elim (cases_eq b 32) [
   rest b bs none (suc n, is) = none (n, let same : bs ≡ replicate n 32 = cc in same)
 
 -- each list of parameters is read as values of the kinds, or has a fault
-pub each_list : (ks : List Kind) (params : List ℕ) → IsListRead ks params
+pub each_list : (ks : List Kind) (params : List ℕ) → IsListReadOrFaulty ks params
 each_list ks params = elim (cases_eq (quotes params % 2) 0) [
   | inr odd ↦ inr (fault.OpenQuote, open_quote refl (odd_or (quotes params) odd))
   | inl even ↦ elim (spaces_or_not params) [

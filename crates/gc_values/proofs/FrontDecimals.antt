@@ -115,7 +115,8 @@ front_range text behind at places whole value a b =
     omega (arith, b.value_is, small_b, ap (λ k. 10 ^ k) long_f, all)
 
 -- where digits were counted, and the end or a comma follows them, a whole number was cut off
-pub number_found : (text tail : List ℕ) (count n : ℕ) (rest : Option (List ℕ)) → CountsDigits 0 text 18 n count → 0 < count → tail ≡ drop count text → IsItemAndRest tail [] rest → CutsNumber text n rest
+pub number_found : (text tail : List ℕ) (count n : ℕ) (rest : Option (List ℕ)) → CountsDigits 0 text 18 n count → 0 < count → tail ≡ drop count text
+    → IsItemAndRest tail [] rest → CutsNumber text n rest
 number_found text tail count n rest c some tail_is stands =
     let ds : List ℕ = take count text in
     let size : length ds ≡ count = length-take-le count text c.within in

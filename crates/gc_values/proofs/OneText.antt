@@ -117,7 +117,7 @@ whole_part n =
 
 -- a whole part is the text of its number
 pub whole_text-number : (ds : List ℕ) → IsWholePart ds → whole_text (number ds) ≡ ds
-whole_text-number ds w = whole_once (whole_text (number ds)) ds (whole_part (number ds)) w (writes_whole (number ds)).number_is
+whole_text-number ds w = whole_once (whole_text (number ds)) ds (whole_part (number ds)) w (sym (writes_whole (number ds)).value)
 
 -- a whole number that is given as a sign and a magnitude is written as the minus, where there is one, and the magnitude
 pub signed_text-signed : (negative : Bool) (n : ℕ) → (negative ≡ true → 0 < n) → signed_text (signed negative n) ≡ minus_where negative ++ whole_text n
@@ -139,7 +139,7 @@ whole_form (negsuc n) = record {
   digits = whole_text (suc n);
   text_is = refl;
   digits_are = whole_part (suc n);
-  no_minus_on_zero = λ _. let e = (writes_whole (suc n)).number_is in omega (arith, e);
+  no_minus_on_zero = λ _. let e = (writes_whole (suc n)).value in omega (arith, e);
 }
 
 -- a whole number's text is the one text that has the form and names the number
@@ -162,10 +162,10 @@ record LastSplit (ds : List ℕ) : Type 0 where
   pub ds_are : ds ≡ front ++ last ∷ []
 
 -- digits, if there are any, have a last one
-ends : (ds : List ℕ) → 0 < length ds → LastSplit ds
-ends [] some = absurd (omega (arith, some))
-ends (d ∷ []) some = record { front = []; last = d; ds_are = refl }
-ends (d ∷ e ∷ ds) some = let r = ends (e ∷ ds) (omega arith) in record { front = d ∷ r.front; last = r.last; ds_are = ap (λ xs. d ∷ xs) r.ds_are }
+has_last_digit : (ds : List ℕ) → 0 < length ds → LastSplit ds
+has_last_digit [] some = absurd (omega (arith, some))
+has_last_digit (d ∷ []) some = record { front = []; last = d; ds_are = refl }
+has_last_digit (d ∷ e ∷ ds) some = let r = has_last_digit (e ∷ ds) (omega arith) in record { front = d ∷ r.front; last = r.last; ds_are = ap (λ xs. d ∷ xs) r.ds_are }
 
 -- the last digit is the number's remainder by ten
 last_digit : (front : List ℕ) (d : ℕ) → IsDigit d → number (front ++ d ∷ []) % 10 ≡ d - 48
@@ -238,7 +238,7 @@ is_text_of_fraction text f other =
 every_form : (text : List ℕ) → HasDecimalForm text → IsTextOf text
 every_form text f = elim (eqb_tells (number f.fraction % 10) 0) [
   | inl divides ↦
-      let r = ends f.fraction f.fraction_is.some in
+      let r = has_last_digit f.fraction f.fraction_is.some in
       let digit : IsDigit r.last = (AreDigits-back r.front (r.last ∷ []) (subst AreDigits r.ds_are f.fraction_is.are_digits)).0 in
       let zero : r.last ≡ 48 = omega (arith, ap (λ ds. number ds % 10) r.ds_are, divides.1, last_digit r.front r.last digit, digit) in
       let ends_so : f.fraction ≡ r.front ++ 48 ∷ [] = r.ds_are ∙ ap (λ d. r.front ++ d ∷ []) zero in
@@ -299,7 +299,7 @@ decimal_form_of negative a s few canonical some = record {
       let b = is_fraction_text a s in
       let ds : List ℕ = behind_text s (a % 10 ^ s) in
       let all : number (whole_text (a / 10 ^ s) ++ ds) ≡ a / 10 ^ s * 10 ^ length ds + number ds =
-      number-append (whole_text (a / 10 ^ s)) ds ∙ ap (λ n. n * 10 ^ length ds + number ds) (writes_whole (a / 10 ^ s)).number_is in
+      number-append (whole_text (a / 10 ^ s)) ds ∙ ap (λ n. n * 10 ^ length ds + number ds) (sym (writes_whole (a / 10 ^ s)).value) in
       subst (λ x. 0 < x) (sym all) (factor_positive a (10 ^ length ds) (a / 10 ^ s * 10 ^ length ds + number ds) (10 ^ s) h (ten_pow_pos (length ds)) b.same)
 
 -- a written decimal has a decimal's form

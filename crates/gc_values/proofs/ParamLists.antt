@@ -5,14 +5,14 @@ use Rattle.std.proofs.Common.{◌≡◌, ℕ, zero, suc, ◌+◌, ◌%◌, ◌<�
 use Rattle.std.proofs.lemmas.List.{append-nil}
 use Rattle.std.proofs.lemmas.Bool.{cases_eq}
 use Rattle.std.specs.List.{AllByRecursion}
-use Rattle.gc_values.specs.Params.{quotes, AreSpaces, IsParam, IsPadded, ArePieces, joined, AreJoined, IsParams}
-use Rattle.gc_values.specs.Pieces.{KeepsCommas, CutsPiece, IsTrimmed}
-use Rattle.gc_values.proofs.Quotes.{quotes-append, quotes_same, quotes-spaces, KeepsCommas-nil, KeepsCommas-push, not_inside, one_cut}
+use Rattle.gc_values.specs.Params.{quotes, AreSpaces, HasCommasInQuotes, IsParam, IsPadded, ArePieces, joined, AreJoined, IsParams}
+use Rattle.gc_values.specs.Pieces.{CutsPiece, IsTrimmed}
+use Rattle.gc_values.proofs.Quotes.{quotes-append, quotes_same, quotes-spaces, HasCommasInQuotes-nil, HasCommasInQuotes-push, not_inside, one_cut}
 use Rattle.gc_values.proofs.Trimming.{front_off, back_off, padded_keeps, quotes-padded, trimmed_is_param, param_is_trimmed, one_trimmed, trimmed_exists}
 
 -- a piece between commas: its quotes are in pairs, and each comma is inside a pair
 pub record IsPiece (piece : List ℕ) : Type 0 where
-  pub keeps : KeepsCommas piece
+  pub keeps : HasCommasInQuotes piece
   pub even : quotes piece % 2 ≡ 0
 
 -- a parameter with spaces round it is a piece, as `IsPiece` has it
@@ -116,13 +116,13 @@ pub record HasPieces (text : List ℕ) : Type 0 where
   pub are : ArePieces (first ∷ others) (item ∷ items)
 
 -- `HasPieces` is true of a piece alone
-one_piece : (piece : List ℕ) → KeepsCommas piece → quotes piece % 2 ≡ 0 → HasPieces piece
+one_piece : (piece : List ℕ) → HasCommasInQuotes piece → quotes piece % 2 ≡ 0 → HasPieces piece
 one_piece piece keeps even =
     let t = trimmed_exists piece in
     record { first = piece; others = []; item = back_off (front_off piece); items = []; text_is = sym (append-nil piece); are = (t.padded, trimmed_is_param piece _ t keeps even, tt) }
 
 -- `HasPieces` is true of a piece, a comma and a text of which it is true
-more_pieces : (piece rest : List ℕ) → KeepsCommas piece → quotes piece % 2 ≡ 0 → HasPieces rest → HasPieces (piece ++ 44 ∷ rest)
+more_pieces : (piece rest : List ℕ) → HasCommasInQuotes piece → quotes piece % 2 ≡ 0 → HasPieces rest → HasPieces (piece ++ 44 ∷ rest)
 more_pieces piece rest keeps even r =
     let t = trimmed_exists piece in
     record {
@@ -148,25 +148,25 @@ pub odd_or : (n : ℕ) → (n % 2 ≡ 0 → ⊥) → n % 2 ≡ 1
 odd_or n h = omega (arith, h)
 
 -- a text with its quotes in pairs has pieces; `front` is the part of its first piece that was read so far
-has_pieces_from : (front bytes : List ℕ) → KeepsCommas front → quotes (front ++ bytes) % 2 ≡ 0 → HasPieces (front ++ bytes)
+has_pieces_from : (front bytes : List ℕ) → HasCommasInQuotes front → quotes (front ++ bytes) % 2 ≡ 0 → HasPieces (front ++ bytes)
 has_pieces_from front [] keeps even = subst HasPieces (sym (append-nil front)) (one_piece front keeps (ap (λ xs. quotes xs % 2) (sym (append-nil front)) ∙ even))
 has_pieces_from front (b ∷ bs) keeps even =
     let step : (b ≡ 44 → quotes front % 2 ≡ 1) → HasPieces (front ++ b ∷ bs) = λ comma.
     subst HasPieces (append_assoc front (b ∷ []) bs)
-    (has_pieces_from (front ++ b ∷ []) bs (KeepsCommas-push front b keeps comma) (ap (λ xs. quotes xs % 2) (append_assoc front (b ∷ []) bs) ∙ even)) in
+    (has_pieces_from (front ++ b ∷ []) bs (HasCommasInQuotes-push front b keeps comma) (ap (λ xs. quotes xs % 2) (append_assoc front (b ∷ []) bs) ∙ even)) in
     elim (cases_eq b 44) [
       | inr other ↦ step (λ h. absurd (other h))
       | inl comma ↦ elim (cases_eq (quotes front % 2) 0) [
         | inr inside ↦ step (λ _. odd_or (quotes front) inside)
         | inl outside ↦
             let after : quotes (front ++ 44 ∷ bs) % 2 ≡ 0 = ap (λ x. quotes (front ++ x ∷ bs) % 2) (sym comma) ∙ even in
-            subst (λ x. HasPieces (front ++ x ∷ bs)) (sym comma) (more_pieces front bs keeps outside (has_pieces_from [] bs KeepsCommas-nil (even_behind front bs outside after)))
+            subst (λ x. HasPieces (front ++ x ∷ bs)) (sym comma) (more_pieces front bs keeps outside (has_pieces_from [] bs HasCommasInQuotes-nil (even_behind front bs outside after)))
       ]
     ]
 
 -- a text with its quotes in pairs has pieces
 pub has_pieces : (text : List ℕ) → quotes text % 2 ≡ 0 → HasPieces text
-has_pieces text even = has_pieces_from [] text KeepsCommas-nil even
+has_pieces text even = has_pieces_from [] text HasCommasInQuotes-nil even
 
 -- the text is the items so far, each padded and with a comma after it, and the rest
 pub record SplitSoFar (text : List ℕ) (items : List (List ℕ)) (rest : List ℕ) : Type 0 where

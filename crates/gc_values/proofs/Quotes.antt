@@ -1,9 +1,8 @@
 -- Double quotes in a text are counted, and commas are kept within quotes: each comma has an odd number of double quotes before it
--- (`KeepsCommas`).
+-- (`HasCommasInQuotes`).
 use Rattle.std.proofs.Common.{◌≡◌, ℕ, zero, suc, ◌+◌, ◌%◌, ◌<◌, ◌⊎◌, false, cond, eqb, List, [], ◌∷◌, ◌++◌, length, get_or, take, replicate, refl, sym, ap, ◌∙◌, subst, inl, inr, arith, zero-add}
 use Rattle.std.proofs.lemmas.List.Sums.{sum_by-append, sum_by-cons, sum_by_more}
-use Rattle.gc_values.specs.Params.{quotes}
-use Rattle.gc_values.specs.Pieces.{KeepsCommas}
+use Rattle.gc_values.specs.Params.{quotes, HasCommasInQuotes}
 
 -- what a byte adds to the number of double quotes: 1 or 0
 abbrev quote_count : ℕ → ℕ
@@ -49,12 +48,12 @@ push_cut (x ∷ xs) (f ∷ fs) rest b e =
     ]
 
 -- the empty list keeps its commas within quotes
-pub KeepsCommas-nil : KeepsCommas []
-KeepsCommas-nil front rest e = absurd (no_cut front rest e)
+pub HasCommasInQuotes-nil : HasCommasInQuotes []
+HasCommasInQuotes-nil front rest e = absurd (no_cut front rest e)
 
 -- one byte more, which is no comma outside quotes, keeps the commas within quotes
-pub KeepsCommas-push : (xs : List ℕ) (b : ℕ) → KeepsCommas xs → (b ≡ 44 → quotes xs % 2 ≡ 1) → KeepsCommas (xs ++ b ∷ [])
-KeepsCommas-push xs b keeps comma front rest e = elim (push_cut xs front rest b e) [
+pub HasCommasInQuotes-push : (xs : List ℕ) (b : ℕ) → HasCommasInQuotes xs → (b ≡ 44 → quotes xs % 2 ≡ 1) → HasCommasInQuotes (xs ++ b ∷ [])
+HasCommasInQuotes-push xs b keeps comma front rest e = elim (push_cut xs front rest b e) [
   | inl h ↦ subst (λ ys. quotes ys % 2 ≡ 1) (sym h.1) (comma h.0)
   | inr h ↦ keeps front h.0 h.1
 ]
@@ -74,12 +73,12 @@ cuts_compare (x ∷ xs) (y ∷ ys) us vs e =
     ]
 
 -- a piece with its quotes in pairs doesn't end at a comma of another piece
-pub not_inside : (xs ys vs : List ℕ) → KeepsCommas xs → quotes ys % 2 ≡ 0 → xs ≡ ys ++ 44 ∷ vs → ⊥
+pub not_inside : (xs ys vs : List ℕ) → HasCommasInQuotes xs → quotes ys % 2 ≡ 0 → xs ≡ ys ++ 44 ∷ vs → ⊥
 not_inside xs ys vs keeps even e = let odd = keeps ys vs e in omega (arith, odd, even)
 
 -- two cuts of one text at a comma are the same, where before each of the two commas quotes are in pairs and commas are within
 -- quotes
-pub one_cut : (xs ys us vs : List ℕ) → KeepsCommas xs → quotes xs % 2 ≡ 0 → KeepsCommas ys → quotes ys % 2 ≡ 0 → xs ++ 44 ∷ us ≡ ys ++ 44 ∷ vs → (xs ≡ ys) × (us ≡ vs)
+pub one_cut : (xs ys us vs : List ℕ) → HasCommasInQuotes xs → quotes xs % 2 ≡ 0 → HasCommasInQuotes ys → quotes ys % 2 ≡ 0 → xs ++ 44 ∷ us ≡ ys ++ 44 ∷ vs → (xs ≡ ys) × (us ≡ vs)
 one_cut xs ys us vs kx ex ky ey e = elim (cuts_compare xs ys us vs e) [
   | inl h ↦ h
   | inr (inl h) ↦ absurd (not_inside xs ys h.0 kx ey h.1)

@@ -6,7 +6,7 @@ use Rattle.std.proofs.lemmas.Nat.{pow-add}
 use Rattle.gc_values.specs.Cut.{ReadsNumeral}
 use Rattle.gc_values.specs.Digits.{number}
 use Rattle.gc_values.specs.Fraction.{Fraction, signed, IsRounded, IsInRange}
-use Rattle.gc_values.specs.Nearest.{RoundsHalfUp, IsCapped, MadeOf}
+use Rattle.gc_values.specs.Nearest.{RoundsHalfUp, IsRoundedWithCap, MadeOf}
 use Rattle.gc_values.specs.Spelling.{value, Names, Spells, SpellsBeyond, is_minus, fraction_digits, ups}
 use Rattle.gc_values.specs.Zeros.{WithoutZeros}
 use Rattle.gc_values.proofs.Powers.{ten_pow_pos, bound_fits}
@@ -48,7 +48,7 @@ zeros_at_last m p n s places w =
 -- Where a text reads as these parts, their value is `units` over 10^p and in range, and m / 10^s is made of that, the text spells
 -- m / 10^s.
 pub reads_value : (text : List ℕ) (negative : Bool) (whole fraction : List ℕ) (up down units p : ℕ) (m : ℤ) (s : ℕ) → ReadsNumeral text negative whole fraction up down →
-    IsCapped (number (whole ++ fraction) * 10 ^ up) (length fraction + down) (10 ^ 37 + 1) units p → units ≤ 10 ^ 13 * 10 ^ p → MadeOf negative units p m s → Spells text m s
+    IsRoundedWithCap (number (whole ++ fraction) * 10 ^ up) (length fraction + down) (10 ^ 37 + 1) units p → units ≤ 10 ^ 13 * 10 ^ p → MadeOf negative units p m s → Spells text m s
 reads_value text negative whole fraction up down units p m s r c within made =
     let same : c.m ≡ units = let e = c.capped in omega (arith, bound_fits p c.places) in (
       fraction_of negative whole fraction up down,
@@ -59,7 +59,7 @@ reads_value text negative whole fraction up down units p m s r c within made =
           (zeros_at_last units p made.n s c.places made.zeros)),
     )
 
--- a number above the bound stays so without the zeros at its end
+-- a number above the bound, 10^13, is still above it without the zeros at its end
 beyond_bound : (m p n s : ℕ) → 10 ^ 13 * 10 ^ p < m → WithoutZeros m p n s → 10 ^ 13 * 10 ^ s < n
 beyond_bound m p n s large w =
     let same = w.same in
@@ -68,7 +68,7 @@ beyond_bound m p n s large w =
 -- where a text reads as these parts, and their value, `units` over 10^p, is above the bound, the text spells a number out of
 -- range
 pub reads_beyond : (text : List ℕ) (negative : Bool) (whole fraction : List ℕ) (up down units p : ℕ) → ReadsNumeral text negative whole fraction up down →
-    IsCapped (number (whole ++ fraction) * 10 ^ up) (length fraction + down) (10 ^ 37 + 1) units p → 10 ^ 13 * 10 ^ p < units → SpellsBeyond text
+    IsRoundedWithCap (number (whole ++ fraction) * 10 ^ up) (length fraction + down) (10 ^ 37 + 1) units p → 10 ^ 13 * 10 ^ p < units → SpellsBeyond text
 reads_beyond text negative whole fraction up down units p r c above =
     let large : 10 ^ 13 * 10 ^ p < c.m = let e = c.capped in omega arith in
     let z = zeros_off c.m p in (

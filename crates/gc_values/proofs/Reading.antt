@@ -2,7 +2,7 @@
 use Rattle.std.proofs.Common.{◌≡◌, ◌↔◌, ◌⊎◌, inl, ℕ, ◌+◌, ◌*◌, ◌^◌, ◌<◌, ◌≤◌, Bool, List, ◌++◌, length, Result, Ok, Err, IfOk, IfErr, MatchResult, refl, ap}
 use Rattle.gc_values.specs.Cut.{ReadsNumeral}
 use Rattle.gc_values.specs.Digits.{number}
-use Rattle.gc_values.specs.Nearest.{IsCapped, MadeOf}
+use Rattle.gc_values.specs.Nearest.{IsRoundedWithCap, MadeOf}
 use Rattle.gc_values.specs.Spelling.{Spells, SpellsBeyond, SpellsNothing}
 use Rattle.gc_values.specs.declared.decimal.Decimal.{Decimal}
 use Rattle.gc_values.specs.declared.fault.ValueFault.{ValueFault}
@@ -47,9 +47,9 @@ reads_range text e is beyond = record {
 }
 
 -- `IsReading` is true where the text reads as these parts, their value is `units` over 10^p, and r is the decimal made of that,
--- or `Range` where it passes the bound
+-- or `Range` where it is out of range
 pub reads_parts : (text : List ℕ) (negative : Bool) (whole fraction : List ℕ) (up down units p : ℕ) (r : Result Decimal ValueFault) → ReadsNumeral text negative whole fraction up down →
-    IsCapped (number (whole ++ fraction) * 10 ^ up) (length fraction + down) (10 ^ 37 + 1) units p →
+    IsRoundedWithCap (number (whole ++ fraction) * 10 ^ up) (length fraction + down) (10 ^ 37 + 1) units p →
     IfOk r (λ d. MadeOf negative units p d.digits d.scale) →
     MatchResult r (λ _. units ≤ 10 ^ 13 * 10 ^ p) (λ e. (e ≡ Range) × (10 ^ 13 * 10 ^ p < units)) → IsReading text r
 reads_parts text negative whole fraction up down units p (Ok d) n c made within =

@@ -125,8 +125,8 @@ with_sign_known neg a k p n s r =
     }
 
 -- each rounding to p places is the nearest whole number of 10^-p, with the sign of its fraction, as `IsNearestUnits` has it
-pub rounded_to : (neg : Bool) (a k p : ℕ) (m : ℤ) (s : ℕ) → IsRounded (record { n = signed neg a; k = k }) p m s → IsNearestUnits neg a k p m s
-rounded_to neg a k p m s r =
+pub rounding_is_nearest_units : (neg : Bool) (a k p : ℕ) (m : ℤ) (s : ℕ) → IsRounded (record { n = signed neg a; k = k }) p m s → IsNearestUnits neg a k p m s
+rounding_is_nearest_units neg a k p m s r =
     let sign = keeps_sign neg a k p m s r in
     let there : IsRounded (record { n = signed neg a; k = k }) p (signed neg sign.0) s = subst (λ z. IsRounded (record { n = signed neg a; k = k }) p z s) sign.1 r in
     subst (λ z. IsNearestUnits neg a k p z s) (sym sign.1) (with_sign_known neg a k p sign.0 s there)
@@ -135,8 +135,8 @@ rounded_to neg a k p m s r =
 pub rounded_once : (neg : Bool) (a k p : ℕ) (m : ℤ) (s : ℕ) (n : ℤ) (t : ℕ) → IsRounded (record { n = signed neg a; k = k }) p m s
     → IsRounded (record { n = signed neg a; k = k }) p n t → (m ≡ n) × (s ≡ t)
 rounded_once neg a k p m s n t r q =
-    let x = rounded_to neg a k p m s r in
-    let y = rounded_to neg a k p n t q in
+    let x = rounding_is_nearest_units neg a k p m s r in
+    let y = rounding_is_nearest_units neg a k p n t q in
     let same : x.u ≡ y.u = rounds_once (a * 10 ^ p) (10 ^ k) x.u y.u (ten_pow_pos k) x.rounds y.rounds in
     let one = zeros_once x.u p x.n s y.n t x.zeros (subst (λ u. WithoutZeros u p y.n t) (sym same) y.zeros) in
     (x.m_is ∙ ap (signed neg) one.0 ∙ sym y.m_is, one.1)

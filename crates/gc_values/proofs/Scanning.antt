@@ -2,22 +2,22 @@
 -- comma outside quotes, and whether they end inside quotes.
 use Rattle.std.proofs.Common.{◌≡◌, ℕ, ◌+◌, ◌%◌, ◌<◌, ◌≤◌, Bool, true, false, not, cond, eqb, List, ◌∷◌, ◌++◌, length, get_or, take, drop, Some, refl, sym, ap, ◌∙◌, subst, arith}
 use Rattle.std.proofs.lemmas.List.{take_more, take_all, take-append-drop, drop_more}
-use Rattle.gc_values.specs.Params.{quotes}
-use Rattle.gc_values.specs.Pieces.{KeepsCommas, CutsPiece}
-use Rattle.gc_values.proofs.Quotes.{quotes_more, KeepsCommas-nil, KeepsCommas-push}
+use Rattle.gc_values.specs.Params.{quotes, HasCommasInQuotes}
+use Rattle.gc_values.specs.Pieces.{CutsPiece}
+use Rattle.gc_values.proofs.Quotes.{quotes_more, HasCommasInQuotes-nil, HasCommasInQuotes-push}
 
 -- the first i bytes hold no comma outside quotes, and `quoted` says whether they end inside quotes
 pub record Scanned (text : List ℕ) (i : ℕ) (quoted : Bool) : Type 0 where
-  pub keeps : KeepsCommas (take i text)
+  pub keeps : HasCommasInQuotes (take i text)
   pub parity : quotes (take i text) % 2 ≡ cond quoted 1 0
 
--- whether bytes end inside quotes once one more byte, the first argument, came; the second one says whether they did before it
-abbrev pub parity_after : ℕ → Bool → Bool
+-- whether bytes end inside quotes after one more byte, b, where `quoted` says whether they did before it
+abbrev pub parity_after : (b : ℕ) (quoted : Bool) → Bool
 parity_after b quoted = cond (eqb b 34) (not quoted) quoted
 
 -- before the first byte no comma was passed, and no quote is open
 pub scanned_none : (text : List ℕ) → Scanned text 0 false
-scanned_none text = record { keeps = KeepsCommas-nil; parity = refl }
+scanned_none text = record { keeps = HasCommasInQuotes-nil; parity = refl }
 
 -- where `quoted` says whether the number n of quotes is odd, it is odd after one more byte as `parity_after` has it; `same` says
 -- whether that byte is a double quote
@@ -37,7 +37,7 @@ pub scanned_more : (text : List ℕ) (i : ℕ) (quoted now : Bool) → Scanned t
 scanned_more text i quoted now s within comma step =
     let b : ℕ = get_or text i 0 in
     record {
-      keeps = subst KeepsCommas (sym (take_more text i 0 within)) (KeepsCommas-push (take i text) b s.keeps (λ h. odd_inside (quotes (take i text)) quoted (comma h) s.parity));
+      keeps = subst HasCommasInQuotes (sym (take_more text i 0 within)) (HasCommasInQuotes-push (take i text) b s.keeps (λ h. odd_inside (quotes (take i text)) quoted (comma h) s.parity));
       parity = ap (λ n. n % 2) (quotes_more text i within) ∙ parity_step (quotes (take i text)) quoted (eqb b 34) s.parity ∙ ap (λ q. cond q 1 0) (sym step);
     }
 
@@ -50,5 +50,5 @@ scanned_cut text i quoted s within comma outside = (
 )
 
 -- a text that was scanned to its end keeps its commas within quotes
-pub scanned_all : (text : List ℕ) (i : ℕ) (quoted : Bool) → Scanned text i quoted → length text ≤ i → KeepsCommas text
-scanned_all text i quoted s all = subst KeepsCommas (take_all i text all) s.keeps
+pub scanned_all : (text : List ℕ) (i : ℕ) (quoted : Bool) → Scanned text i quoted → length text ≤ i → HasCommasInQuotes text
+scanned_all text i quoted s all = subst HasCommasInQuotes (take_all i text all) s.keeps

@@ -2,7 +2,7 @@
 use Rattle.std.proofs.Common.{◌≡◌, ℕ, zero, suc, ◌-◌, ◌<◌, ◌≤◌, List, [], ◌∷◌, ◌++◌, length, get_or, take, drop, replicate, refl, sym, ap, ◌∙◌, subst, arith, length-append}
 use Rattle.std.proofs.lemmas.List.{length-replicate}
 use Rattle.std.proofs.Math.Seq.{take-append_seam, drop-append_seam}
-use Rattle.gc_values.specs.Padding.{IsKept}
+use Rattle.gc_values.specs.Padding.{IsZeroPadded}
 use Rattle.gc_values.specs.declared.text.Text.TheInside.{Inside}
 use Rattle.gc_values.specs.Text.{IsStringByte, AreStringBytes, quoted, IsString}
 
@@ -34,10 +34,10 @@ one_quoted xs ys e = let t : xs ++ 34 ∷ [] ≡ ys ++ 34 ∷ [] = cc in end_sam
 pub one_string : (item xs ys : List ℕ) → IsString item xs → IsString item ys → xs ≡ ys
 one_string item xs ys x y = one_quoted xs ys (sym x.item_is ∙ y.item_is)
 
--- bytes with zeros after them are what a text keeps
-pub filled_is_kept : (bytes all : List ℕ) → all ≡ bytes ++ replicate (64 - length bytes) 0 → length bytes ≤ 64 → AreStringBytes bytes
-    → (let t : Inside = record { bytes = all; len = length bytes } in IsKept t)
-filled_is_kept bytes all e few plain =
+-- at most 64 bytes of a string, with zeros after them up to 64, are padded as `IsZeroPadded` has it
+pub filled_is_zero_padded : (bytes all : List ℕ) → all ≡ bytes ++ replicate (64 - length bytes) 0 → length bytes ≤ 64 → AreStringBytes bytes
+    → (let t : Inside = record { bytes = all; len = length bytes } in IsZeroPadded t)
+filled_is_zero_padded bytes all e few plain =
     let front : take (length bytes) all ≡ bytes = ap (take (length bytes)) e ∙ take-append_seam bytes (replicate (64 - length bytes) 0) in
     record {
       few = few;

@@ -114,7 +114,8 @@ bare_written : (m : ℤ) (s : ℕ) → AreBare (written m s)
 bare_written m s =
     let n = unsigned_abs m in
     AreBare-append (minus_text m) (whole_text (n / 10 ^ s) ++ (46 ∷ behind_text s (n % 10 ^ s))) (bare_minus m)
-    (AreBare-append (whole_text (n / 10 ^ s)) (46 ∷ behind_text s (n % 10 ^ s)) (bare_whole (n / 10 ^ s)) (bare_above 46 (lit< tt), bare_digits (behind_text s (n % 10 ^ s)) (is_fraction_text n s).digits))
+    (AreBare-append (whole_text (n / 10 ^ s)) (46 ∷ behind_text s (n % 10 ^ s)) (bare_whole (n / 10 ^ s))
+    (bare_above 46 (lit< tt), bare_digits (behind_text s (n % 10 ^ s)) (is_fraction_text n s).digits))
 
 -- a hexadecimal digit is above 44
 digit_above : (d : ℕ) → d < 16 → 44 < slice_index lower_digits d

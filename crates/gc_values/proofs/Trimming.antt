@@ -2,12 +2,12 @@
 use Rattle.std.proofs.Common.{◌≡◌, ℕ, zero, suc, ◌+◌, ◌-◌, ◌<◌, ◌≤◌, ◌%◌, ◌⊎◌, length, get_or, take, drop, cond, eqb, List, [], ◌∷◌, ◌++◌, replicate, refl, sym, ap, ◌∙◌, subst, inl, inr, arith, append_assoc}
 use Rattle.std.proofs.lemmas.List.{append-nil, take-append-drop, take_all, take_more, drop_more, length-drop}
 use Rattle.std.proofs.lemmas.Bool.{cases_eq, eq-eqb, ne_eqb}
-use Rattle.gc_values.specs.Params.{quotes, IsPadded, IsParam, AreSpaces}
-use Rattle.gc_values.specs.Pieces.{KeepsCommas, StartsNoSpace, EndsNoSpace, TrimsFront, TrimsBack, IsTrimmed}
-use Rattle.gc_values.proofs.Quotes.{quotes-append, quotes_same, quotes-spaces, KeepsCommas-push}
+use Rattle.gc_values.specs.Params.{quotes, HasCommasInQuotes, StartsNoSpace, EndsNoSpace, IsPadded, IsParam, AreSpaces}
+use Rattle.gc_values.specs.Pieces.{TrimsFront, TrimsBack, IsTrimmed}
+use Rattle.gc_values.proofs.Quotes.{quotes-append, quotes_same, quotes-spaces, HasCommasInQuotes-push}
 
 -- spaces before a text leave its commas within quotes
-front_spaces : (n : ℕ) (xs : List ℕ) → KeepsCommas xs → KeepsCommas (replicate n 32 ++ xs)
+front_spaces : (n : ℕ) (xs : List ℕ) → HasCommasInQuotes xs → HasCommasInQuotes (replicate n 32 ++ xs)
 front_spaces zero xs keeps front rest e = keeps front rest e
 front_spaces (suc n) xs keeps [] rest e = let h : ◌≡◌ {A = ℕ} 32 44 = cc in absurd (omega (arith, h))
 front_spaces (suc n) xs keeps (f ∷ fs) rest e =
@@ -18,11 +18,11 @@ front_spaces (suc n) xs keeps (f ∷ fs) rest e =
     omega (arith, odd, other)
 
 -- spaces after a text leave its commas within quotes
-back_spaces : (n : ℕ) (xs : List ℕ) → KeepsCommas xs → KeepsCommas (xs ++ replicate n 32)
-back_spaces zero xs keeps = subst KeepsCommas (sym (append-nil xs)) keeps
+back_spaces : (n : ℕ) (xs : List ℕ) → HasCommasInQuotes xs → HasCommasInQuotes (xs ++ replicate n 32)
+back_spaces zero xs keeps = subst HasCommasInQuotes (sym (append-nil xs)) keeps
 back_spaces (suc n) xs keeps =
-    let more : KeepsCommas (xs ++ 32 ∷ []) = KeepsCommas-push xs 32 keeps (λ h. omega (arith, h)) in
-    subst KeepsCommas (append_assoc xs (32 ∷ []) (replicate n 32)) (back_spaces n (xs ++ 32 ∷ []) more)
+    let more : HasCommasInQuotes (xs ++ 32 ∷ []) = HasCommasInQuotes-push xs 32 keeps (λ h. omega (arith, h)) in
+    subst HasCommasInQuotes (append_assoc xs (32 ∷ []) (replicate n 32)) (back_spaces n (xs ++ 32 ∷ []) more)
 
 -- the quotes of a padded item are the item's
 pub quotes-padded : (piece item : List ℕ) → IsPadded piece item → quotes piece ≡ quotes item
@@ -37,15 +37,15 @@ quotes-padded piece item p =
     )
 
 -- a parameter with spaces round it has its commas within quotes
-pub padded_keeps : (piece item : List ℕ) → IsPadded piece item → IsParam item → KeepsCommas piece
-padded_keeps piece item p h = subst KeepsCommas (sym p.piece_is) (front_spaces p.before (item ++ replicate p.behind 32) (back_spaces p.behind item h.commas))
+pub padded_keeps : (piece item : List ℕ) → IsPadded piece item → IsParam item → HasCommasInQuotes piece
+padded_keeps piece item p h = subst HasCommasInQuotes (sym p.piece_is) (front_spaces p.before (item ++ replicate p.behind 32) (back_spaces p.behind item h.commas))
 
 -- bytes with a comma among them may be grouped round the comma
 regroup_at_comma : (a b c d e : List ℕ) → a ++ ((b ++ 44 ∷ c) ++ d) ≡ (a ++ b) ++ 44 ∷ (c ++ d)
 regroup_at_comma a b c d e = simp append_assoc
 
 -- a piece with its quotes in pairs and its commas within quotes, without the spaces at its ends, is a parameter
-pub trimmed_is_param : (piece item : List ℕ) → IsTrimmed piece item → KeepsCommas piece → quotes piece % 2 ≡ 0 → IsParam item
+pub trimmed_is_param : (piece item : List ℕ) → IsTrimmed piece item → HasCommasInQuotes piece → quotes piece % 2 ≡ 0 → IsParam item
 trimmed_is_param piece item t keeps even =
     let p = t.padded in
     let same = quotes-padded piece item p in
@@ -65,8 +65,8 @@ abbrev pub front_off : List ℕ → List ℕ
 front_off [] = []
 front_off (b ∷ bs) = cond (eqb b 32) (front_off bs) (b ∷ bs)
 
--- byte b before a trimmed rest: nothing where b is a space and the rest is empty
-abbrev pub kept_front : ℕ → List ℕ → List ℕ
+-- the byte b and then `rest`, which is trimmed at its end; nothing where b is a space and `rest` is empty
+abbrev pub kept_front : (b : ℕ) (rest : List ℕ) → List ℕ
 kept_front b [] = cond (eqb b 32) [] (b ∷ [])
 kept_front b (x ∷ xs) = b ∷ x ∷ xs
 
@@ -144,20 +144,15 @@ trims_front (b ∷ bs) = elim (cases_eq b 32) [
       subst (λ ys. TrimsFront (b ∷ bs) ys) (sym off) (record { count = 0; text_is = refl; first = λ rest e. h (let head : b ≡ 32 = cc in head) })
 ]
 
--- the empty list doesn't end in a space
-no_last : (front : List ℕ) → [] ≡ front ++ 32 ∷ [] → ⊥
-no_last [] e = cc
-no_last (f ∷ fs) e = cc
-
 -- the empty list doesn't end in a byte
-no_end : (front : List ℕ) (b : ℕ) → [] ≡ front ++ b ∷ [] → ⊥
-no_end [] b e = cc
-no_end (f ∷ fs) b e = cc
+empty_has_no_last : (front : List ℕ) (b : ℕ) → [] ≡ front ++ b ∷ [] → ⊥
+empty_has_no_last [] b e = cc
+empty_has_no_last (f ∷ fs) b e = cc
 
 -- a text of one byte that ends in a space is that space
 one_last : (b : ℕ) (front : List ℕ) → b ∷ [] ≡ front ++ 32 ∷ [] → b ≡ 32
 one_last b [] e = cc
-one_last b (f ∷ fs) e = let t : [] ≡ fs ++ 32 ∷ [] = cc in absurd (no_last fs t)
+one_last b (f ∷ fs) e = let t : [] ≡ fs ++ 32 ∷ [] = cc in absurd (empty_has_no_last fs 32 t)
 
 -- a byte before a text without a space at its end changes nothing of its end
 longer_last : (b : ℕ) (xs front : List ℕ) (x : ℕ) → EndsNoSpace (x ∷ xs) → b ∷ x ∷ xs ≡ front ++ 32 ∷ [] → ⊥
@@ -169,7 +164,7 @@ back_step : (b : ℕ) (bs item : List ℕ) → TrimsBack bs item → TrimsBack (
 back_step b bs [] r = elim (cases_eq b 32) [
   | inl h ↦
       let off : kept_front b [] ≡ [] = ap (λ c. cond c [] (b ∷ [])) (eq-eqb b 32 h) in
-      subst (λ ys. TrimsBack (b ∷ bs) ys) (sym off) (record { count = suc r.count; text_is = let t = r.text_is in cc; last = λ front e. no_last front e })
+      subst (λ ys. TrimsBack (b ∷ bs) ys) (sym off) (record { count = suc r.count; text_is = let t = r.text_is in cc; last = λ front e. empty_has_no_last front 32 e })
   | inr h ↦
       let off : kept_front b [] ≡ b ∷ [] = ap (λ c. cond c [] (b ∷ [])) (ne_eqb b 32 h) in
       subst (λ ys. TrimsBack (b ∷ bs) ys) (sym off) (record { count = r.count; text_is = let t = r.text_is in cc; last = λ front e. h (one_last b front e) })
@@ -182,7 +177,7 @@ back_step b bs (x ∷ xs) r = record {
 
 -- `back_off` trims every text at its end
 trims_back : (xs : List ℕ) → TrimsBack xs (back_off xs)
-trims_back [] = record { count = 0; text_is = refl; last = λ front e. no_last front e }
+trims_back [] = record { count = 0; text_is = refl; last = λ front e. empty_has_no_last front 32 e }
 trims_back (b ∷ bs) = back_step b bs (back_off bs) (trims_back bs)
 
 -- trimming the front and then the end trims both
@@ -228,8 +223,8 @@ back_more text end some within spaces here =
 -- two elements that end the same list are equal
 pub last_same : (xs ys : List ℕ) (a b : ℕ) → xs ++ a ∷ [] ≡ ys ++ b ∷ [] → a ≡ b
 last_same [] [] a b e = cc
-last_same [] (y ∷ ys) a b e = let t : [] ≡ ys ++ b ∷ [] = cc in absurd (no_end ys b t)
-last_same (x ∷ xs) [] a b e = let t : [] ≡ xs ++ a ∷ [] = cc in absurd (no_end xs a t)
+last_same [] (y ∷ ys) a b e = let t : [] ≡ ys ++ b ∷ [] = cc in absurd (empty_has_no_last ys b t)
+last_same (x ∷ xs) [] a b e = let t : [] ≡ xs ++ a ∷ [] = cc in absurd (empty_has_no_last xs a t)
 last_same (x ∷ xs) (y ∷ ys) a b e = let t : xs ++ a ∷ [] ≡ ys ++ b ∷ [] = cc in last_same xs ys a b t
 
 -- where a loop from the end passed spaces, and stops at the front of the text or after another byte, the text up to there is
@@ -240,7 +235,7 @@ back_at text end within spaces stop = record {
   count = length text - end;
   text_is = sym (take-append-drop end text) ∙ ap (λ xs. take end text ++ xs) spaces;
   last = λ front e. elim stop [
-    | inl none ↦ no_last front (sym (ap (λ i. take i text) none) ∙ e)
+    | inl none ↦ empty_has_no_last front 32 (sym (ap (λ i. take i text) none) ∙ e)
     | inr some ↦
         let back : end - 1 + 1 ≡ end = let h = some.0 in omega arith in
         let more : take end text ≡ take (end - 1) text ++ get_or text (end - 1) 0 ∷ [] = ap (λ i. take i text) (sym back) ∙ take_more text (end - 1) 0 (let h = some.0 in omega arith) in

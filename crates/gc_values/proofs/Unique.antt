@@ -1,7 +1,6 @@
 -- A number's text is cut into its sign, digits, fraction and exponent in one way, and so names one fraction.
 use Rattle.std.proofs.Common.{◌≡◌, ◌≢◌, ℕ, ◌+◌, ◌<◌, Bool, true, false, cond, List, [], ◌∷◌, ◌++◌, length, Option, None, Some, refl, sym, ap, ◌∙◌, subst, arith}
 use Rattle.std.proofs.Common.{ℤ, ◌*◌, ◌^◌}
-use Rattle.std.proofs.lemmas.List.{append-nil}
 use Rattle.gc_values.specs.Fraction.{Fraction, signed}
 use Rattle.gc_values.specs.Digits.{IsDigit, AreDigits, number}
 use Rattle.gc_values.specs.Cut.{StartsNoDigit, StartsNoSign, StartsNoPoint, CutsDigits, CutsSign, CutsFraction}
@@ -89,9 +88,9 @@ same_parts text negative r1 whole r2 fraction r3 s d f p n e =
     record { sign = s.negative_is ∙ signs.0; whole_is = runs.0; fraction_is = f.run_is ∙ fractions.0; rest_is = fractions.1 }
 
 -- digits begin with no sign
-pub digits_no_sign : (ds us : List ℕ) → AreDigits ds → 0 < length ds → StartsNoSign (ds ++ us)
-digits_no_sign [] us h some = absurd (omega arith)
-digits_no_sign (b ∷ bs) us h some = (λ e. let d = h.0 in omega (arith, e, d.0), λ e. let d = h.0 in omega (arith, e, d.0))
+pub digits_no_sign : (ds : List ℕ) → AreDigits ds → 0 < length ds → StartsNoSign ds
+digits_no_sign [] h some = absurd (omega arith)
+digits_no_sign (b ∷ bs) h some = (λ e. let d = h.0 in omega (arith, e, d.0), λ e. let d = h.0 in omega (arith, e, d.0))
 
 -- a text is at most one exponent: two with the same text multiply and divide by ten equally often
 pub exponent_once : (e f : Option Exponent) → IsExponent e → IsExponent f → exponent_text e ≡ exponent_text f → (ups e ≡ ups f) × (downs e ≡ downs f)
@@ -100,8 +99,8 @@ exponent_once None (Some f) he hf same = absurd (cc)
 exponent_once (Some e) None he hf same = absurd (cc)
 exponent_once (Some e) (Some f) he hf same =
     let behind : sign_text e.sign ++ e.digits ≡ sign_text f.sign ++ f.digits = cc in
-    let no_e : StartsNoSign e.digits = subst StartsNoSign (append-nil e.digits) (digits_no_sign e.digits [] he.digits_are he.some) in
-    let no_f : StartsNoSign f.digits = subst StartsNoSign (append-nil f.digits) (digits_no_sign f.digits [] hf.digits_are hf.some) in
+    let no_e : StartsNoSign e.digits = digits_no_sign e.digits he.digits_are he.some in
+    let no_f : StartsNoSign f.digits = digits_no_sign f.digits hf.digits_are hf.some in
     let r = sign_once e.sign f.sign e.digits f.digits (λ _. no_e) no_f behind in (
       ap (λ b. cond b 0 (number e.digits)) r.0 ∙ ap (λ ds. cond (is_minus f.sign) 0 (number ds)) r.1,
       ap (λ b. cond b (number e.digits) 0) r.0 ∙ ap (λ ds. cond (is_minus f.sign) (number ds) 0) r.1,

@@ -6,7 +6,7 @@ use Rattle.std.proofs.Math.Nat.{mul-lt-mul_of_pos_left}
 use Rattle.std.proofs.lemmas.Nat.{pow-add}
 use Rattle.gc_values.specs.Digits.{AreDigits, number}
 use Rattle.gc_values.specs.KeptDigits.{kept, kept_and_rounded}
-use Rattle.gc_values.specs.Nearest.{IsCapped}
+use Rattle.gc_values.specs.Nearest.{IsRoundedWithCap}
 use Rattle.gc_values.proofs.Kept.{number-lt, rounds_digits, kept_behind, min_mul}
 use Rattle.gc_values.proofs.Powers.{ten_pow_pos, ten_pow_le}
 use Rattle.gc_values.proofs.Rounding.{RoundsHalfUp, rounds_same_value, rounds_whole, rounds_to_zero}
@@ -45,7 +45,7 @@ units_none ds w f up down p digits size places =
 
 -- the number of the first k digits, with the next one rounded in and at most the cap, is the number in units of 10^-24
 pub capped_few : (ds : List ℕ) (w f up down cap k units : ℕ) → AreDigits ds → length ds ≡ w + f → k + down ≡ w + up + 24 → units ≡ min cap (kept_and_rounded ds k) →
-    IsCapped (number ds * 10 ^ up) (f + down) cap units 24
+    IsRoundedWithCap (number ds * 10 ^ up) (f + down) cap units 24
 capped_few ds w f up down cap k units digits size places e = record {
   m = kept_and_rounded ds k;
   rounds = subst (λ n. RoundsHalfUp (number ds * 10 ^ up * 10 ^ 24) (10 ^ (f + down)) n) (times_one (kept_and_rounded ds k)) (units_kept ds w f up down 24 k digits size places);
@@ -57,7 +57,7 @@ capped_few ds w f up down cap k units digits size places e = record {
 -- 10^p
 pub capped_zeros : (ds : List ℕ) (w f up down cap k size more units p : ℕ) → AreDigits ds → length ds ≡ size → size ≡ w + f → k + down ≡ w + up + 24
     → size + more ≡ k → more + p ≡ 24 → units ≡ min cap (kept ds size) →
-    IsCapped (number ds * 10 ^ up) (f + down) cap units p
+    IsRoundedWithCap (number ds * 10 ^ up) (f + down) cap units p
 capped_zeros ds w f up down cap k size more units p digits is_size sum places behind all e =
     let own : k - length ds ≡ 24 - p = omega arith in
     let value : kept_and_rounded ds k ≡ kept ds size * 10 ^ (24 - p) =
@@ -73,7 +73,7 @@ capped_zeros ds w f up down cap k size more units p digits is_size sum places be
 -- `more` zeros after them, at most the cap
 pub capped_many : (ds : List ℕ) (w f up down cap k size more x units : ℕ) → AreDigits ds → length ds ≡ size → size ≡ w + f → k + down ≡ w + up + 24
     → size + (24 + more) ≡ k → x ≡ min cap (kept ds size) → units ≡ min cap (x * 10 ^ more) →
-    IsCapped (number ds * 10 ^ up) (f + down) cap units 0
+    IsRoundedWithCap (number ds * 10 ^ up) (f + down) cap units 0
 capped_many ds w f up down cap k size more x units digits is_size sum places behind all e =
     let own : k - length ds ≡ more + 24 = omega arith in
     let power : 10 ^ (more + 24) ≡ 10 ^ more * 10 ^ 24 = pow-add 10 more 24 in
@@ -88,12 +88,12 @@ capped_many ds w f up down cap k size more x units digits is_size sum places beh
     }
 
 -- where the exponent moves all digits more than a place after the last of 24 places, the number is 0 in units of 10^-24
-pub capped_none : (ds : List ℕ) (w f up down cap : ℕ) → AreDigits ds → length ds ≡ w + f → w + up + 24 < down → IsCapped (number ds * 10 ^ up) (f + down) cap 0 24
+pub capped_none : (ds : List ℕ) (w f up down cap : ℕ) → AreDigits ds → length ds ≡ w + f → w + up + 24 < down → IsRoundedWithCap (number ds * 10 ^ up) (f + down) cap 0 24
 capped_none ds w f up down cap digits size places = record { m = 0; rounds = units_none ds w f up down 24 digits size places; capped = omega arith; places = lit≤ tt }
 
 -- at most 18 digits without an exponent, f of them after the point: the number is that of all digits over 10^f
 pub capped_short : (ds : List ℕ) (f up down cap units : ℕ) → AreDigits ds → f ≤ length ds → length ds ≤ 18 → up ≡ 0 → down ≡ 0 → 10 ^ 18 ≤ cap → units ≡ number ds →
-    IsCapped (number ds * 10 ^ up) (f + down) cap units f
+    IsRoundedWithCap (number ds * 10 ^ up) (f + down) cap units f
 capped_short ds f up down cap units digits part few no_up no_down room e =
     let power : 10 ^ (24 - f) * 10 ^ f ≡ 10 ^ 24 = sym (pow-add 10 (24 - f) f) ∙ ap (λ k. 10 ^ k) (let back : 24 - f + f ≡ 24 = omega arith in back) in
     let same : number ds * 10 ^ (24 - f) * 10 ^ f ≡ number ds * 10 ^ 0 * 10 ^ 24 = omega (arith, ap (λ p. number ds * p) power) in

@@ -2,14 +2,14 @@
 -- itself.
 use Rattle.std.proofs.Common.{◌≡◌, ℕ, ◌+◌, ◌-◌, ◌*◌, ◌<◌, ◌≤◌, min, Bool, true, false, cond, ℤ, List, [], ◌∷◌, length, get_or, take, refl, sym, ap, ◌∙◌, subst, inl, inr, arith}
 use Rattle.std.proofs.lemmas.Int.{ints}
-use Rattle.gc_values.specs.Cut.{StartsNoSign, CutsSign}
+use Rattle.gc_values.specs.Cut.{CutsSign}
 use Rattle.gc_values.specs.Digits.{IsDigit, AreDigits, number}
 use Rattle.gc_values.specs.Fraction.{signed}
 use Rattle.gc_values.specs.Spelling.{is_minus}
 use Rattle.gc_values.specs.Whole.{NamesNumber, IsNumberFault, NamesWhole, IsBetween, IsWholeFault}
 use Rattle.gc_values.specs.declared.fault.ValueFault.{ValueFault}
 use Rattle.gc_values.proofs.Kept.{AreDigits-at, AreDigits-take_more, number-take_more}
-use Rattle.gc_values.proofs.Unique.{sign_once}
+use Rattle.gc_values.proofs.Unique.{sign_once, digits_no_sign}
 
 -- the value is the number that the first i digits write, at most the cap
 pub record CountedSoFar (text : List ℕ) (i cap value : ℕ) : Type 0 where
@@ -40,11 +40,6 @@ not_number text i n within other names = other (AreDigits-at text i 0 names.digi
 -- a text writes at most one number
 pub one_number : (text : List ℕ) (m n : ℕ) → NamesNumber text m → NamesNumber text n → m ≡ n
 one_number text m n x y = x.value ∙ sym y.value
-
--- digits begin with no sign
-digits_no_sign : (ds : List ℕ) → AreDigits ds → 0 < length ds → StartsNoSign ds
-digits_no_sign [] h some = absurd (omega arith)
-digits_no_sign (b ∷ bs) h some = (λ e. let d = h.0 in omega (arith, e, d.0), λ e. let d = h.0 in omega (arith, e, d.0))
 
 -- where a text is cut into a sign and a rest, and the rest writes the number n, the text writes n with that sign
 pub cut_names : (text rest : List ℕ) (negative : Bool) (n : ℕ) → CutsSign text negative rest → NamesNumber rest n → NamesWhole text (signed negative n)

@@ -35,14 +35,10 @@ length-long z h = length-signed_text z 10 (lit< tt) (abs_below z 2147483648 2147
 pub length-short : (z : ℤ) → FitsShort z → length (signed_text z) ≤ 6
 length-short z h = length-signed_text z 5 (lit< tt) (abs_below z 32768 32767 (10 ^ 5) h (lit< tt) (lit< tt))
 
--- a number's text writes the number
-names_written : (n : ℕ) → NamesNumber (whole_text n) n
-names_written n = let w = writes_whole n in record { digits = w.digits; some = w.some; value = sym w.number_is }
-
 -- a whole number's text writes the number
 pub signed_reads : (z : ℤ) → NamesWhole (signed_text z) z
-signed_reads (pos n) = record { sign = Absent; digits = whole_text n; n = n; text_is = refl; number_is = names_written n; value = refl }
-signed_reads (negsuc n) = record { sign = Minus; digits = whole_text (suc n); n = suc n; text_is = refl; number_is = names_written (suc n); value = refl }
+signed_reads (pos n) = record { sign = Absent; digits = whole_text n; n = n; text_is = refl; number_is = writes_whole n; value = refl }
+signed_reads (negsuc n) = record { sign = Minus; digits = whole_text (suc n); n = suc n; text_is = refl; number_is = writes_whole (suc n); value = refl }
 
 -- a truth value's number is 0 or 1
 pub boolean_between : (b : Bool) → IsBetween 0 1 (pos (number_of b))

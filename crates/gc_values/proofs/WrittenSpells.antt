@@ -9,6 +9,7 @@ use Rattle.std.proofs.lemmas.Int.Digits.{number_digits_of, all_below_base_digits
 use Rattle.gc_values.specs.Digits.{IsDigit, AreDigits, number}
 use Rattle.gc_values.specs.Fraction.{signed, IsCanonical}
 use Rattle.gc_values.specs.Spelling.{Sign, Absent, Minus, sign_text, is_minus, Parts, value, Spells}
+use Rattle.gc_values.specs.Whole.{NamesNumber}
 use Rattle.gc_values.specs.Written.{digits_text, whole_text, last_digits, behind_text, written}
 use Rattle.gc_values.proofs.Kept.{number-append, AreDigits-append}
 use Rattle.gc_values.proofs.Powers.{ten_pow_pos}
@@ -61,26 +62,20 @@ map_digits (d ∷ ds) h = (a_digit d h.0, map_digits ds h.1)
 AreDigits-digits_text : (n : ℕ) → AreDigits (digits_text n)
 AreDigits-digits_text n = map_digits (digits_of 10 n) (all_below_base_digits_of 10 n (lit≤ tt))
 
--- the text is one or more digits, which write n
-pub record Writes (n : ℕ) (text : List ℕ) : Type 0 where
-  pub digits : AreDigits text
-  pub some : 0 < length text
-  pub number_is : number text ≡ n
-
 -- a whole number's text writes it
-pub writes_whole : (n : ℕ) → Writes n (whole_text n)
+pub writes_whole : (n : ℕ) → NamesNumber (whole_text n) n
 writes_whole n = elim (eqb_tells n 0) [
-  | inl none ↦ subst (λ xs. Writes n xs) (ap (λ b. cond b (48 ∷ []) (digits_text n)) (sym none.0)) (record { digits = (a_digit 0 (lit< tt), tt); some = lit< tt; number_is = sym none.1 })
-  | inr some ↦ subst (λ xs. Writes n xs) (ap (λ b. cond b (48 ∷ []) (digits_text n)) (sym some.0)) (record {
+  | inl none ↦ subst (λ xs. NamesNumber xs n) (ap (λ b. cond b (48 ∷ []) (digits_text n)) (sym none.0)) (record { digits = (a_digit 0 (lit< tt), tt); some = lit< tt; value = none.1 })
+  | inr some ↦ subst (λ xs. NamesNumber xs n) (ap (λ b. cond b (48 ∷ []) (digits_text n)) (sym some.0)) (record {
     digits = AreDigits-digits_text n;
     some = let h : 0 < n = pos_of_ne-zero some.1 in omega (arith, ap length (digits_text_step n h), length-append (digits_text (n / 10)) ((48 + n % 10) ∷ []));
-    number_is = number-digits_text n;
+    value = sym (number-digits_text n);
   })
 ]
 
 -- the last s digits of a number below 10^s write it
-writes_behind : (s n : ℕ) → n < 10 ^ s → 0 < s → Writes n (last_digits s n)
-writes_behind s n h some = record { digits = AreDigits-last_digits s n; some = omega (arith, length-last_digits s n); number_is = number-last_digits s n h }
+writes_behind : (s n : ℕ) → n < 10 ^ s → 0 < s → NamesNumber (last_digits s n) n
+writes_behind s n h some = record { digits = AreDigits-last_digits s n; some = omega (arith, length-last_digits s n); value = sym (number-last_digits s n h) }
 
 -- the text is digits that may follow the point of a / 10^s: with the whole number before the point they write its value
 pub record IsFractionText (a s : ℕ) (text : List ℕ) : Type 0 where
@@ -99,7 +94,7 @@ fraction_text_some a s some =
     let whole : a / 10 ^ s * 10 ^ s + a % 10 ^ s ≡ a = div-add-mod' a (10 ^ s) in
     record {
       digits = w.digits;
-      same = ap (λ k. a * 10 ^ k) size ∙ ap (λ x. x * 10 ^ s) (sym whole) ∙ ap (λ x. (a / 10 ^ s * 10 ^ s + x) * 10 ^ s) (sym w.number_is)
+      same = ap (λ k. a * 10 ^ k) size ∙ ap (λ x. x * 10 ^ s) (sym whole) ∙ ap (λ x. (a / 10 ^ s * 10 ^ s + x) * 10 ^ s) w.value
           ∙ ap (λ k. (a / 10 ^ s * 10 ^ k + number (last_digits s (a % 10 ^ s))) * 10 ^ s) (sym size);
     }
 
@@ -111,16 +106,16 @@ is_fraction_text a s = elim (eqb_tells s 0) [
   | inr some ↦ subst (λ xs. IsFractionText a s xs) (ap (λ b. cond b (48 ∷ []) (last_digits s (a % 10 ^ s))) (sym some.0)) (fraction_text_some a s (pos_of_ne-zero some.1))
 ]
 
--- a sign, the digits before the point, and those after it spell the decimal
-with_sign : (sign : Sign) (m : ℤ) (s : ℕ) (a : ℕ) → m ≡ signed (is_minus sign) a → IsCanonical m s → s ≤ 24 →
+-- a sign, the digits before the point, a point and the digits after it spell the decimal
+parts_spell : (sign : Sign) (m : ℤ) (s : ℕ) (a : ℕ) → m ≡ signed (is_minus sign) a → IsCanonical m s → s ≤ 24 →
     Spells (sign_text sign ++ (whole_text (a / 10 ^ s) ++ (46 ∷ behind_text s (a % 10 ^ s)))) m s
-with_sign sign m s a m_is canonical places =
+parts_spell sign m s a m_is canonical places =
     let w = writes_whole (a / 10 ^ s) in
     let b = is_fraction_text a s in
     let whole : List ℕ = whole_text (a / 10 ^ s) in
     let frac : List ℕ = behind_text s (a % 10 ^ s) in
     let parts : Parts = record { sign = sign; whole = whole; fraction = Some frac; exponent = None } in
-    let digits : number (whole ++ frac) ≡ a / 10 ^ s * 10 ^ length frac + number frac = number-append whole frac ∙ ap (λ n. n * 10 ^ length frac + number frac) w.number_is in
+    let digits : number (whole ++ frac) ≡ a / 10 ^ s * 10 ^ length frac + number frac = number-append whole frac ∙ ap (λ n. n * 10 ^ length frac + number frac) (sym w.value) in
     let size : a * 10 ^ (length frac + 0) ≡ number (whole ++ frac) * 10 ^ 0 * 10 ^ s =
     ap (λ k. a * 10 ^ k) (let e : length frac + 0 ≡ length frac = omega arith in e) ∙ b.same ∙ ap (λ n. n * 10 ^ s) (sym digits)
     ∙ ap (λ n. n * 10 ^ s) (let e : number (whole ++ frac) ≡ number (whole ++ frac) * 10 ^ 0 = omega arith in e) in
@@ -139,5 +134,5 @@ with_sign sign m s a m_is canonical places =
 
 -- a decimal's written text spells the decimal
 pub written_spells : (m : ℤ) (s : ℕ) → IsCanonical m s → s ≤ 24 → Spells (written m s) m s
-written_spells (pos n) s canonical places = with_sign Absent (pos n) s n refl canonical places
-written_spells (negsuc n) s canonical places = with_sign Minus (negsuc n) s (suc n) refl canonical places
+written_spells (pos n) s canonical places = parts_spell Absent (pos n) s n refl canonical places
+written_spells (negsuc n) s canonical places = parts_spell Minus (negsuc n) s (suc n) refl canonical places

@@ -6,26 +6,27 @@ use Rattle.gc_values.specs.declared.fault.ValueFault.TheVariants.{Count}
 use Rattle.gc_values.specs.declared.value.Kind.{Kind}
 use Rattle.gc_values.specs.declared.value.Value.{Value}
 
--- no parameter asked for so far had a fault, and the items from this place on read as these values
-pub record AreLeft (items : List (List ℕ)) (place : ℕ) (fault : Option ValueFault) (vs : List Value) : Type 0 where
+-- no parameter asked for so far had a fault (`fault` is that of the first that had one), and the items from `place` on read as these
+-- values
+pub record AreItemsReadFrom (items : List (List ℕ)) (place : ℕ) (fault : Option ValueFault) (vs : List Value) : Type 0 where
   pub well : fault ≡ None
   pub within : place ≤ length items
   pub read : AreItems (drop place items) vs
 
--- the first fault: the one that was found so far, or, where none was, the first of these items for these kinds
-abbrev pub IsFirst : Option ValueFault → List Kind → List (List ℕ) → ValueFault → Type 0
-IsFirst (Some kept) ks items e = e ≡ kept
-IsFirst None ks items e = FirstFault ks items e
+-- the first fault of all items: the one that was found so far, or, where none was, the first of these items for these kinds
+abbrev pub IsFirstFault : (found : Option ValueFault) (ks : List Kind) (items : List (List ℕ)) → ValueFault → Type 0
+IsFirstFault (Some kept) ks items e = e ≡ kept
+IsFirstFault None ks items e = FirstFault ks items e
 
 -- why the items from this place on aren't of these kinds: there are more or fewer, or else the first fault
 pub data IsFaultFrom (items : List (List ℕ)) (place : ℕ) (fault : Option ValueFault) (ks : List Kind) (e : ValueFault) : Type 0 where
   wrong_count : e ≡ Count → length ks + place ≢ length items → IsFaultFrom items place fault ks e
-  first_fault : length ks + place ≡ length items → IsFirst fault ks (drop place items) e → IsFaultFrom items place fault ks e
+  first_fault : length ks + place ≡ length items → IsFirstFault fault ks (drop place items) e → IsFaultFrom items place fault ks e
 
--- where the list was split into items, those from this place on read as the values, as `AreLeft` has it; a list that was refused
+-- where the list was split into items, those from this place on read as the values, as `AreItemsReadFrom` has it; a list that was refused
 -- as a whole isn't read as any values
 abbrev pub ReadsFrom : Result (List (List ℕ)) ValueFault → ℕ → Option ValueFault → List Value → Type 0
-ReadsFrom (Ok items) place fault vs = AreLeft items place fault vs
+ReadsFrom (Ok items) place fault vs = AreItemsReadFrom items place fault vs
 ReadsFrom (Err refusal) place fault vs = ⊥
 
 -- where the list was split into items, the fault of those from this place on, as `IsFaultFrom` has it; of a list that was refused

@@ -7,7 +7,7 @@ abbrev pub number_of : Bool → ℕ
 number_of false = 0
 number_of true = 1
 
--- the text writes the whole number of the truth value
+-- the text writes, as a whole number, 0 for false or 1 for true
 abbrev pub NamesBoolean : List ℕ → Bool → Type 0
 NamesBoolean text b = NamesWhole text (pos (number_of b))
 

@@ -3,7 +3,7 @@
 use Rattle.std.specs.Prelude.{◌≡◌, ℕ, ◌+◌, ◌*◌, ◌/◌, ◌%◌, List, [], ◌∷◌, Some, slice_index}
 use Rattle.hex.specs.Hex.{hex_digit_value, lower_digits}
 
--- the text is two hexadecimal digits between single quotes, which write n
+-- the text is two hexadecimal digits `a` and `b` between single quotes; they write n
 pub record IsByte (text : List ℕ) (n : ℕ) : Type 0 where
   pub a : ℕ
   pub b : ℕ
@@ -14,7 +14,7 @@ pub record IsByte (text : List ℕ) (n : ℕ) : Type 0 where
   pub low_is : hex_digit_value b ≡ Some low
   pub value : n ≡ high * 16 + low
 
--- the text is no byte
+-- the text isn't two hexadecimal digits between single quotes
 abbrev pub IsNoByte : List ℕ → Type 0
 IsNoByte text = (n : ℕ) → IsByte text n → ⊥
 

@@ -15,7 +15,7 @@ fraction d = record { n = d.digits; k = d.scale }
 abbrev pub decimal : (m : ℤ) (s : ℕ) → IsTrue (is_decimal m s) → Decimal
 decimal m s h = record { digits = m; scale = s; has_few_places = decimal_few m s h; is_in_range = decimal_in_range m s h; is_canonical = decimal_canonical m s h }
 
--- 0.0
+-- the decimal 0.0
 abbrev pub zero : Decimal
 zero = record { digits = pos 0; scale = 0; has_few_places = zero_few; is_in_range = zero_in_range; is_canonical = zero_canonical }
 
@@ -33,7 +33,7 @@ rounded d p = record {
 abbrev pub units : Decimal → ℤ
 units d = units_of d.digits d.scale
 
--- what `==` answers: whether digits and scale are the same
+-- what `==` returns: whether digits and scale are the same
 abbrev pub decimal_eq : Decimal → Decimal → Bool
 decimal_eq a b = int_eq a.digits b.digits && (a.scale == b.scale)
 
@@ -41,6 +41,6 @@ decimal_eq a b = int_eq a.digits b.digits && (a.scale == b.scale)
 abbrev pub decimal_cmp : Decimal → Decimal → Ordering
 decimal_cmp = on units int_cmp
 
--- whether two values are at most as far apart as the area, which may be below zero
+-- whether a and b are at most the distance `area` apart; never, where `area` is below zero
 unfoldable pub is_within : Decimal → Decimal → Decimal → Bool
 is_within a b area = int_le (pos (distance a.digits a.scale b.digits b.scale * 10 ^ area.scale)) (area.digits *ℤ pos (10 ^ a.scale * 10 ^ b.scale))

@@ -23,15 +23,15 @@ abbrev pub hz_of : Direction → ℤ
 hz_of d = if int_le (units d.v) half_turn then units d.hz else units d.hz -ℤ half_turn
 
 -- whether x and y are at most `most` apart
-abbrev pub is_close : ℤ → ℤ → ℤ → Bool
+abbrev pub is_close : (most x y : ℤ) → Bool
 is_close most x y = int_le (pos (unsigned_abs (x -ℤ y))) most
 
 -- whether x plus `turns` whole turns and y are at most `most` apart
-abbrev pub is_close_turned : ℤ → ℤ → ℤ → ℤ → Bool
+abbrev pub is_close_turned : (most turns x y : ℤ) → Bool
 is_close_turned most turns x y = is_close most (x +ℤ turns *ℤ turn) y
 
 -- whether x and y are at most `most` apart on the circle: for some number of turns from -2 to 2
-abbrev pub is_close_on_circle : ℤ → ℤ → ℤ → Bool
+abbrev pub is_close_on_circle : (most x y : ℤ) → Bool
 is_close_on_circle most x y =
     is_close_turned most (negsuc 1) x y || (is_close_turned most (negsuc 0) x y || (is_close_turned most (pos 0) x y
     || (is_close_turned most (pos 1) x y || is_close_turned most (pos 2) x y)))
@@ -42,7 +42,7 @@ is_near d place tolerance =
     is_close (units tolerance) (v_of d) (units place.v) && is_close_on_circle (units tolerance) (hz_of d) (units place.hz)
 
 -- whether x is from 0 to `most`, both included
-abbrev pub is_up_to : ℤ → ℤ → Bool
+abbrev pub is_up_to : (most x : ℤ) → Bool
 is_up_to most x = int_le (pos 0) x && int_le x most
 
 -- whether a direction is a place as face I has it: the horizontal direction from 0 to a turn, the vertical angle from 0 to half a turn
@@ -61,6 +61,6 @@ pub record IsNear (d place : Direction) (tolerance : Decimal) : Type 0 where
   pub v_near : pos (unsigned_abs (v_of d -ℤ units place.v)) ≤ℤ units tolerance
   pub hz_near : pos (unsigned_abs (hz_of d +ℤ turns *ℤ turn -ℤ units place.hz)) ≤ℤ units tolerance
 
--- the test `is_near` says exactly whether a direction is near a place
+-- the test `is_near` is true exactly where a direction is near a place, as `IsNear` has it
 abbrev pub NearIsWithinTheTolerance : Type 0
 NearIsWithinTheTolerance = (d place : Direction) (tolerance : Decimal) → (is_near d place tolerance ≡ true → IsNear d place tolerance) × (IsNear d place tolerance → is_near d place tolerance ≡ true)

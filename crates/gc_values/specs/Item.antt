@@ -23,7 +23,7 @@ kind_of (value.Byte n) = kind.Byte
 kind_of (value.Bool b) = kind.Bool
 kind_of (value.Text bytes) = kind.Text
 
--- the value's number fits its type, and a text has at most 64 bytes and no quote, CR or LF
+-- a value's number fits its type, and its text has at most 64 bytes, none of them a double quote, CR or LF
 abbrev pub IsValue : Value → Type 0
 IsValue (value.Double d) = Unit {0}
 IsValue (value.Long z) = FitsLong z
@@ -32,7 +32,7 @@ IsValue (value.Byte n) = n < 256
 IsValue (value.Bool b) = Unit {0}
 IsValue (value.Text bytes) = IsText bytes
 
--- the item is read as the value
+-- the item is read as the value: it has the form of the value's kind, and writes this value
 abbrev pub IsItem : List ℕ → Value → Type 0
 IsItem item (value.Double d) = Spells item d.digits d.scale
 IsItem item (value.Long z) = NamesWhole item z × FitsLong z
@@ -41,7 +41,7 @@ IsItem item (value.Byte n) = IsByte item n
 IsItem item (value.Bool b) = NamesBoolean item b
 IsItem item (value.Text bytes) = IsTextItem item bytes
 
--- the item hasn't the form of the kind
+-- the item doesn't have the form of the kind, whatever the range
 abbrev pub HasNoForm : Kind → List ℕ → Type 0
 HasNoForm kind.Double item = SpellsNothing item
 HasNoForm kind.Long item = NamesNoWhole item
@@ -59,11 +59,11 @@ IsBeyond kind.Byte item = ⊥
 IsBeyond kind.Bool item = NamesWholeBeyond 0 1 item
 IsBeyond kind.Text item = IsLongString item
 
--- why the item is no value of the kind
+-- why the item is no value of the kind: it hasn't the form (`Spelling`), or is out of the range (`Range`)
 abbrev pub IsItemFault : Kind → List ℕ → ValueFault → Type 0
 IsItemFault k item e = ((e ≡ fault.Spelling) × HasNoForm k item) ⊎ ((e ≡ fault.Range) × IsBeyond k item)
 
--- the value's one written form
+-- the one text that is written of a value
 abbrev pub text : Value → List ℕ
 text (value.Double d) = written d.digits d.scale
 text (value.Long z) = signed_text z

@@ -3,7 +3,7 @@ use Rattle.std.specs.Prelude.{ℕ, ◌+◌, ◌-◌, ◌*◌, ◌^◌, List, len
 use Rattle.gc_values.specs.Digits.{number}
 
 -- the digit at place i, and 0 after the last one
-abbrev pub digit_or_zero : List ℕ → ℕ → ℕ
+abbrev pub digit_or_zero : (ds : List ℕ) (i : ℕ) → ℕ
 digit_or_zero ds i = slice_index_or ds i 48 - 48
 
 -- the number that the first i digits write, with a zero for each digit that is missing
@@ -14,6 +14,6 @@ kept ds i = number (take i ds) * 10 ^ (i - length ds)
 abbrev pub carry : ℕ → ℕ
 carry d = if nat_le 5 d then 1 else 0
 
--- the first i digits, with the one after them rounded in
-abbrev pub kept_and_rounded : List ℕ → ℕ → ℕ
+-- the number that the first i digits write, as `kept` has it, and 1 more where the digit after them is 5 or above
+abbrev pub kept_and_rounded : (ds : List ℕ) (i : ℕ) → ℕ
 kept_and_rounded ds i = kept ds i + carry (digit_or_zero ds i)

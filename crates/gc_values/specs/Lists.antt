@@ -32,7 +32,8 @@ FirstFault [] items e = ⊥
 FirstFault (k ∷ ks) [] e = ⊥
 FirstFault (k ∷ ks) (item ∷ items) e = IsItemFault k item e ⊎ ((v : Value) × (kind_of v ≡ k) × IsItem item v × FirstFault ks items e)
 
--- why the items aren't values of the kinds, one for one: they are more than 16, else not as many as the kinds, else the first with a fault
+-- why the items aren't values of the kinds, one for one: there are more than 16, else not as many as kinds, else the first item with a
+-- fault has this one
 pub data IsItemsFault (kinds : List Kind) (items : List (List ℕ)) (e : ValueFault) : Type 0 where
   too_many : e ≡ TooMany → 16 < length items → IsItemsFault kinds items e
   wrong_count : e ≡ Count → length items ≤ 16 → length items ≢ length kinds → IsItemsFault kinds items e
@@ -47,6 +48,6 @@ pub data IsListFault (kinds : List Kind) (params : List ℕ) (e : ValueFault) : 
 abbrev pub AreValues : List Value → Type 0
 AreValues values = AllByRecursion IsValue values
 
--- the parameters are values of the kinds, or there is a reason why they aren't
-abbrev pub IsListRead : List Kind → List ℕ → Type 0
-IsListRead kinds params = ((vs : List Value) × (kinds_of vs ≡ kinds) × AreParams params vs) ⊎ ((e : ValueFault) × IsListFault kinds params e)
+-- the parameters are read as values of the kinds, or have a fault
+abbrev pub IsListReadOrFaulty : List Kind → List ℕ → Type 0
+IsListReadOrFaulty kinds params = ((vs : List Value) × (kinds_of vs ≡ kinds) × AreParams params vs) ⊎ ((e : ValueFault) × IsListFault kinds params e)

@@ -4,7 +4,7 @@ use Rattle.gc_values.specs.Fraction.{signed}
 use Rattle.gc_values.specs.Zeros.{WithoutZeros, Placed, stripped}
 
 -- how far a and b are apart
-abbrev pub gap : ℕ → ℕ → ℕ
+abbrev pub gap : (a b : ℕ) → ℕ
 gap a b = (a - b) + (b - a)
 
 -- m is the whole number nearest to a / b, and of two that are equally near the greater one
@@ -12,23 +12,23 @@ pub record RoundsHalfUp (a b m : ℕ) : Type 0 where
   pub near : 2 * gap a (m * b) ≤ b
   pub tie : 2 * gap a (m * b) ≡ b → a < m * b
 
--- the whole number nearest to a / b, and of two that are equally near the greater one
-abbrev pub half_up : ℕ → ℕ → ℕ
+-- the number that `RoundsHalfUp` is true of, computed
+abbrev pub half_up : (a b : ℕ) → ℕ
 half_up a b = (2 * a + b) / (2 * b)
 
--- a / 10^k rounded to 24 places is m / 10^p, and `units` is m, but at most the cap
-pub record IsCapped (a k cap units p : ℕ) : Type 0 where
+-- a / 10^k, rounded to 24 places, is m / 10^p for some m, and `units` is m, or the cap where m is above it
+pub record IsRoundedWithCap (a k cap units p : ℕ) : Type 0 where
   pub m : ℕ
   pub rounds : RoundsHalfUp (a * 10 ^ 24) (10 ^ k) (m * 10 ^ (24 - p))
   pub capped : units ≡ min cap m
   pub places : p ≤ 24
 
--- m / 10^s is magnitude / 10^p with the sign, without the zeros at its end
+-- m / 10^s is magnitude / 10^p with a minus where `negative`, and without the zeros at its end
 pub record MadeOf (negative : Bool) (magnitude p : ℕ) (m : ℤ) (s : ℕ) : Type 0 where
   pub n : ℕ
   pub m_is : m ≡ signed negative n
   pub zeros : WithoutZeros magnitude p n s
 
 -- m / 10^s rounded to at most p places, half up, without the zeros at its end
-abbrev pub rounded_to : ℕ → ℕ → ℕ → Placed
+abbrev pub rounded_to : (m s p : ℕ) → Placed
 rounded_to m s p = stripped (half_up m (10 ^ (s - p))) (min s p)

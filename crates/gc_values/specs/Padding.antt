@@ -5,15 +5,16 @@ use Rattle.std.proofs.lemmas.List.{take-append-drop}
 use Rattle.gc_values.specs.Text.{AreStringBytes}
 use Rattle.gc_values.specs.declared.text.Text.TheInside.{Inside}
 
--- at most 64 bytes are used, they are allowed in a string, and the unused ones are zero
-pub record IsKept (t : Inside) : Type 0 where
+-- of the 64 bytes the first `len` are used and allowed in a string, and the unused ones are zero
+pub record IsZeroPadded (t : Inside) : Type 0 where
   pub few : t.len ≤ 64
   pub zeros : drop t.len t.bytes ≡ replicate (64 - t.len) 0
   pub long : length t.bytes ≡ 64
   pub plain : AreStringBytes (take t.len t.bytes)
 
 -- the used bytes, with zeros after them up to 64 bytes, are the text again
-pub padded_back : (t : Inside) → IsKept t → (let back : Inside = record { bytes = take t.len t.bytes ++ replicate (64 - length (take t.len t.bytes)) 0; len = length (take t.len t.bytes) } in back ≡ t)
+pub padded_back : (t : Inside) → IsZeroPadded t
+    → (let back : Inside = record { bytes = take t.len t.bytes ++ replicate (64 - length (take t.len t.bytes)) 0; len = length (take t.len t.bytes) } in back ≡ t)
 padded_back t kept =
     let few = kept.few in
     let long = kept.long in

@@ -11,12 +11,24 @@ quotes bytes = count_by (λ b. b == 34) bytes
 abbrev pub AreSpaces : List ℕ → Type 0
 AreSpaces bytes = (n : ℕ) × (bytes ≡ replicate n 32)
 
+-- the item doesn't begin with a space
+abbrev pub StartsNoSpace : List ℕ → Type 0
+StartsNoSpace item = (rest : List ℕ) → item ≡ 32 ∷ rest → ⊥
+
+-- the item doesn't end in a space
+abbrev pub EndsNoSpace : List ℕ → Type 0
+EndsNoSpace item = (front : List ℕ) → item ≡ front ++ 32 ∷ [] → ⊥
+
+-- each comma is within double quotes: it has an odd number of double quotes before it
+abbrev pub HasCommasInQuotes : List ℕ → Type 0
+HasCommasInQuotes text = (front rest : List ℕ) → text ≡ front ++ 44 ∷ rest → quotes front % 2 ≡ 1
+
 -- a parameter: no space at its ends, its double quotes in pairs, and each comma inside a pair
 pub record IsParam (item : List ℕ) : Type 0 where
-  pub first : (rest : List ℕ) → item ≡ 32 ∷ rest → ⊥
-  pub last : (front : List ℕ) → item ≡ front ++ 32 ∷ [] → ⊥
+  pub first : StartsNoSpace item
+  pub last : EndsNoSpace item
   pub pairs : quotes item % 2 ≡ 0
-  pub commas : (front rest : List ℕ) → item ≡ front ++ 44 ∷ rest → quotes front % 2 ≡ 1
+  pub commas : HasCommasInQuotes item
 
 -- the piece is the item with any spaces round it
 pub record IsPadded (piece item : List ℕ) : Type 0 where
@@ -43,7 +55,7 @@ pub record AreJoined (bytes : List ℕ) (items : List (List ℕ)) : Type 0 where
   pub pieces_are : ArePieces pieces items
   pub some : AreSpaces bytes → ⊥
 
--- a list of parameters; it is empty exactly where the bytes are spaces alone
+-- the bytes are a list of these parameters, which are none exactly where the bytes are spaces alone
 abbrev pub IsParams : List ℕ → List (List ℕ) → Type 0
 IsParams bytes [] = AreSpaces bytes
 IsParams bytes (item ∷ items) = AreJoined bytes (item ∷ items)

@@ -1,23 +1,11 @@
 -- No part of a promise: how a parameter list is cut from the left, and spaces are taken off.
 use Rattle.std.specs.Prelude.{◌≡◌, ℕ, ◌%◌, List, ◌∷◌, [], ◌++◌, replicate, Option, None, Some}
-use Rattle.gc_values.specs.Params.{quotes, IsPadded}
-
--- each comma of the piece has an odd number of double quotes before it
-abbrev pub KeepsCommas : List ℕ → Type 0
-KeepsCommas piece = (front rest : List ℕ) → piece ≡ front ++ 44 ∷ rest → quotes front % 2 ≡ 1
+use Rattle.gc_values.specs.Params.{quotes, HasCommasInQuotes, StartsNoSpace, EndsNoSpace, IsPadded}
 
 -- the text is a piece, up to its first comma outside quotes, and what follows that comma, if there is one
 abbrev pub CutsPiece : List ℕ → List ℕ → Option (List ℕ) → Type 0
-CutsPiece text piece None = (text ≡ piece) × KeepsCommas piece
-CutsPiece text piece (Some rest) = (text ≡ piece ++ 44 ∷ rest) × KeepsCommas piece × (quotes piece % 2 ≡ 0)
-
--- no space comes first
-abbrev pub StartsNoSpace : List ℕ → Type 0
-StartsNoSpace item = (rest : List ℕ) → item ≡ 32 ∷ rest → ⊥
-
--- no space comes last
-abbrev pub EndsNoSpace : List ℕ → Type 0
-EndsNoSpace item = (front : List ℕ) → item ≡ front ++ 32 ∷ [] → ⊥
+CutsPiece text piece None = (text ≡ piece) × HasCommasInQuotes piece
+CutsPiece text piece (Some rest) = (text ≡ piece ++ 44 ∷ rest) × HasCommasInQuotes piece × (quotes piece % 2 ≡ 0)
 
 -- the item is the text without the spaces at its front
 pub record TrimsFront (text item : List ℕ) : Type 0 where

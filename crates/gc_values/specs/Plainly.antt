@@ -40,7 +40,7 @@ pub record CutsNumber (text : List ℕ) (n : ℕ) (rest : Option (List ℕ)) : T
   pub cut : CutsPlain text item rest
   pub names : NamesWhole item (pos n)
 
--- the text is parameters joined by commas, at least one, and they are read as the values
+-- the text is one or more parameters of at least one byte each, joined by commas without spaces, and they are read as the values
 pub record ArePlain (text : List ℕ) (vs : List Value) : Type 0 where
   pub first : List ℕ
   pub more : List (List ℕ)
@@ -49,7 +49,7 @@ pub record ArePlain (text : List ℕ) (vs : List Value) : Type 0 where
   pub some : AllByRecursion (λ item. 0 < length item) (first ∷ more)
   pub read : AreItems (first ∷ more) vs
 
--- the text that is left is read as the values; after the end there are none
+-- the text that is left of a list is read as the values; where none is left, there are no values
 abbrev pub LeftPlain : Option (List ℕ) → List Value → Type 0
 LeftPlain None vs = vs ≡ []
 LeftPlain (Some text) vs = ArePlain text vs

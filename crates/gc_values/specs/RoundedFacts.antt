@@ -4,6 +4,7 @@ use Rattle.std.proofs.Math.Nat.{pow-suc, one-le-pow, div-add-mod', mod-lt, mul-l
 use Rattle.std.proofs.lemmas.Nat.{pow-add}
 use Rattle.std.proofs.lemmas.Bool.Decides.{eqb_tells}
 use Rattle.std.proofs.lemmas.Bool.{cases_lt}
+use Rattle.std.specs.Cmp.{first_so, second_so}
 use borrow.Author.Tests.{leb-true, eq-eqb}
 use Rattle.gc_values.specs.Fraction.{signed, is_decimal, IsCanonical, IsInRange}
 use Rattle.gc_values.specs.Nearest.{gap, RoundsHalfUp, half_up, rounded_to}
@@ -118,27 +119,17 @@ zero_canonical below = absurd (omega arith)
 
 -- From the test `is_decimal` to the facts that a decimal holds.
 
--- where both hold, the first does
-first_holds : (s t : Bool) → (s && t) ≡ true → s ≡ true
-first_holds true t h = refl
-first_holds false t h = h
-
--- where both hold, the second does
-second_holds : (s t : Bool) → (s && t) ≡ true → t ≡ true
-second_holds true t h = h
-second_holds false t h = absurd (cc)
-
 -- where the test `is_decimal` holds, there are at most 24 places
 pub decimal_few : (m : ℤ) (s : ℕ) → is_decimal m s ≡ true → s ≤ 24
-decimal_few m s h = leb-true s 24 (first_holds (nat_le s 24) (nat_le (unsigned_abs m) (10 ^ 13 * 10 ^ s) && (s == 0 || not (unsigned_abs m % 10 == 0))) h)
+decimal_few m s h = leb-true s 24 (first_so (nat_le s 24) (nat_le (unsigned_abs m) (10 ^ 13 * 10 ^ s) && (s == 0 || not (unsigned_abs m % 10 == 0))) h)
 
 -- where the test `is_decimal` holds, what it tests after the number of places holds
-rest : (m : ℤ) (s : ℕ) → is_decimal m s ≡ true → (nat_le (unsigned_abs m) (10 ^ 13 * 10 ^ s) && (s == 0 || not (unsigned_abs m % 10 == 0))) ≡ true
-rest m s h = second_holds (nat_le s 24) (nat_le (unsigned_abs m) (10 ^ 13 * 10 ^ s) && (s == 0 || not (unsigned_abs m % 10 == 0))) h
+rest_of_test : (m : ℤ) (s : ℕ) → is_decimal m s ≡ true → (nat_le (unsigned_abs m) (10 ^ 13 * 10 ^ s) && (s == 0 || not (unsigned_abs m % 10 == 0))) ≡ true
+rest_of_test m s h = second_so (nat_le s 24) (nat_le (unsigned_abs m) (10 ^ 13 * 10 ^ s) && (s == 0 || not (unsigned_abs m % 10 == 0))) h
 
 -- where the test `is_decimal` holds, the value is in range
 pub decimal_in_range : (m : ℤ) (s : ℕ) → is_decimal m s ≡ true → IsInRange m s
-decimal_in_range m s h = leb-true (unsigned_abs m) (10 ^ 13 * 10 ^ s) (first_holds (nat_le (unsigned_abs m) (10 ^ 13 * 10 ^ s)) (s == 0 || not (unsigned_abs m % 10 == 0)) (rest m s h))
+decimal_in_range m s h = leb-true (unsigned_abs m) (10 ^ 13 * 10 ^ s) (first_so (nat_le (unsigned_abs m) (10 ^ 13 * 10 ^ s)) (s == 0 || not (unsigned_abs m % 10 == 0)) (rest_of_test m s h))
 
 -- a number of places above 0 fails the test for 0
 some_places : (s : ℕ) → 0 < s → (s == 0) ≡ false
@@ -153,5 +144,5 @@ no_zero false false h e f = absurd (cc)
 -- where the test `is_decimal` holds, there is no place more than the value needs
 pub decimal_canonical : (m : ℤ) (s : ℕ) → is_decimal m s ≡ true → IsCanonical m s
 decimal_canonical m s h some divides =
-    let last = second_holds (nat_le (unsigned_abs m) (10 ^ 13 * 10 ^ s)) (s == 0 || not (unsigned_abs m % 10 == 0)) (rest m s h) in
+    let last = second_so (nat_le (unsigned_abs m) (10 ^ 13 * 10 ^ s)) (s == 0 || not (unsigned_abs m % 10 == 0)) (rest_of_test m s h) in
     no_zero (s == 0) (unsigned_abs m % 10 == 0) last (some_places s some) (eq-eqb (unsigned_abs m % 10) 0 divides)

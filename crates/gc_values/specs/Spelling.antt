@@ -5,7 +5,7 @@ use Rattle.std.specs.Prelude.{◌≡◌, ℕ, ◌+◌, ◌*◌, ◌^◌, ◌<◌
 use Rattle.gc_values.specs.Digits.{AreDigits, number}
 use Rattle.gc_values.specs.Fraction.{Fraction, signed, IsRounded}
 
--- a sign that is allowed before digits
+-- the sign before digits: none, a plus or a minus
 pub data Sign : Type 0 where
   Absent : Sign
   Plus : Sign
@@ -23,13 +23,14 @@ is_minus Absent = false
 is_minus Plus = false
 is_minus Minus = true
 
--- `e` or `E`, a sign and digits
+-- an exponent: `E` (where `capital`) or `e`, a sign and digits
 pub record Exponent : Type 0 where
   pub capital : Bool
   pub sign : Sign
   pub digits : List ℕ
 
--- the parts of a number's text; the fraction is there where a point is
+-- the parts of a number's text: a sign, the digits before the point, those after it, where there is a point, and an exponent, where there
+-- is one
 pub record Parts : Type 0 where
   pub sign : Sign
   pub whole : List ℕ
@@ -65,8 +66,8 @@ abbrev pub downs : Option Exponent → ℕ
 downs None = 0
 downs (Some e) = if is_minus e.sign then number e.digits else 0
 
--- one to three digits
-pub record IsShort (digits : List ℕ) : Type 0 where
+-- the digits of an exponent: one to three
+pub record IsExponentDigits (digits : List ℕ) : Type 0 where
   pub digits_are : AreDigits digits
   pub some : 0 < length digits
   pub few : length digits ≤ 3
@@ -74,7 +75,7 @@ pub record IsShort (digits : List ℕ) : Type 0 where
 -- an exponent, where there is one, has one to three digits
 abbrev pub IsExponent : Option Exponent → Type 0
 IsExponent None = Unit {0}
-IsExponent (Some e) = IsShort e.digits
+IsExponent (Some e) = IsExponentDigits e.digits
 
 -- the parts are those of a number's text: digits, at least one of them before or after the point, and a short exponent, if
 -- any
@@ -96,7 +97,7 @@ value p = record {
   k = length (fraction_digits p.fraction) + downs p.exponent;
 }
 
--- the text names the fraction
+-- the text is a number's, and the fraction is its value, before any rounding
 abbrev pub Names : List ℕ → Fraction → Type 0
 Names text q = (p : Parts) × IsNumeral p × (text ≡ spelling p) × (q ≡ value p)
 

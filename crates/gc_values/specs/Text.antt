@@ -25,7 +25,7 @@ pub record IsString (item bytes : List ℕ) : Type 0 where
   pub item_is : item ≡ quoted bytes
   pub plain : AreStringBytes bytes
 
--- the item is a string of at most 64 bytes, these
+-- the item is a string with these bytes between its quotes, at most 64
 pub record IsTextItem (item bytes : List ℕ) : Type 0 where
   pub string : IsString item bytes
   pub few : length bytes ≤ 64

@@ -14,8 +14,8 @@ pub record NamesNumber (text : List ℕ) (n : ℕ) : Type 0 where
   pub some : 0 < length text
   pub value : n ≡ number text
 
--- why the text is no number up to `max`: it is no number, or a greater one
-abbrev pub IsNumberFault : ℕ → List ℕ → ValueFault → Type 0
+-- why the text is no number up to `max`: it isn't one or more digits (`Spelling`), or its number is greater (`Range`)
+abbrev pub IsNumberFault : (max : ℕ) (text : List ℕ) → ValueFault → Type 0
 IsNumberFault max text e = ((e ≡ Spelling) × ((n : ℕ) → NamesNumber text n → ⊥)) ⊎ ((e ≡ Range) × ((n : ℕ) × NamesNumber text n × (max < n)))
 
 -- the text is a sign or none, and one or more digits, which write z
@@ -28,7 +28,7 @@ pub record NamesWhole (text : List ℕ) (z : ℤ) : Type 0 where
   pub value : z ≡ signed (is_minus sign) n
 
 -- z is from -below to above
-abbrev pub IsBetween : ℕ → ℕ → ℤ → Type 0
+abbrev pub IsBetween : (below above : ℕ) → ℤ → Type 0
 IsBetween below above z = (neg_ℤ (pos below) ≤ℤ z) × (z ≤ℤ pos above)
 
 -- z is in the range of a Long
@@ -44,11 +44,11 @@ abbrev pub NamesNoWhole : List ℕ → Type 0
 NamesNoWhole text = (z : ℤ) → NamesWhole text z → ⊥
 
 -- the text writes a whole number that isn't from -below to above
-abbrev pub NamesWholeBeyond : ℕ → ℕ → List ℕ → Type 0
+abbrev pub NamesWholeBeyond : (below above : ℕ) (text : List ℕ) → Type 0
 NamesWholeBeyond below above text = (z : ℤ) × NamesWhole text z × (IsBetween below above z → ⊥)
 
--- why the text is no whole number from -below to above: it is none, or one outside
-abbrev pub IsWholeFault : ℕ → ℕ → List ℕ → ValueFault → Type 0
+-- why the text is no whole number from -below to above: it writes none (`Spelling`), or one outside (`Range`)
+abbrev pub IsWholeFault : (below above : ℕ) (text : List ℕ) → ValueFault → Type 0
 IsWholeFault below above text e = ((e ≡ Spelling) × NamesNoWhole text) ⊎ ((e ≡ Range) × NamesWholeBeyond below above text)
 
 -- a whole number, written: a minus where it is below zero, and digits without leading zeros

@@ -1,4 +1,4 @@
-//! A decimal that is rounded on its way out.
+//! Appending a decimal that is rounded first.
 
 ghost use Rattle.std.specs.Prelude.{◌≡◌, ◌+◌, ◌≤◌, ◌++◌};
 ghost use Rattle.arrayvec.specs.ArrayVec.{array_vec_len};
@@ -8,7 +8,7 @@ ghost use Rattle.gc_values.specs.Written.{written};
 use crate::decimal::{Decimal, push_decimal};
 use arrayvec::ArrayVec;
 
-/// Rounds a decimal to at most this many places, half away from zero, and appends its written form.
+/// Rounds a decimal to at most this many places, half away from zero, and appends its written form, at most 40 bytes.
 pub fn push_rounded<const N: usize>(out: &mut ArrayVec<u8, N>, d: &Decimal, places: u8)
     requires room { array_vec_len out.old + 40 ≤ N }
     requires places { places ≤ 24 }

@@ -57,6 +57,7 @@ pub fn push_byte<const N: usize>(out: &mut ArrayVec<u8, N>, v: u8)
     ensures len { array_vec_len out.new ≡ array_vec_len out.old + 4 }
 {
     let mut digits = [0u8; 2];
+    // Two places hold the digits of one byte, and the caller has shown that there is room, so neither call fails.
     let _ = encode_to_slice([v], &mut digits);
     let _ = out.try_extend_from_slice(&[b'\'', digits[0], digits[1], b'\'']);
 }

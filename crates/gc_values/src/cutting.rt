@@ -3,9 +3,9 @@
 ghost use Rattle.std.specs.Prelude.{◌≡◌, ℕ, ◌+◌, ◌<◌, ◌≤◌, ◌++◌, ◌∷◌, Bool, List, length, Option, IfSome, IfNone};
 ghost use Rattle.gc_values.specs.Cut.{CutsDigits, CutsSign, StartsNoDigit, StartsNoPoint, ReadsExponent, StartsNoMark, CutsFraction};
 ghost use Rattle.gc_values.specs.Digits.{AreDigits, number};
-ghost use Rattle.gc_values.specs.Spelling.{Exponent, IsExponent, IsShort, exponent_text, mark};
+ghost use Rattle.gc_values.specs.Spelling.{Exponent, IsExponent, IsExponentDigits, exponent_text, mark};
 
-/// Cuts the longest run of digits off the front, and returns it and the rest.
+/// Cuts the longest run of digits off the front, and returns it, which may be empty, and the rest.
 pub fn cut_digits(text: &[u8]) -> (&[u8], &[u8])
     ensures { CutsDigits text.now result.0.now result.1.now }
 {
@@ -42,8 +42,8 @@ fn cut_mark(text: &[u8]) -> Option<&[u8]>
 
 /// The number that one to three digits write. `None`: the text is something else.
 fn short_number(text: &[u8]) -> Option<u16>
-    ensures found { IfSome result (λ n. IsShort text.now × (n ≡ number text.now) × (n < 1000)) }
-    ensures none { IfNone result (IsShort text.now → ⊥) }
+    ensures found { IfSome result (λ n. IsExponentDigits text.now × (n ≡ number text.now) × (n < 1000)) }
+    ensures none { IfNone result (IsExponentDigits text.now → ⊥) }
 {
     if text.is_empty() || text.len() > 3 {
         return None;
@@ -58,8 +58,8 @@ fn short_number(text: &[u8]) -> Option<u16>
     Some(value)
 }
 
-/// Reads an exponent, or an empty text as none. It returns how often the exponent multiplies by ten, and how often it divides.
-/// `None`: the text is something else.
+/// Reads an exponent: how many times it multiplies by ten, and how many times it divides by ten. An empty text, which is no
+/// exponent, is (0, 0). `None`: the text is something else.
 pub fn exponent(text: &[u8]) -> Option<(u16, u16)>
     ensures found { IfSome result (λ r. ReadsExponent text.now r.0 r.1) }
     ensures small { IfSome result (λ r. (r.0 < 1000) × (r.1 < 1000)) }
@@ -86,7 +86,8 @@ fn cut_point(text: &[u8]) -> Option<&[u8]>
     }
 }
 
-/// Cuts off a point and the digits after it, and returns these digits and the rest. Without a point no digit is cut off.
+/// Cuts off a point and the digits after it, and returns these digits and the rest. Without a point at the front nothing is cut
+/// off. The text doesn't begin with a digit.
 pub fn cut_fraction(text: &[u8]) -> (&[u8], &[u8])
     requires { StartsNoDigit text.now }
     ensures { CutsFraction text.now result.0.now result.1.now }

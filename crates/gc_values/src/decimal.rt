@@ -30,14 +30,16 @@ use std::{fmt, str};
 /// parameter's: radians for an angle, metres for a length.
 #[derive(Clone, Copy, Debug, PartialEq, Eq, Hash)]
 pub struct Decimal {
+    // The value times 10^scale.
     digits: i128,
+    // How many places follow the point.
     scale: u8,
     pub ghost has_few_places: { scale ≤ 24 },
     pub ghost is_in_range: { IsInRange digits scale },
     pub ghost is_canonical: { IsCanonical digits scale },
 }
 
-/// `digits / 10^scale` with no place more than it needs, as its digits and its scale, in 64 bits.
+/// As [`without_zeros`], in 64 bits.
 fn without_short_zeros(mut digits: u64, mut scale: u8) -> (u64, u8)
     ensures { WithoutZeros digits scale result.0 result.1 }
 {
@@ -48,7 +50,8 @@ fn without_short_zeros(mut digits: u64, mut scale: u8) -> (u64, u8)
     (digits, scale)
 }
 
-/// `magnitude / 10^scale` with no place more than it needs, as its magnitude and its scale.
+/// `magnitude / 10^scale` without the zeros at its end, as its magnitude and its scale. It is computed in 64 bits where the
+/// magnitude fits, because a division of 128 bits is slow.
 fn without_zeros(mut magnitude: u128, mut scale: u8) -> (u128, u8)
     ensures { WithoutZeros magnitude scale result.0 result.1 }
 {
@@ -85,7 +88,8 @@ fn nearest(a: u128, b: u128) -> u128
     if rest >= b - rest { below + 1 } else { below }
 }
 
-/// Writes the digits after the point of `magnitude / 10^scale` into `tail`, and returns the integer part.
+/// Writes the digits after the point of `magnitude / 10^scale` into an empty `tail`, at least one, and returns the integer
+/// part.
 fn put_places(tail: &mut Tail, magnitude: u128, scale: u8) -> u64
     requires empty { tail.old ≡ [] }
     requires places { scale ≤ 24 }
@@ -124,6 +128,7 @@ pub fn push_decimal<const N: usize>(out: &mut ArrayVec<u8, N>, d: &Decimal)
 {
     let mut tail = Tail::new();
     d.put(&mut tail);
+    // The caller has shown that there is room, so this never fails.
     let _ = out.try_extend_from_slice(tail.as_bytes());
 }
 
@@ -153,7 +158,7 @@ impl Decimal {
 
     /// The decimal of the value `digits / 10^scale`.
     ///
-    /// It is refused as `Range` exactly where the scale passes 24 or the value passes the bound.
+    /// It is refused as `Range` exactly where the scale is above 24 or the value is more than 10^13 from zero.
     pub fn new(digits: i128, scale: u8) -> Result<Decimal, ValueFault>
         ensures value { IfOk result (λ d. SameValue d.digits d.scale digits scale) }
         ensures exact { IsOk result ↔ ((scale ≤ 24) × IsInRange digits scale) }
@@ -165,7 +170,8 @@ impl Decimal {
         Decimal::in_range(digits < 0, digits.unsigned_abs(), scale)
     }
 
-    /// The decimal of `magnitude / 10^scale` with this sign. It is refused as `Range` where it passes the bound.
+    /// The decimal of `magnitude / 10^scale` with this sign. It is refused as `Range` exactly where `magnitude / 10^scale` is above
+    /// 10^13.
     fn in_range(negative: bool, magnitude: u128, scale: u8) -> Result<Decimal, ValueFault>
         requires { scale ≤ 24 }
         ensures made { IfOk result (λ d. MadeOf negative magnitude scale d.digits d.scale) }
@@ -194,8 +200,8 @@ impl Decimal {
     /// Reads a number's text, and rounds it to 24 places, half away from zero.
     ///
     /// The text is an optional sign, digits with an optional point among, before or after them, and optionally `e` or `E`
-    /// with an optional sign and one to three digits. Another text is refused as `Spelling`, and a rounded value past the
-    /// bound as `Range`.
+    /// with an optional sign and one to three digits. Any other text is refused as `Spelling`, and a rounded value that is more
+    /// than 10^13 from zero as `Range`.
     pub fn read(text: &[u8]) -> Result<Decimal, ValueFault>
         ensures value { IfOk result (λ d. Spells text.now d.digits d.scale) }
         ensures only { (d : Decimal) → Spells text.now d.digits d.scale → result ≡ Ok d }
@@ -213,7 +219,7 @@ impl Decimal {
 
     /// The value rounded to at most this many places, half away from zero.
     ///
-    /// This never leaves the range, because the bound is a whole number.
+    /// The result is always in range, because the bound, 10^13, is a whole number.
     pub fn round(&self, places: u8) -> Decimal
         requires { places ≤ 24 }
         ensures rounding { IsRounded (fraction self.now) places result.digits result.scale }
@@ -252,7 +258,8 @@ impl Decimal {
         }
     }
 
-    /// Whether two values are at most the distance `area` apart. No two values are within a distance below zero.
+    /// Whether two values are at most the distance `area` apart; never, where `area` is below zero.
+    #[inline(always)]
     pub fn within(&self, other: &Decimal, area: &Decimal) -> bool
         ensures fact { IsTrue result
             ↔ IsWithin (fraction self.now) (fraction other.now) (fraction area.now) }

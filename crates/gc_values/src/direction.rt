@@ -1,5 +1,5 @@
 //! Directions of a telescope, and whether one is near another: all arithmetic on directions is here, in whole numbers of 10^-24
-//! radians.
+//! radians. A decimal has at most 10^37 of these, so that the sums here fit in 128 bits.
 
 ghost use Rattle.std.specs.Prelude.{◌≡◌, ◌≤◌, ◌*◌, ◌^◌, unsigned_abs};
 ghost use Rattle.gc_values.specs.Directions.{v_of, hz_of, is_close, is_close_turned, is_close_on_circle, is_near, is_up_to, is_place, is_tolerance};
@@ -9,7 +9,7 @@ use crate::decimal::Decimal;
 // Half a turn, pi to 24 places, in units of 10^-24 radians.
 const HALF_TURN: i128 = 3_141_592_653_589_793_238_462_643;
 
-// A whole turn.
+// A whole turn, in units of 10^-24 radians.
 const TURN: i128 = 6_283_185_307_179_586_476_925_286;
 
 /// Where a telescope points, in radians.
@@ -21,7 +21,7 @@ pub struct Direction {
     pub v: Decimal,
 }
 
-// Whether x and y are at most `most` apart.
+// Whether the angles x and y are at most `most` apart, all in units of 10^-24 radians.
 fn is_close(most: i128, x: i128, y: i128) -> bool
     requires first { unsigned_abs x ≤ 3 * 10 ^ 37 }
     requires second { unsigned_abs y ≤ 10 ^ 37 }
@@ -30,7 +30,7 @@ fn is_close(most: i128, x: i128, y: i128) -> bool
     (x - y).abs() <= most
 }
 
-// Whether x plus `turns` whole turns and y are at most `most` apart.
+// Whether the angles x plus `turns` whole turns and y are at most `most` apart, all in units of 10^-24 radians.
 fn is_close_turned(most: i128, turns: i128, x: i128, y: i128) -> bool
     requires few { unsigned_abs turns ≤ 2 }
     requires first { unsigned_abs x ≤ 2 * 10 ^ 37 }

@@ -19,7 +19,7 @@ pub enum ValueFault {
     OpenQuote,
     /// A list has more than 16 parameters.
     TooMany,
-    /// A procedure has another number of parameters than the list.
+    /// The list has another number of parameters than the procedure takes.
     Count,
 }
 

@@ -6,17 +6,15 @@ ghost use Rattle.std.specs.Option.{option_copied};
 ghost use Rattle.gc_values.specs.Plainly.{CountsDigits, CutsDecimal, CutsNumber, IsItemAndRest};
 
 use crate::decimal::Decimal;
+use crate::limits::SHORT;
 
-/// A number with this many digits before the point is in a decimal's range.
+/// Any number with this many digits before the point is in a decimal's range.
 const WHOLE: usize = 13;
 
-/// Any number of this many digits fits in 64 bits.
-const SHORT: usize = 18;
-
-/// Reads at most `most` digits at the front of `text`. It returns the number that is written by the digits of `front`, followed
-/// by the digits read, and how many digits it read.
+/// Reads the digits at the front of `text`, at most `most` of them. It returns the number that the digits of `front` and then
+/// those read write, and how many digits it read.
 #[inline]
-fn counted(front: u64, text: &[u8], most: usize) -> (u64, usize)
+fn front_digits(front: u64, text: &[u8], most: usize) -> (u64, usize)
     requires { (front + 1) * 10 ^ most ≤ 10 ^ 18 }
     ensures { CountsDigits front text.now most result.0 result.1 }
 {
@@ -30,8 +28,8 @@ fn counted(front: u64, text: &[u8], most: usize) -> (u64, usize)
     (value, text.len())
 }
 
-/// What follows an item, where `text` is all of the list after that item: `Some(None)` at the end of the list, and else the
-/// bytes after a comma. `None`: neither the end nor a comma follows the item.
+/// What follows an item, where `text` is all of the list after that item: `Some(None)` at the end of the list, and
+/// `Some(Some(rest))` where a comma and then `rest` follow. `None`: neither the end nor a comma follows the item.
 #[inline]
 fn behind_item(text: &[u8]) -> Option<Option<&[u8]>>
     ensures { IfSome result (λ rest. IsItemAndRest text.now [] (option_copied rest)) }
@@ -43,28 +41,29 @@ fn behind_item(text: &[u8]) -> Option<Option<&[u8]>>
     }
 }
 
-/// The decimal at the front, and what follows its comma, if there is one. `None`: no decimal in the common spelling is
-/// there.
+/// The decimal at the front, and what follows its comma, if there is one. `None`: the text doesn't begin with 1 to 13 digits, a
+/// point, and any digits after it, at most 18 digits in all, with a comma or the end of the text after them.
 pub fn front_decimal(text: &[u8]) -> Option<(Decimal, Option<&[u8]>)>
     ensures { IfSome result (λ r. CutsDecimal text.now r.0 (option_copied r.1)) }
 {
-    let (whole, at) = counted(0, text, WHOLE);
+    let (whole, at) = front_digits(0, text, WHOLE);
     if at == 0 || at >= text.len() || text[at] != b'.' {
         return None;
     }
     let behind = &text[at + 1..];
-    let (value, places) = counted(whole, behind, SHORT - at);
+    let (value, places) = front_digits(whole, behind, SHORT - at);
     let rest = behind_item(&behind[places..])?;
     let decimal = Decimal::from_parts(false, u128::from(value), places as u8);
     Some((decimal, rest))
 }
 
-/// The whole number at the front, and what follows its comma, if there is one. `None`: no number of 1 to 18 digits is there.
+/// The whole number at the front, and what follows its comma, if there is one. `None`: the text doesn't begin with 1 to 18 digits,
+/// with a comma or the end of the text after them.
 #[inline]
 pub fn front_number(text: &[u8]) -> Option<(u64, Option<&[u8]>)>
     ensures { IfSome result (λ r. CutsNumber text.now r.0 (option_copied r.1)) }
 {
-    let (number, count) = counted(0, text, SHORT);
+    let (number, count) = front_digits(0, text, SHORT);
     if count == 0 {
         return None;
     }

@@ -1,4 +1,4 @@
-//! Parameter lists. All cutting at commas, counting of quotes and trimming of spaces lives here.
+//! Parameter lists. All cutting at commas, counting of quotes and trimming of spaces is here.
 //! Commas between parameters and strings in double quotes are the GeoCOM manual's; the spaces round
 //! an item and the limit are this project's own.
 

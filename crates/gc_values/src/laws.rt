@@ -4,7 +4,7 @@
 ghost use Rattle.std.specs.Prelude.{◌≡◌, ◌≢◌, ◌↔◌, ◌<◌, ◌≤◌, ℕ, ℤ, List, All, length, map};
 ghost use Rattle.std.specs.List.{AllByRecursion};
 ghost use Rattle.gc_values.specs.Item.{kind_of, IsItem, IsItemFault, IsValue, text};
-ghost use Rattle.gc_values.specs.Lists.{IsListRead};
+ghost use Rattle.gc_values.specs.Lists.{IsListReadOrFaulty};
 ghost use Rattle.gc_values.specs.Params.{IsParams, joined};
 ghost use Rattle.gc_values.specs.Whole.{NamesWhole, signed_text};
 ghost use Rattle.gc_values.specs.WrittenForm.{HasWholeForm};
@@ -72,5 +72,5 @@ pub fn item_is_a_value()
 
 /// Each list of parameters is read as values of the kinds that are asked for, or has a fault.
 pub fn each_list_is_read_or_faulty()
-    ensures { (kinds : List Kind) (params : List ℕ) → IsListRead kinds params }
+    ensures { (kinds : List Kind) (params : List ℕ) → IsListReadOrFaulty kinds params }
 {}

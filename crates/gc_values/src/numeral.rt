@@ -6,13 +6,18 @@ ghost use Rattle.gc_values.specs.Spelling.{Parts, IsNumeral, spelling};
 
 use crate::cutting::{cut_digits, cut_fraction, cut_sign, exponent};
 
-/// A number's text, cut into its parts. The exponent multiplies by ten `up` times and divides by it `down` times.
+/// The parts of a number's text.
 #[derive(Clone, Copy)]
 pub struct Numeral<'a> {
+    /// Whether the sign is a minus.
     pub negative: bool,
+    /// The digits before the point.
     pub whole: &'a [u8],
+    /// The digits after the point.
     pub fraction: &'a [u8],
+    /// How many times the exponent multiplies by ten.
     pub up: u16,
+    /// How many times the exponent divides by ten.
     pub down: u16,
 }
 

@@ -20,10 +20,11 @@ use crate::value::{Kind, Value};
 /// Parameters that are asked for one after the other, from the left. Where one is missing or can't be read, a zero of
 /// its kind is given (false, or an empty string), and the next one can be asked for all the same.
 ///
-/// The clauses of each call go from the state after it to the state before: what is then left is read as `vs` only where what was
-/// left before is read as the call's result followed by `vs`; and so for the faults, by the kind that was asked for.
+/// The clauses of each call go from the state after it to the state before it. `reads`: if the parameters left after the call
+/// read as `vs`, those left before it read as the call's result and then `vs`. `fails`: if `e` is the fault where the kinds `ks`
+/// are asked for after the call, it is the fault where the call's kind and then `ks` are asked for before it.
 pub trait Parameters {
-    /// The parameters that are left are read as these values, and all went well so far.
+    /// The parameters that are left are read as these values, and each one asked for so far was read.
     ghost reads: { Self → List Value → Type 0 };
 
     /// Where parameters of these kinds are asked for next, and then none, this is the fault of the whole list.
@@ -84,7 +85,8 @@ impl<'a> Listed<'a> {
         }
     }
 
-    /// `Ok`: just the parameters that were asked for are there, and each was read.
+    /// Whether the list had just the parameters that were asked for: `Ok` where it had, and each was read, else the list's
+    /// fault.
     ///
     /// The faults come in this order: an odd number of double quotes, more than 16 items, another number of items
     /// than were asked for, and the fault of the first item from the left that isn't a value of its kind.
@@ -177,7 +179,7 @@ impl<'a> Parameters for Listed<'a> {
     }
 }
 
-// The decimal that a value is, or zero.
+// The decimal that a value is. It is zero where there is no value, or one of another kind.
 fn decimal_of(value: &Option<Value>) -> Decimal
     ensures { (d : Decimal) → value.now ≡ Some (Value.Double d) → result ≡ d }
 {
@@ -187,7 +189,7 @@ fn decimal_of(value: &Option<Value>) -> Decimal
     }
 }
 
-// The text that a value is, or the empty one.
+// The text that a value is. It is empty where there is no value, or one of another kind.
 fn text_of(value: &Option<Value>) -> Text
     ensures { (t : List ℕ) → value.now ≡ Some (Value.Text t) → result ≡ t }
 {

@@ -2,6 +2,7 @@
 
 ghost use Rattle.std.specs.Prelude.{◌≡◌, ◌^◌, ◌≤◌};
 
+// The powers of ten from 10^0 to 10^24.
 const POWERS: [u128; 25] = [
     1,
     10,

@@ -18,7 +18,7 @@ use crate::text::Text;
 use crate::whole::{read_bool, read_long, read_short};
 
 /// The parameters of a list in the common spelling. Where they aren't just what was asked for, or one has another
-/// spelling, [`Quick::is_done`] says no at the end. Then nothing is known of the list, and
+/// spelling, [`Quick::is_done`] returns false at the end. Then nothing is known of the list, and
 /// [`Listed`](crate::Listed) reads it again.
 #[derive(Drop)]
 pub struct Quick<'a> {
@@ -46,7 +46,8 @@ impl<'a> Quick<'a> {
         }
     }
 
-    /// Whether just the parameters that were asked for are there, and each was read.
+    /// Whether just the parameters that were asked for are there, and each was read. Where it returns false, nothing is known of the
+    /// list.
     #[inline]
     pub fn is_done(&self) -> bool
         ensures { IsTrue result → ⟦<Quick<'a> as Parameters>⟧.reads self.now [] }
@@ -54,7 +55,7 @@ impl<'a> Quick<'a> {
         self.good && self.rest.is_none()
     }
 
-    // The next item. Where there is none in the common spelling, it has no bytes, and the list isn't good.
+    // The next item. Where none in the common spelling follows, the result is empty, and the list isn't good any more.
     #[inline]
     fn item(&mut self) -> &'a [u8]
         ensures { (v : Value) (vs : List Value) → ReadsPlainly self.new.good (option_copied self.new.rest) vs → IsItem result.now v
@@ -70,7 +71,7 @@ impl<'a> Quick<'a> {
         &[]
     }
 
-    // The next whole number, if it has at most 18 digits and no sign. `None`: nothing was taken.
+    // The next whole number, if it has 1 to 18 digits and no sign. `None`: it hasn't, and nothing was taken.
     #[inline]
     fn number(&mut self) -> Option<u64>
         ensures reads { IfSome result (λ n. (v : Value) (vs : List Value) → ((item : List ℕ) → NamesWhole item (pos n) → IsItem item v)
@@ -86,7 +87,7 @@ impl<'a> Quick<'a> {
         None
     }
 
-    // The next decimal, which may have a minus, an exponent or many digits. Where none reads: zero, and the list isn't good.
+    // The next decimal, also one with a minus, an exponent or many digits. Where none follows: zero, and the list isn't good any more.
     #[inline(never)]
     fn longer_double(&mut self) -> Decimal
         ensures { (vs : List Value) → ReadsPlainly self.new.good (option_copied self.new.rest) vs
@@ -101,7 +102,7 @@ impl<'a> Quick<'a> {
         }
     }
 
-    // The next whole number of 32 bits, which may have a minus or many digits. Where none reads: 0, and the list isn't good.
+    // The next whole number of 32 bits, also one with a minus or many digits. Where none follows: 0, and the list isn't good any more.
     #[inline(never)]
     fn longer_long(&mut self) -> i32
         ensures { (vs : List Value) → ReadsPlainly self.new.good (option_copied self.new.rest) vs
@@ -116,7 +117,7 @@ impl<'a> Quick<'a> {
         }
     }
 
-    // The next whole number of 16 bits, which may have a minus or many digits. Where none reads: 0, and the list isn't good.
+    // The next whole number of 16 bits, also one with a minus or many digits. Where none follows: 0, and the list isn't good any more.
     #[inline(never)]
     fn longer_short(&mut self) -> i16
         ensures { (vs : List Value) → ReadsPlainly self.new.good (option_copied self.new.rest) vs
@@ -131,7 +132,7 @@ impl<'a> Quick<'a> {
         }
     }
 
-    // The next Boolean, which may have a minus or many digits. Where none reads: false, and the list isn't good.
+    // The next Boolean, also one with a minus or many digits. Where none follows: false, and the list isn't good any more.
     #[inline(never)]
     fn longer_boolean(&mut self) -> bool
         ensures { (vs : List Value) → ReadsPlainly self.new.good (option_copied self.new.rest) vs
@@ -227,7 +228,8 @@ impl<'a> Parameters for Quick<'a> {
     }
 }
 
-// The item at the front in the common spelling, and what follows its comma, if there is one. `None`: none is there.
+// The item at the front, where it has the common spelling, and what follows its comma, if there is one. `None`: it has another
+// spelling, or is empty.
 #[inline]
 fn cut_plain(text: &[u8]) -> Option<(&[u8], Option<&[u8]>)>
     ensures { IfSome result (λ cut. CutsPlain text.now cut.0.now (option_copied cut.1)) }

@@ -27,7 +27,7 @@ impl Model for Tail {
 }
 
 impl Tail {
-    /// An end that has no byte yet.
+    /// The end of a text without any bytes.
     #[inline]
     pub fn new() -> Tail
         ensures { result ≡ [] }
@@ -48,7 +48,7 @@ impl Tail {
         self.bytes[self.start] = byte;
     }
 
-    /// Puts the last `count` digits of a number in front, and returns the number without them.
+    /// Puts the last `count` digits of a number in front, with leading zeros, and returns the number without them.
     #[inline]
     pub fn put_last(&mut self, n: u64, count: u8) -> u64
         requires { length self.old + count ≤ 40 }
@@ -65,7 +65,7 @@ impl Tail {
         rest
     }
 
-    /// Puts a whole number in front, without leading zeros.
+    /// Puts a whole number of at most 14 digits in front, without leading zeros.
     #[inline]
     pub fn put_whole(&mut self, n: u64)
         requires room { length self.old + 14 ≤ 40 }
@@ -83,7 +83,7 @@ impl Tail {
         }
     }
 
-    /// Puts the last `count` digits of a number in front. The number may have more than 64 bits.
+    /// Puts a number of at most `count` digits in front, with leading zeros. The number may have more than 64 bits.
     pub fn put_fraction(&mut self, n: u128, count: u8)
         requires room { length self.old + count ≤ 40 }
         requires few { count ≤ 24 }

@@ -17,6 +17,7 @@ pub const TEXT_BYTES: usize = 64;
 #[derive(Clone, Copy, Debug, PartialEq, Eq)]
 pub struct Text {
     bytes: [u8; TEXT_BYTES],
+    // How many bytes are used, from the first on.
     len: u8,
 }
 
@@ -25,11 +26,11 @@ impl Model for Text {
 
     ghost Value = { List ℕ };
 
-    ghost use Rattle.gc_values.specs.Padding.{IsKept, padded_back};
+    ghost use Rattle.gc_values.specs.Padding.{IsZeroPadded, padded_back};
 
     ghost view = { λ t. take t.len t.bytes };
 
-    ghost invariant = { IsKept };
+    ghost invariant = { IsZeroPadded };
 
     ghost inverse = { λ bs. record { bytes = bs ++ replicate (64 - length bs) 0; len = length bs } };
 
@@ -55,7 +56,7 @@ fn are_string_bytes(bytes: &[u8]) -> bool
     true
 }
 
-/// The bytes, and zeros after them up to 64.
+/// The bytes, at most 64, with zeros after them up to 64.
 fn filled_up(bytes: &[u8]) -> [u8; TEXT_BYTES]
     requires { length bytes.now ≤ 64 }
     ensures { result ≡ bytes.now ++ replicate (64 - length bytes.now) 0 }
@@ -141,6 +142,7 @@ pub fn push_text<const N: usize>(out: &mut ArrayVec<u8, N>, v: &Text)
     ensures len { array_vec_len out.new ≤ array_vec_len out.old + 66 }
 {
     out.push(b'"');
+    // The caller has shown that there is room, so this never fails.
     let _ = out.try_extend_from_slice(v.as_bytes());
     out.push(b'"');
 }

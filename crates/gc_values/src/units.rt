@@ -5,15 +5,12 @@
 ghost use Rattle.std.specs.Prelude.{◌≡◌, ℕ, ◌+◌, ◌*◌, ◌^◌, ◌<◌, ◌≤◌, ◌++◌, length, min};
 ghost use Rattle.gc_values.specs.Digits.{AreDigits, number};
 ghost use Rattle.gc_values.specs.KeptDigits.{digit_or_zero, kept, kept_and_rounded};
-ghost use Rattle.gc_values.specs.Nearest.{IsCapped};
+ghost use Rattle.gc_values.specs.Nearest.{IsRoundedWithCap};
 
-use crate::limits::PLACES;
+use crate::limits::{PLACES, SHORT};
 
 /// One more than a decimal's greatest number of units of the last place. Every greater number is taken for this one.
 const CAP: u128 = 10_000_000_000_000_000_000_000_000_000_000_000_001;
-
-/// Any number of this many digits fits in 64 bits.
-const SHORT: usize = 18;
 
 /// The digit at a place of both runs of digits in a row, and 0 after the last one.
 #[tactic(auto, using(crate::proofs::Kept::at_first, crate::proofs::Kept::at_second, crate::proofs::Kept::at_neither, crate::proofs::Kept::is_digit))]
@@ -47,8 +44,8 @@ fn kept_digits(whole: &[u8], fraction: &[u8], count: usize) -> u128
     kept
 }
 
-/// The number of the first `count` digits, as `kept_digits` gives it, rounded by the digit after them: 1 more where that is
-/// 5 or above. At most the cap.
+/// The number of the first `count` digits, as `kept_digits` returns it, and 1 more where the digit after them is 5 or above. At
+/// most the cap.
 fn rounded(whole: &[u8], fraction: &[u8], count: usize) -> u128
     requires whole { AreDigits whole.now }
     requires fraction { AreDigits fraction.now }
@@ -66,6 +63,7 @@ fn rounded(whole: &[u8], fraction: &[u8], count: usize) -> u128
 fn with_zeros(kept: u128, zeros: usize) -> u128
     ensures { result ≡ min CAP (kept * 10 ^ zeros) }
 {
+    // 10^38 is above the cap and fits in 128 bits, so more zeros change nothing.
     let power = 10u128.pow(zeros.min(38) as u32);
     kept.saturating_mul(power).min(CAP)
 }
@@ -100,7 +98,7 @@ fn short_number(whole: &[u8], fraction: &[u8]) -> u64
 pub fn units(whole: &[u8], fraction: &[u8], up: u16, down: u16) -> (u128, u8)
     requires whole { AreDigits whole.now }
     requires fraction { AreDigits fraction.now }
-    ensures { IsCapped (number (whole.now ++ fraction.now) * 10 ^ up)
+    ensures { IsRoundedWithCap (number (whole.now ++ fraction.now) * 10 ^ up)
         (length fraction.now + down) CAP result.0 result.1 }
 {
     let length = whole.len() + fraction.len();

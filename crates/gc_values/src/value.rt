@@ -98,8 +98,8 @@ impl Value {
         }
     }
 
-    /// Writes the value in its kind's one written form, which reads back. A double has all its
-    /// places.
+    /// Writes the value in its kind's one written form, which reads back. A double is written with all
+    /// its places.
     pub fn write(&self) -> ArrayVec<u8, 66>
         ensures text { result.items ≡ text self.now }
         ensures value { IsValue self.now }

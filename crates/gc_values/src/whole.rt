@@ -22,7 +22,7 @@ pub fn read_whole(item: &[u8], max: u64) -> Result<u64, ValueFault>
     if item.is_empty() {
         return Err(ValueFault::Spelling);
     }
-    // Stands for every number above `max`, so that no run of digits overflows.
+    // In place of every number above `max` this one is computed, so that no run of digits overflows.
     let above = u128::from(max) + 1;
     let mut value = 0;
     for byte in item {
@@ -37,8 +37,8 @@ pub fn read_whole(item: &[u8], max: u64) -> Result<u64, ValueFault>
     Ok(value as u64)
 }
 
-/// Reads an optional sign and one or more digits as a number from `-below` to `above`; what has not
-/// this form is refused as `Spelling`, and another number as `Range`.
+/// Reads an optional sign and one or more digits as a number from `-below` to `above`. What doesn't
+/// have this form is refused as `Spelling`, and any other number as `Range`.
 fn read_between(item: &[u8], below: u32, above: u32) -> Result<i64, ValueFault>
     ensures value { IfOk result (λ z. NamesWhole item.now z × IsBetween below above z) }
     ensures only { (z : ℤ) → NamesWhole item.now z → IsBetween below above z → result ≡ Ok z }
@@ -50,8 +50,8 @@ fn read_between(item: &[u8], below: u32, above: u32) -> Result<i64, ValueFault>
     Ok(if negative { -magnitude } else { magnitude })
 }
 
-/// Reads a Long: an optional sign and one or more digits, from -2147483648 to 2147483647. What has
-/// not this form is refused as `Spelling`, and another number as `Range`.
+/// Reads a Long: an optional sign and one or more digits, from -2147483648 to 2147483647. What
+/// doesn't have this form is refused as `Spelling`, and any other number as `Range`.
 pub fn read_long(item: &[u8]) -> Result<i32, ValueFault>
     ensures value { IfOk result (λ z. NamesWhole item.now z × FitsLong z) }
     ensures only { (z : ℤ) → NamesWhole item.now z → FitsLong z → result ≡ Ok z }
@@ -60,8 +60,8 @@ pub fn read_long(item: &[u8]) -> Result<i32, ValueFault>
     Ok(read_between(item, 2_147_483_648, 2_147_483_647)? as i32)
 }
 
-/// Reads a Short: an optional sign and one or more digits, from -32768 to 32767. What has not
-/// this form is refused as `Spelling`, and another number as `Range`.
+/// Reads a Short: an optional sign and one or more digits, from -32768 to 32767. What doesn't
+/// have this form is refused as `Spelling`, and any other number as `Range`.
 pub fn read_short(item: &[u8]) -> Result<i16, ValueFault>
     ensures value { IfOk result (λ z. NamesWhole item.now z × FitsShort z) }
     ensures only { (z : ℤ) → NamesWhole item.now z → FitsShort z → result ≡ Ok z }
@@ -70,8 +70,8 @@ pub fn read_short(item: &[u8]) -> Result<i16, ValueFault>
     Ok(read_between(item, 32_768, 32_767)? as i16)
 }
 
-/// Reads a Boolean: an optional sign and one or more digits, of the value 0 or 1. What has not
-/// this form is refused as `Spelling`, and another number as `Range`.
+/// Reads a Boolean: an optional sign and one or more digits, of the value 0 or 1. What doesn't
+/// have this form is refused as `Spelling`, and any other number as `Range`.
 pub fn read_bool(item: &[u8]) -> Result<bool, ValueFault>
     ensures value { IfOk result (λ b. NamesBoolean item.now b) }
     ensures only { (b : Bool) → NamesBoolean item.now b → result ≡ Ok b }
@@ -99,6 +99,7 @@ pub fn push_long<const N: usize>(out: &mut ArrayVec<u8, N>, v: i32)
 {
     let mut tail = Tail::new();
     put_signed(&mut tail, v);
+    // The caller has shown that there is room, so this never fails.
     let _ = out.try_extend_from_slice(tail.as_bytes());
 }
 
@@ -110,6 +111,7 @@ pub fn push_short<const N: usize>(out: &mut ArrayVec<u8, N>, v: i16)
 {
     let mut tail = Tail::new();
     put_signed(&mut tail, i32::from(v));
+    // The caller has shown that there is room, so this never fails.
     let _ = out.try_extend_from_slice(tail.as_bytes());
 }
 

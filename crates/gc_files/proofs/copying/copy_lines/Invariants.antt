@@ -4,7 +4,7 @@ use Rattle.gc_files.specs.Files.{Life, content}
 use Rattle.gc_files.specs.Rows.{PutsAll}
 use Rattle.gc_files.proofs.copying.copy_lines.Given as goal
 
--- the first bytes were copied, and their lines counted
+-- the first `at` bytes of `old` were appended to `fresh`, and `lines` is how many line feeds are among them
 abbrev pub invariant-loop-at : goal.invariant-loop-at
 invariant-loop-at g l = record {
   within : l.at ≤ l.len;

@@ -2,7 +2,7 @@ use Rattle.std.proofs.Common.{◌≡◌, ◌≤◌, ◌-◌, length, take}
 use Rattle.gc_files.specs.Failing.{feeds}
 use Rattle.gc_files.proofs.copying.feeds_in.Given as goal
 
--- so many line feeds are among the first bytes
+-- `count` is how many line feeds are among the first `at` bytes
 abbrev pub invariant-loop-at : goal.invariant-loop-at
 invariant-loop-at l = record {
   within : l.at ≤ length l.block;

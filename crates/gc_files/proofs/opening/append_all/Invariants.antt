@@ -2,7 +2,7 @@ use Rattle.std.proofs.Common.{◌≤◌, ◌-◌, length, take}
 use Rattle.gc_files.specs.Rows.{PutsAll}
 use Rattle.gc_files.proofs.opening.append_all.Given as goal
 
--- so many of the bytes went out
+-- the first `done` bytes were appended
 abbrev pub invariant-loop-done : goal.invariant-loop-done
 invariant-loop-done g l = record {
   within : l.done ≤ length l.bytes;

@@ -3,7 +3,7 @@ use Rattle.gc_files.specs.Files.{Life, content}
 use Rattle.gc_files.specs.Rows.{has_feed}
 use Rattle.gc_files.proofs.opening.end_of_rows.Given as goal
 
--- no line feed follows here
+-- no line feed is in the file from place `end` on
 abbrev pub invariant-loop-end : goal.invariant-loop-end
 invariant-loop-end g l = record {
   within : l.end ≤ l.len;

@@ -3,7 +3,7 @@ use Rattle.gc_files.specs.Files.{Life, content}
 use Rattle.gc_files.specs.Rows.{fits}
 use Rattle.gc_files.proofs.opening.has_sign.Given as goal
 
--- so far both are the same
+-- the first `at` bytes of the sign and of the file are the same, so that only those after them say whether the file fits the sign
 abbrev pub invariant-loop-at : goal.invariant-loop-at
 invariant-loop-at g l = record {
   sign : l.at ≤ length l.sign;

@@ -2,7 +2,7 @@ use Rattle.std.proofs.Common.{◌≡◌, ◌≤◌, ◌-◌, length, take, drop,
 use Rattle.gc_files.specs.Files.{Life, content}
 use Rattle.gc_files.proofs.opening.read_all.Given as goal
 
--- so much of the buffer is what the file has there
+-- the first `done` bytes of the buffer are those of the file from place `at` on
 abbrev pub invariant-loop-done : goal.invariant-loop-done
 invariant-loop-done g l = record {
   within : l.done ≤ length l.buf;

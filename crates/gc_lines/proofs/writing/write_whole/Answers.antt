@@ -1,6 +1,7 @@
 use Rattle.std.proofs.Common.{ℕ, List, take, sym, ap, ◌∙◌, arith, length-drop}
+use Rattle.std.proofs.Math.Seq.{take-add}
 use Rattle.std.proofs.lemmas.List.{take_rest}
-use Rattle.gc_lines.proofs.Known.{Appends-append, Appends-is, take-plus}
+use Rattle.gc_lines.proofs.Known.{Appends-append, Appends-is}
 use Rattle.gc_lines.proofs.writing.write_whole.Goals as goal
 
 pub loop-at-preserved : goal.loop-at-preserved
@@ -8,7 +9,7 @@ loop-at-preserved g c =
     let at = c.loop-at.at in
     let n = c.in-Ok.n in
     let bytes = c.args.bytes.now in
-    let front = take-plus at n bytes c.loop-at.invariant.within in
+    let front = take-add at n bytes in
     let part = Appends-is _ _ _ _ (ap (λ (xs : List ℕ). take n xs) (take_rest bytes at)) c.in-Ok.ensures.bytes.2 in
     record {
       within = omega (arith, c.in-Ok.ensures.bytes.0, length-drop at bytes);

@@ -1,13 +1,14 @@
 use Rattle.std.proofs.Common.{◌≡◌, ◌∷◌, List, ℕ, Bool, Some, ap, ◌∙◌, cond, subst}
 use Rattle.gc_values.specs.Cut.{CutsSign, ReadsExponent}
 use Rattle.gc_values.specs.Digits.{number}
-use Rattle.gc_values.specs.Spelling.{IsShort, mark}
+use Rattle.gc_values.specs.Spelling.{IsExponentDigits, mark}
 use Rattle.gc_values.proofs.cutting.exponent.Goals as goal
 
 -- a mark, a sign and one to three digits are read as an exponent
-read : (text rest digits : List ℕ) (negative : Bool) (n : ℕ) → (capital : Bool) × (text ≡ mark capital ∷ rest) → CutsSign rest negative digits → IsShort digits × (n ≡ number digits) →
+reads_exponent_text : (text rest digits : List ℕ) (negative : Bool) (n : ℕ) → (capital : Bool) × (text ≡ mark capital ∷ rest)
+    → CutsSign rest negative digits → IsExponentDigits digits × (n ≡ number digits) →
     ReadsExponent text (cond negative 0 n) (cond negative n 0)
-read text rest digits negative n marked signed short = record {
+reads_exponent_text text rest digits negative n marked signed short = record {
   exponent = Some (record { capital = marked.0; sign = signed.sign; digits = digits });
   form = short.0;
   text_is = marked.1 ∙ ap (λ bs. mark marked.0 ∷ bs) signed.text_is;
@@ -17,12 +18,12 @@ read text rest digits negative n marked signed short = record {
 
 pub returns-then-negative-clause-found : goal.returns-then-negative-clause-found
 returns-then-negative-clause-found c =
-    let r = read c.args.text.now c.in_ok-rest.rest.now c.cut_sign-negative.result.1.now c.cut_sign-negative.result.0 c.in_ok-value.value
+    let r = reads_exponent_text c.args.text.now c.in_ok-rest.rest.now c.cut_sign-negative.result.1.now c.cut_sign-negative.result.0 c.in_ok-value.value
     c.in_ok-rest.ensures.found c.cut_sign-negative.ensures (c.in_ok-value.ensures.found.0, c.in_ok-value.ensures.found.1) in
     subst (λ b. ReadsExponent c.args.text.now (cond b 0 c.in_ok-value.value) (cond b c.in_ok-value.value 0)) c.if-negative.true r
 
 pub returns-else-negative-clause-found : goal.returns-else-negative-clause-found
 returns-else-negative-clause-found c =
-    let r = read c.args.text.now c.in_ok-rest.rest.now c.cut_sign-negative.result.1.now c.cut_sign-negative.result.0 c.in_ok-value.value
+    let r = reads_exponent_text c.args.text.now c.in_ok-rest.rest.now c.cut_sign-negative.result.1.now c.cut_sign-negative.result.0 c.in_ok-value.value
     c.in_ok-rest.ensures.found c.cut_sign-negative.ensures (c.in_ok-value.ensures.found.0, c.in_ok-value.ensures.found.1) in
     subst (λ b. ReadsExponent c.args.text.now (cond b 0 c.in_ok-value.value) (cond b c.in_ok-value.value 0)) c.if-negative.false r

@@ -4,21 +4,21 @@ use Rattle.gc_values.proofs.FrontDecimals.{counts_room, front_found, front_range
 use Rattle.gc_values.proofs.Trimming.{slice_to_end}
 use Rattle.gc_values.proofs.front.front_decimal.Goals as goal
 
-pub counted-value-requires : goal.counted-value-requires
-counted-value-requires c =
-    let few = c.counted-whole.ensures.few in
-    counts_room c.args.text.now 13 c.counted-whole.result.0 c.counted-whole.result.1 c.counted-whole.ensures (omega (arith, few))
+pub front_digits-value-requires : goal.front_digits-value-requires
+front_digits-value-requires c =
+    let few = c.front_digits-whole.ensures.few in
+    counts_room c.args.text.now 13 c.front_digits-whole.result.0 c.front_digits-whole.result.1 c.front_digits-whole.ensures (omega (arith, few))
 
 pub from_parts-decimal-requires-clause-range : goal.from_parts-decimal-requires-clause-range
 from_parts-decimal-requires-clause-range c =
-    omega (arith, c.from.ensures, front_range c.args.text.now _ c.counted-whole.result.1 c.counted-value.result.1 _ _ c.counted-whole.ensures c.counted-value.ensures)
+    omega (arith, c.from.ensures, front_range c.args.text.now _ c.front_digits-whole.result.1 c.front_digits-value.result.1 _ _ c.front_digits-whole.ensures c.front_digits-value.ensures)
 
 pub returns : goal.returns
 returns c =
     let text = c.args.text.now in
-    let at = c.counted-whole.result.1 in
-    let places = c.counted-value.result.1 in
+    let at = c.front_digits-whole.result.1 in
+    let places = c.front_digits-value.result.1 in
     let point : get_or text at 0 ≡ 46 = search rules in
     let made = subst (λ v. MadeOf false v places c.from_parts-decimal.result.digits c.from_parts-decimal.result.scale) c.from.ensures c.from_parts-decimal.ensures in
-    front_found text _ _ at places _ _ _ c.from_parts-decimal.result c.counted-whole.ensures (omega arith) (omega arith) point
-    (slice_to_end text (at + 1)) c.counted-value.ensures (slice_to_end _ places) c.in_ok-rest.ensures made
+    front_found text _ _ at places _ _ _ c.from_parts-decimal.result c.front_digits-whole.ensures (omega arith) (omega arith) point
+    (slice_to_end text (at + 1)) c.front_digits-value.ensures (slice_to_end _ places) c.in_ok-rest.ensures made

@@ -5,5 +5,6 @@ use Rattle.gc_values.proofs.front.front_number.Goals as goal
 
 pub returns : goal.returns
 returns c =
-    number_found c.args.text.now _ c.counted-number.result.1 c.counted-number.result.0 _ c.counted-number.ensures (omega arith) (slice_to_end c.args.text.now c.counted-number.result.1)
+    number_found c.args.text.now _ c.front_digits-number.result.1 c.front_digits-number.result.0 _ c.front_digits-number.ensures (omega arith)
+    (slice_to_end c.args.text.now c.front_digits-number.result.1)
     c.in_ok-rest.ensures

@@ -18,11 +18,11 @@ returns-in_err-up-clause-none c = rw c.from_residual.ensures (λ p n e.
     let same = same_parts c.args.text.now _ _ _ _ _ _ c.cut_sign-negative.ensures c.cut_digits.ensures c.cut_fraction.ensures p n e in
     c.in_err-up.ensures.none p.exponent n.exponent same.rest_is)
 
--- the parts that were cut off, with at least one digit, are a numeral's
-joined : (text r1 r2 r3 : List ℕ) (negative : Bool) (whole fraction : List ℕ) (up down : ℕ) → CutsSign text negative r1 → CutsDigits r1 whole r2
+-- the parts that were cut off, with at least one digit, are those of a number's text, as `ReadsNumeral` has it
+parts_are_numeral : (text r1 r2 r3 : List ℕ) (negative : Bool) (whole fraction : List ℕ) (up down : ℕ) → CutsSign text negative r1 → CutsDigits r1 whole r2
     → CutsFraction r2 fraction r3 → ReadsExponent r3 up down → 0 < length whole + length fraction →
     ReadsNumeral text negative whole fraction up down
-joined text r1 r2 r3 negative whole fraction up down s d f x some = record {
+parts_are_numeral text r1 r2 r3 negative whole fraction up down s d f x some = record {
   parts = record { sign = s.sign; whole = whole; fraction = f.fraction; exponent = x.exponent };
   form = record { whole = d.digits; fraction = rw f.run_is at f.digits; some = rw (← f.run_is) some; exponent = x.form };
   text_is = s.text_is ∙ ap (λ bs. sign_text s.sign ++ bs) (d.text_is ∙ ap (λ bs. whole ++ bs) (f.text_is ∙ ap (λ bs. fraction_text f.fraction ++ bs) x.text_is));
@@ -34,7 +34,7 @@ joined text r1 r2 r3 negative whole fraction up down s d f x some = record {
 }
 
 pub returns-clause-found : goal.returns-clause-found
-returns-clause-found c = joined c.args.text.now _ _ _ _ _ _ _ _ c.cut_sign-negative.ensures c.cut_digits.ensures c.cut_fraction.ensures c.in_ok-up.ensures.found
+returns-clause-found c = parts_are_numeral c.args.text.now _ _ _ _ _ _ _ _ c.cut_sign-negative.ensures c.cut_digits.ensures c.cut_fraction.ensures c.in_ok-up.ensures.found
     (elim c.else-is_empty.branch [
       | else-is_empty-via-then-is_empty+else-is_empty-2 w ↦ search rules
       | else-is_empty-via-else-is_empty w ↦ search rules

@@ -1,20 +1,20 @@
 use Rattle.std.proofs.Common.{◌≡◌, ℕ, ◌+◌, ◌-◌, ◌≤◌, List, ◌++◌, length, take, drop, sym, ap, ◌∙◌, arith, length-drop, rules}
 use Rattle.std.proofs.lemmas.List.{take_at, drop-drop, length-take-le}
-use Rattle.gc_lines.proofs.Known.{take-plus}
+use Rattle.std.proofs.Math.Seq.{take-add}
 use Rattle.gc_lines.proofs.read_ahead.Held.give.Goals as goal
 
 -- the first n of what is held are at the front of buf, and the rest is held
-moved : (bytes buf part : List ℕ) (start end n : ℕ) → start + n ≤ end → end ≤ length bytes → part ≡ take n (drop start bytes)
+given_and_held : (bytes buf part : List ℕ) (start end n : ℕ) → start + n ≤ end → end ≤ length bytes → part ≡ take n (drop start bytes)
     → take (end - start) (drop start bytes) ≡ take n (part ++ drop n buf) ++ take (end - (start + n)) (drop (start + n) bytes)
-moved bytes buf part start end n within all is =
+given_and_held bytes buf part start end n within all is =
     let held = drop start bytes in
     let room : n ≤ length held = omega (arith, length-drop start bytes) in
     let sizes : end - start ≡ n + (end - (start + n)) = omega arith in
     let given : take n (part ++ drop n buf) ≡ take n held = take_at part (drop n buf) n (ap length is ∙ length-take-le n held room) ∙ is in
-    rw (sizes, take-plus n (end - (start + n)) held room, given, drop-drop n start bytes)
+    rw (sizes, take-add n (end - (start + n)) held, given, drop-drop n start bytes)
 
 pub returns-clause-bytes : goal.returns-clause-bytes
 returns-clause-bytes c =
     sym c.self.view_is
-    ∙ moved c.self.inside.bytes c.args.buf.now c.copy_from_slice.new.self c.self.inside.start c.self.inside.end c.min-count.result
+    ∙ given_and_held c.self.inside.bytes c.args.buf.now c.copy_from_slice.new.self c.self.inside.start c.self.inside.end c.min-count.result
     (omega (arith, c.min-count.ensures)) (omega (arith, c.self.told)) (search rules)

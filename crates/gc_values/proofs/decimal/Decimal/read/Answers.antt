@@ -5,28 +5,28 @@ use Rattle.gc_values.proofs.Reading.{IsReading, reads_parts}
 use Rattle.gc_values.proofs.decimal.Decimal.read.Goals as goal
 use Rattle.gc_values.proofs.decimal.Decimal.read.Goals.{After-in_range}
 
--- the result of the parts of a numeral is a reading of the text
-reading : (c : After-in_range) → IsReading c.args.text.now c.in_range.result
-reading c =
+-- what `Decimal::read` returns for a text that has the parts of a number meets its contract, `IsReading`
+result_is_reading : (c : After-in_range) → IsReading c.args.text.now c.in_range.result
+result_is_reading c =
     reads_parts c.args.text.now _ _ _ _ _ _ _ c.in_range.result c.in-Some.ensures.found c.units-magnitude.ensures c.in_range.ensures.made c.in_range.ensures.exact
 
 pub returns-clause-value : goal.returns-clause-value
-returns-clause-value c = (reading c).value
+returns-clause-value c = (result_is_reading c).value
 
 pub returns-clause-only : goal.returns-clause-only
-returns-clause-only c = (reading c).only
+returns-clause-only c = (result_is_reading c).only
 
 pub returns-clause-range : goal.returns-clause-range
-returns-clause-range c = (reading c).range
+returns-clause-range c = (result_is_reading c).range
 
 pub returns-clause-spelling : goal.returns-clause-spelling
-returns-clause-spelling c = (reading c).spelling
+returns-clause-spelling c = (result_is_reading c).spelling
 
 pub returns-clause-faults : goal.returns-clause-faults
-returns-clause-faults c = (reading c).faults
+returns-clause-faults c = (result_is_reading c).faults
 
 pub returns-clause-again : goal.returns-clause-again
-returns-clause-again c d e = (reading c).only d (subst (λ xs. Spells xs d.digits d.scale) (sym e) (written_spells_decimal d))
+returns-clause-again c d e = (result_is_reading c).only d (subst (λ xs. Spells xs d.digits d.scale) (sym e) (written_spells_decimal d))
 
 pub returns-in_default-clause-again : goal.returns-in_default-clause-again
 returns-in_default-clause-again c d e =

@@ -1,5 +1,5 @@
 use Rattle.gc_values.specs.Plainly.{CountsDigits}
-use Rattle.gc_values.proofs.front.counted.Given as goal
+use Rattle.gc_values.proofs.front.front_digits.Given as goal
 
 abbrev pub invariant-loop-i : goal.invariant-loop-i
 invariant-loop-i l = CountsDigits l.front l.text l.most l.value l.i

@@ -1,7 +1,7 @@
 use Rattle.std.proofs.Common.{arith, rules, get_or}
 use Rattle.gc_values.specs.Digits.{IsDigit}
 use Rattle.gc_values.proofs.FrontDecimals.{counts_more, counts_small}
-use Rattle.gc_values.proofs.front.counted.Goals as goal
+use Rattle.gc_values.proofs.front.front_digits.Goals as goal
 
 pub overflow_mul-value : goal.overflow_mul-value
 overflow_mul-value c =

@@ -1,0 +1,22 @@
+//! What the runtimes of players return: those that stand in for the system, so that a case decides what it finds.
+
+use std::io::{self, ErrorKind};
+use std::net::TcpListener;
+
+/// The error of a file, a folder or an address that isn't there.
+pub fn not_found<T>() -> io::Result<T> {
+    Err(io::Error::from(ErrorKind::NotFound))
+}
+
+/// The error of a call that comes while another one is made.
+pub fn in_use() -> io::Error {
+    io::Error::from(ErrorKind::ResourceBusy)
+}
+
+/// The port of a listener; 0 if the system doesn't say.
+pub fn port_of(listener: &TcpListener) -> u16 {
+    match listener.local_addr() {
+        Ok(address) => address.port(),
+        Err(_) => 0,
+    }
+}
