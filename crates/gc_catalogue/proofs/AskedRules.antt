@@ -24,7 +24,7 @@ use Rattle.gc_catalogue.proofs.LineLaws.{call_again, read_once}
 use Rattle.gc_catalogue.proofs.SameText.{same_text}
 use Rattle.gc_catalogue.proofs.RawRules.{each_raw_reply, one_raw_reading}
 
--- the raw request with this number and these parameters, by the proof that it may be asked for
+-- the request for a procedure that isn't in the table, made of its number, its parameters and the proof that they may be asked for
 abbrev raw_call_of : (rpc : ℕ) (params : RawText) → IsRawCall rpc (raw_bytes params) → RawCall
 raw_call_of rpc params is = record { rpc = rpc; params = params; is = is }
 
@@ -44,7 +44,7 @@ same_raw a b e f = same_fields a.rpc a.params a.is b.rpc b.params e (same_text a
 pub no_call_is_raw : (rpc : ℕ) (params : List ℕ) (call : Call) (raw : RawCall) → IsCall rpc params call → raw.rpc ≡ rpc → ⊥
 no_call_is_raw rpc params call raw is e = raw.is.no_procedure call (is.number ∙ sym e)
 
--- a number and parameters ask for one thing at most
+-- a number and parameters ask for at most one thing
 pub one_asked : (rpc : ℕ) (params : List ℕ) (a b : Asked) → IsAsked rpc params a → IsAsked rpc params b → a ≡ b
 one_asked rpc params (Table c) (Table d) x y = ap (λ z. Table z) (one_call rpc params c d x y)
 one_asked rpc params (Table c) (Raw s) x y = absurd (no_call_is_raw rpc params c s x y.0)
@@ -61,7 +61,7 @@ asked_id : (id : Option ℕ) (asked : Asked) → (asked_request id asked).id ≡
 asked_id id (Table call) = refl
 asked_id id (Raw raw) = refl
 
--- things that are asked by one line are one, with one id
+-- requests with the same line ask for the same thing, and have the same id
 pub one_asked_for_a_line : (i j : Option ℕ) (a b : Asked) → IfSome i (λ n. n < 8) → IfSome j (λ n. n < 8) → IsAskedFitting a → IsAskedFitting b
     → asked_line i a ≡ asked_line j b → (i ≡ j) × (a ≡ b)
 one_asked_for_a_line i j a b x y f g e =
@@ -72,7 +72,7 @@ one_asked_for_a_line i j a b x y f g e =
       one_asked (asked_request j b).rpc (asked_request j b).params a b (subst (λ (q : RequestFields). IsAsked q.rpc q.params a) same one.is_asked) two.is_asked,
     )
 
--- a reply has one reading at most for what was asked
+-- a reply has at most one reading for what was asked
 pub one_asked_reading : (asked : Asked) (reply : ReplyFields) (x y : Reading) → IsAskedReading asked reply x → IsAskedReading asked reply y → x ≡ y
 one_asked_reading (Table call) reply x y f g = one_reading call reply x y f g
 one_asked_reading (Raw raw) reply x y f g = one_raw_reading reply x y f g

@@ -37,7 +37,7 @@ first_value : (k : Kind) (ks : List Kind) (vs : List Value) → kinds_of vs ≡ 
 first_value k ks [] e = absurd (cc)
 first_value k ks (v ∷ vs) e = record { first = v; behind = vs; is = refl; kind = cc; kinds = cc }
 
--- where the list of kinds is empty, the list of values is
+-- a list of values whose list of kinds is empty is empty
 none_left : (vs : List Value) → kinds_of vs ≡ [] → [] ≡ vs
 none_left [] e = refl
 none_left (v ∷ vs) e = absurd (cc)
@@ -206,8 +206,8 @@ shape_is_answered shape.MeasuredMode = record { some = answer.MeasuredMode zero 
       (answer.MeasuredMode a.0 b.0 c.0 m.0, refl, cc (a.1, b.1, c.1, m.1, none_left s.behind s.kinds, s.is, r.is, q.is, p.is))
 
 -- parameters are read as an answer of the call, or are unreadable for some reason
-answered : (call : Call) (params : List ℕ) → ((a : Answer) × IsAnswer call params a) ⊎ ((e : _) × IsUnreadable call params e)
-answered call params =
+answer_or_unreadable : (call : Call) (params : List ℕ) → ((a : Answer) × IsAnswer call params a) ⊎ ((e : _) × IsUnreadable call params e)
+answer_or_unreadable call params =
     let m = shape_is_answered (call_fields call).answer in
     elim (each_list (kinds_of (answer_fields m.some).values) params) [
       | inl read ↦
@@ -222,7 +222,7 @@ each_reply call r = elim (cases_eq r.rc_com 0) [
   | inr fault ↦ (reading.ComFault r.rc_com, (fault, refl))
   | inl sent ↦ elim (cases_eq r.rc 0) [
     | inr refused ↦ (reading.Refused r.rc, (sent, refused, refl))
-    | inl well ↦ elim (answered call r.params) [
+    | inl well ↦ elim (answer_or_unreadable call r.params) [
       | inl found ↦ (reading.Value found.0, (sent, well, found.1))
       | inr none ↦ (reading.Unreadable none.0, (sent, well, none.1))
     ]

@@ -7,7 +7,7 @@ use Rattle.gc_values.specs.declared.value.Value.{Value}
 use Rattle.gc_values.specs.Lists.{AreValues}
 use Rattle.gc_catalogue.specs.Lists.{behind_commas}
 
--- values, each after a comma, have at most 67 bytes for each of them
+-- the texts of values, each after a comma, have at most 67 bytes for each value
 pub behind_short : (vs : List Value) → AreValues vs → length (behind_commas vs) ≤ 67 * length vs
 behind_short [] h = lit≤ tt
 behind_short (v ∷ vs) h = omega (arith, length-append (44 ∷ text v) (behind_commas vs), text_is_short v h.0, behind_short vs h.1)

@@ -25,11 +25,11 @@ use Rattle.gc_catalogue.proofs.Table.{number_fits, shape-rounded, values-rounded
 pub call_again : (id : Option ℕ) (call : Call) → IfSome id (λ n. n < 8) → IsFitting call → ReadsBackCall id call
 call_again id call i fits = record { line = request_back (request_of id call) (record { rpc = number_fits call; id = i }); is_call = written_is_call call fits }
 
--- a result is one value at most
+-- a result that is `Ok` of two values is `Ok` of one: they are equal
 pub read_once : (r : Result RequestFields LineFault) (p q : RequestFields) → r ≡ Ok p → r ≡ Ok q → p ≡ q
 read_once r p q e f = cc
 
--- calls with one line are one call, with one id
+-- calls with the same line are the same call, and have the same id
 pub one_call_for_a_line : (i j : Option ℕ) (c d : Call) → IfSome i (λ n. n < 8) → IfSome j (λ n. n < 8) → IsFitting c → IsFitting d → request_line i c ≡ request_line j d → (i ≡ j) × (c ≡ d)
 one_call_for_a_line i j c d x y f g e =
     let one = call_again i c x f in
@@ -51,7 +51,7 @@ shown_fit places (value.Text t ∷ vs) h = (h.0, shown_fit places vs h.1)
 pub rounded_fits : (places : ℕ) (answer : Answer) → IsFittingAnswer answer → IsFittingAnswer (rounded_answer places answer)
 rounded_fits places answer h = rw (values-rounded places answer) (shown_fit places (answer_fields answer).values h)
 
--- the parameters written of a rounded answer are that answer of the call
+-- the parameters written for a rounded answer read as that answer of the call
 pub written_is_answer : (call : Call) (answer : Answer) (places : ℕ) → IsAnswerOf call answer → IsFittingAnswer (rounded_answer places answer)
     → IsAnswer call (params_of (answer_fields (rounded_answer places answer)).values) (rounded_answer places answer)
 written_is_answer call answer places of_call fits = record {
@@ -74,7 +74,7 @@ refusal_again call id rc places i some fits = record {
   is_reading = (refl, (λ e. omega arith), refl);
 }
 
--- where an optional id, if it is there, is below 8, `IfSome` says so of it
+-- an id that is below 8 wherever it is `Some` is none, or below 8
 pub some_id : (id : Option ℕ) → ((i : ℕ) → id ≡ Some i → i < 8) → IfSome id (λ i. i < 8)
 some_id None h = tt
 some_id (Some i) h = h i refl

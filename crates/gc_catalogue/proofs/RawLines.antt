@@ -23,16 +23,16 @@ length-request rpc id params =
       length-append (id_text id) (58 ∷ params),
     )
 
--- an id takes two bytes at most
+-- the text of an optional id has at most two bytes
 id_short : (id : Option ℕ) → length (id_text id) ≤ 2
 id_short None = omega arith
 id_short (Some i) = omega arith
 
--- a line that has at most 512 bytes with an id has so with any other, and without one
+-- if a request's line has at most 512 bytes with the id 0, it has at most 512 with any other id, and without one
 pub short_with : (rpc : ℕ) (id : Option ℕ) (params : List ℕ) → line_length rpc params ≤ 512 → length (request_text (record { rpc = rpc; id = id; params = params })) ≤ 512
 short_with rpc id params short = omega (arith, short, length-request rpc (Some 0) params, length-request rpc id params, id_short id)
 
--- the parameters fit after the line's head
+-- the line's head without parameters, and the parameters, have at most 512 bytes together
 pub fits_behind : (rpc : ℕ) (id : Option ℕ) (params : List ℕ) → line_length rpc params ≤ 512 → length (request_text (record { rpc = rpc; id = id; params = [] })) + length params ≤ 512
 fits_behind rpc id params short = omega (arith, short, length-request rpc (Some 0) params, length-request rpc id [], id_short id)
 
@@ -44,19 +44,19 @@ head-params rpc id params = simp append_assoc
 pub params_short : (rpc : ℕ) (params : List ℕ) → rpc < 65536 → line_length rpc params ≤ 512 → length params ≤ 503
 params_short rpc params bound short = omega (arith, short, length-request rpc (Some 0) params, decimal_nonempty rpc (omega arith))
 
--- the zeros that fill up bytes follow them
+-- in bytes filled up with zeros, all after the bytes are the zeros
 pub filled_zeros : (bytes all : List ℕ) → all ≡ bytes ++ replicate (503 - length bytes) 0 → drop (length bytes) all ≡ replicate (503 - length bytes) 0
 filled_zeros bytes all e = ap (drop (length bytes)) e ∙ drop-append_seam bytes (replicate (503 - length bytes) 0)
 
--- before the zeros are the bytes
+-- in bytes filled up with zeros, the bytes are before the zeros
 pub filled_front : (bytes all : List ℕ) → all ≡ bytes ++ replicate (503 - length bytes) 0 → take (length bytes) all ≡ bytes
 filled_front bytes all e = ap (take (length bytes)) e ∙ take-append_seam bytes (replicate (503 - length bytes) 0)
 
--- both are 503 bytes together
+-- bytes filled up with zeros are 503 bytes
 pub filled_long : (bytes all : List ℕ) → all ≡ bytes ++ replicate (503 - length bytes) 0 → length bytes ≤ 503 → length all ≡ 503
 filled_long bytes all e few = ap length e ∙ omega (arith, length-append bytes (replicate (503 - length bytes) 0), length-replicate {A = ℕ} (503 - length bytes) 0)
 
--- the line of a procedure that isn't in the table fits in a line
+-- the request line of a procedure that isn't in the table fits in a line
 pub raw_fits : (id : Option ℕ) (raw : RawCall) → IfSome id (λ n. n < 8) → FitsALine id raw
 raw_fits id raw i = record {
   plain = request_plain (raw_request id raw) (record { rpc = raw.is.bound; id = i }) raw.is.plain;

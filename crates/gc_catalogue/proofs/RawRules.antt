@@ -23,7 +23,7 @@ few_closed params few = params_even params few.0 few.1
 pub few_always : (params : List ℕ) → AreFewItems params → (items : List (List ℕ)) → IsParams params items → length items ≤ 16
 few_always params few items is = subst (λ (xs : List (List ℕ)). length xs ≤ 16) (one_list params few.0 items few.1 is) few.2
 
--- parameters with their quotes in pairs that aren't more than 16 items are not refused for more
+-- parameters that are never split into more than 16 items aren't more than 16 items
 not_many : (params : List ℕ) → ((items : List (List ℕ)) → IsParams params items → length items ≤ 16) → AreManyItems params → ⊥
 not_many params few many = let f = few many.0 many.1 in let m = many.2 in omega (arith, f, m)
 
@@ -32,7 +32,7 @@ no_items_refusal : (params : List ℕ) (e : ValueFault) → AreFewItems params �
 no_items_refusal params e few (inl odd) = even_not_odd _ (few_closed params few) odd.1
 no_items_refusal params e few (inr many) = not_many params (few_always params few) many.1
 
--- parameters have one refusal at most for not being at most 16 items
+-- parameters have at most one fault for which they aren't at most 16 items
 one_items_refusal : (params : List ℕ) (e f : ValueFault) → IsItemsRefusal params e → IsItemsRefusal params f → e ≡ f
 one_items_refusal params e f (inl x) (inl y) = x.0 ∙ sym y.0
 one_items_refusal params e f (inl x) (inr y) = absurd (even_not_odd _ (params_even params y.1.0 y.1.1) x.1)
@@ -63,7 +63,7 @@ no_raw_refusal rpc params TooLong is why = let s = is.short in let l = why.2 in 
 no_raw_refusal rpc params OpenQuote is why = even_not_odd _ is.closed why.3
 no_raw_refusal rpc params TooMany is why = not_many params is.few why.3
 
--- a number and parameters have one refusal at most
+-- a number and parameters have at most one refusal
 pub one_raw_refusal : (rpc : ℕ) (params : List ℕ) (e f : RawFault) → IsRawRefusal rpc params e → IsRawRefusal rpc params f → e ≡ f
 one_raw_refusal rpc params InTable InTable x y = refl
 one_raw_refusal rpc params InTable NotPlain x y = absurd (y.0 x.0 x.1)
@@ -91,7 +91,7 @@ one_raw_refusal rpc params TooMany TooLong x y = let l = y.2 in let s = x.2 in a
 one_raw_refusal rpc params TooMany OpenQuote x y = absurd (even_not_odd _ (params_even params x.3.0 x.3.1) y.3)
 one_raw_refusal rpc params TooMany TooMany x y = refl
 
--- a reply has one reading at most for a procedure that isn't in the table
+-- a reply has at most one reading for a procedure that isn't in the table
 pub one_raw_reading : (r : ReplyFields) (x y : Reading) → IsRawReading r x → IsRawReading r y → x ≡ y
 one_raw_reading r (reading.ComFault a) (reading.ComFault b) x y = ap (λ n. reading.ComFault n) (x.1 ∙ sym y.1)
 one_raw_reading r (reading.ComFault a) (reading.Refused b) x y = absurd (x.0 y.0)

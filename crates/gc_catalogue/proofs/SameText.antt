@@ -1,11 +1,11 @@
--- Texts of the same bytes are equal: the unused ones are zero, and the facts that a text carries have one proof each.
+-- Texts of the same bytes are equal: the unused bytes are zero, and the facts that a text carries have one proof each.
 use Rattle.std.proofs.Common.{◌≡◌, ◌-◌, ◌≤◌, ◌++◌, ℕ, List, length, drop, replicate, sym, ap, ◌∙◌, subst, arith, length-take-le}
 use Rattle.std.proofs.Props.{props}
 use Rattle.std.proofs.lemmas.List.{take-append-drop}
 use Rattle.gc_catalogue.specs.RawTexts.{raw_bytes}
 use Rattle.gc_catalogue.specs.declared.raw_text.RawText.{RawText}
 
--- the zeros after so many bytes
+-- the bytes after the first `len` are zeros, 503 - len of them
 abbrev AreZeros : List ℕ → ℕ → Type 0
 AreZeros bytes len = drop len bytes ≡ replicate (503 - len) 0
 

@@ -8,7 +8,7 @@ use Rattle.gc_catalogue.specs.declared.answer.Answer.{Answer}
 use Rattle.gc_catalogue.specs.declared.call.Call.{Call}
 use Rattle.gc_catalogue.specs.Answers.{answer_fields, rounded_answer}
 use Rattle.gc_catalogue.specs.Calls.{call_fields}
-use Rattle.gc_catalogue.specs.Laws.{AreAlike}
+use Rattle.gc_catalogue.specs.Laws.{HaveOneSignature}
 use Rattle.gc_catalogue.specs.Lists.{shown_values}
 
 -- the kinds of a call's values
@@ -35,8 +35,8 @@ same_kinds c d e = grind arith
 same_answers : (c d : Call) → (call_fields c).number ≡ (call_fields d).number → (call_fields c).answer ≡ (call_fields d).answer
 same_answers c d e = grind arith
 
--- calls of one number are alike
-pub same_number_alike : (c d : Call) → (call_fields c).number ≡ (call_fields d).number → AreAlike c d
+-- calls of one number have parameters of the same kinds and answers of one shape
+pub same_number_alike : (c d : Call) → (call_fields c).number ≡ (call_fields d).number → HaveOneSignature c d
 same_number_alike c d e = record { kinds = same_kinds c d e; answer = same_answers c d e }
 
 -- a call is determined by its number and its values

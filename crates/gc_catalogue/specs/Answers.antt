@@ -18,7 +18,7 @@ pub record AnswerFields : Type 0 where
   pub shape : Shape
   pub values : List Value
 
--- the table of shapes
+-- the table of answers: the shape and the values of each
 abbrev pub answer_fields : Answer → AnswerFields
 answer_fields Nothing = record { shape = shape.Nothing; values = [] }
 answer_fields (Short n) = record { shape = shape.Short; values = value.Short n ∷ [] }
@@ -42,11 +42,11 @@ pub record IsAnswer (call : Call) (params : List ℕ) (answer : Answer) : Type 0
   pub of_call : IsAnswerOf call answer
   pub values : AreParams params (answer_fields answer).values
 
--- why the parameters are no answer of the call
+-- the parameters can't be read as an answer of the call, because of this fault
 abbrev pub IsUnreadable : Call → List ℕ → ValueFault → Type 0
 IsUnreadable call params e = (answer : Answer) × IsAnswerOf call answer × IsListFault (kinds_of (answer_fields answer).values) params e
 
--- the answer's numbers lie in their types, and its text is one that a string holds
+-- the answer's numbers are in the ranges of their types, and its text is one that a string can have
 abbrev pub IsFittingAnswer : Answer → Type 0
 IsFittingAnswer answer = AreValues (answer_fields answer).values
 

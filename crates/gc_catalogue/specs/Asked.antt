@@ -12,7 +12,7 @@ use Rattle.gc_catalogue.specs.RawTexts.{raw_bytes}
 use Rattle.gc_catalogue.specs.Readings.{IsReading}
 use Rattle.gc_catalogue.specs.Texts.{request_of}
 
--- the parameters of a procedure that isn't in the table, as they are
+-- the parameters of a request for a procedure that isn't in the table, as they are in its line
 abbrev pub raw_params : RawCall → List ℕ
 raw_params raw = raw_bytes raw.params
 
@@ -20,7 +20,7 @@ raw_params raw = raw_bytes raw.params
 abbrev pub raw_request : Option ℕ → RawCall → RequestFields
 raw_request id raw = record { rpc = raw.rpc; id = id; params = raw_params raw }
 
--- the line of the request for a procedure that isn't in the table, with an id or without one: the parameters are in it as they are
+-- the line of the request for a procedure that isn't in the table, with an id or without one
 abbrev pub raw_line : Option ℕ → RawCall → List ℕ
 raw_line id raw = request_text (raw_request id raw)
 
@@ -33,17 +33,18 @@ asked_request id (Raw raw) = raw_request id raw
 abbrev pub asked_line : Option ℕ → Asked → List ℕ
 asked_line id asked = request_text (asked_request id asked)
 
--- the number and the parameters ask for this
+-- a request with this number and these parameters asks for `asked`
 abbrev pub IsAsked : ℕ → List ℕ → Asked → Type 0
 IsAsked rpc params (Table call) = IsCall rpc params call
 IsAsked rpc params (Raw raw) = (raw.rpc ≡ rpc) × (raw_params raw ≡ params)
 
--- the reply has this reading for what was asked
+-- the reply has this reading for what was asked: `IsReading` for a call, `IsRawReading` for a procedure that isn't in the table
 abbrev pub IsAskedReading : Asked → ReplyFields → Reading → Type 0
 IsAskedReading (Table call) reply reading = IsReading call reply reading
 IsAskedReading (Raw raw) reply reading = IsRawReading reply reading
 
--- the call's numbers lie in their types, or the procedure that isn't in the table may be asked for with these parameters
+-- what is asked is allowed: a call's numbers are in the ranges of their types, and a procedure that isn't in the table may be asked for
+-- with its parameters (`IsRawCall`)
 abbrev pub IsAskedFitting : Asked → Type 0
 IsAskedFitting (Table call) = IsFitting call
 IsAskedFitting (Raw raw) = IsRawCall raw.rpc (raw_params raw)

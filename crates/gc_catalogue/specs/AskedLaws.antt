@@ -9,35 +9,36 @@ use Rattle.gc_catalogue.specs.declared.raw.RawCall.{RawCall}
 use Rattle.gc_catalogue.specs.Asked.{asked_line, asked_request, raw_line, IsAsked, IsAskedFitting, IsAskedReading}
 use Rattle.gc_catalogue.specs.Raws.{IsNoProcedure}
 
--- the line of a procedure that isn't in the table has at most 512 bytes without CR and LF, and its number is no procedure's of the table
+-- the request line of a procedure that isn't in the table has at most 512 bytes without CR and LF, and no procedure of the table has its
+-- number
 pub record FitsALine (id : Option ℕ) (raw : RawCall) : Type 0 where
   pub plain : IsPlain (raw_line id raw)
   pub short : length (raw_line id raw) ≤ 512
   pub number : IsNoProcedure raw.rpc
 
--- each line of a procedure that isn't in the table fits in a line, as `FitsALine` has it
+-- `FitsALine` for each procedure that isn't in the table, with each id below 8 or without one
 abbrev pub RawLinesFit : Type 0
 RawLinesFit = (id : Option ℕ) (raw : RawCall) → IfSome id (λ n. n < 8) → FitsALine id raw
 
--- a number and parameters ask for one thing at most
+-- the number and the parameters of a request ask for at most one thing
 abbrev pub OneAsked : Type 0
 OneAsked = (rpc : ℕ) (params : List ℕ) (a b : Asked) → IsAsked rpc params a → IsAsked rpc params b → a ≡ b
 
--- two things that are asked by one line are one, with one id: no line is both a call's and another procedure's
+-- two requests with the same line ask for the same thing, and have the same id
 abbrev pub OneAskedForALine : Type 0
 OneAskedForALine = (i j : Option ℕ) (a b : Asked) → IfSome i (λ n. n < 8) → IfSome j (λ n. n < 8) → IsAskedFitting a → IsAskedFitting b
     → asked_line i a ≡ asked_line j b → (i ≡ j) × (a ≡ b)
 
--- the line reads as a request, whose number and parameters ask for the same again
+-- the line of what is asked reads as its request, whose number and parameters ask for it
 pub record ReadsBackAsked (id : Option ℕ) (asked : Asked) : Type 0 where
   pub line : request_at (asked_line id asked) ≡ Ok (asked_request id asked)
   pub is_asked : IsAsked (asked_request id asked).rpc (asked_request id asked).params asked
 
--- the line of whatever is asked reads back as what was asked
+-- the request line of whatever is asked reads back as what was asked
 abbrev pub AskedReadBack : Type 0
 AskedReadBack = (id : Option ℕ) (asked : Asked) → IfSome id (λ n. n < 8) → IsAskedFitting asked → ReadsBackAsked id asked
 
--- a reply has one reading at most for what was asked
+-- a reply has at most one reading for what was asked
 abbrev pub OneAskedReading : Type 0
 OneAskedReading = (asked : Asked) (reply : ReplyFields) (x y : Reading) → IsAskedReading asked reply x → IsAskedReading asked reply y → x ≡ y
 

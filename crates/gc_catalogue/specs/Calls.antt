@@ -1,6 +1,7 @@
 -- Calls: the table of procedures, and which parameters are a call's. Numbers and names are those of the manual's procedure
 -- tables; which parameters a procedure has, and of which kinds, is this project's own after them.
 use Rattle.std.specs.Prelude.{◌≡◌, ◌≢◌, ℕ, List, [], ◌∷◌}
+use Rattle.gc_lines.specs.declared.request.Request.{Request}
 use Rattle.gc_values.specs.declared.value.Value.{Value}
 use Rattle.gc_values.specs.declared.value.Value.TheVariants.{Double, Long, Short, Bool}
 use Rattle.gc_catalogue.specs.declared.fault.CallFault.{CallFault}
@@ -18,7 +19,7 @@ pub record CallFields : Type 0 where
   pub values : List Value
   pub answer : Shape
 
--- the table of procedures, with the manual's names
+-- the table of procedures: the number, the values and the answer's shape of each call, under the manual's name of its procedure
 abbrev pub call_fields : Call → CallFields
 -- COM_NullProc
 call_fields NullProc = record { number = 0; values = []; answer = shape.Nothing }
@@ -71,16 +72,26 @@ call_fields (ChangeFace pos_mode atr_mode dummy) = record { number = 9028; value
 -- AUT_FineAdjust
 call_fields (FineAdjust area_hz area_v dummy) = record { number = 9037; values = Double area_hz ∷ Double area_v ∷ Bool dummy ∷ []; answer = shape.Nothing }
 
--- the parameters of the procedure with this number are the call's
+-- a request with this number and these parameters is a request for the call: the number is that of the call's procedure, and the
+-- parameters read as the call's values
 pub record IsCall (rpc : ℕ) (params : List ℕ) (call : Call) : Type 0 where
   pub number : (call_fields call).number ≡ rpc
   pub values : AreParams params (call_fields call).values
 
--- why the number and the parameters are no call's: no procedure has the number, else the parameters have a fault
+-- the fault for which the number and the parameters are no call's: no procedure has the number, or the parameters can't be read as those
+-- of the procedure with the number
 abbrev pub IsRefusal : ℕ → List ℕ → CallFault → Type 0
 IsRefusal rpc params Unknown = (call : Call) → (call_fields call).number ≢ rpc
 IsRefusal rpc params (Parameters e) = (call : Call) × ((call_fields call).number ≡ rpc) × IsListFault (kinds_of (call_fields call).values) params e
 
--- the call's numbers lie in their types
+-- the call's numbers are in the ranges of their types
 abbrev pub IsFitting : Call → Type 0
 IsFitting call = AreValues (call_fields call).values
+
+-- the request is one for the call, by its number and its parameters
+abbrev pub IsCallOf : Request → Call → Type 0
+IsCallOf request call = IsCall request.rpc request.params.now call
+
+-- the fault for which the request is for no call, by its number and its parameters
+abbrev pub IsRefusalOf : Request → CallFault → Type 0
+IsRefusalOf request e = IsRefusal request.rpc request.params.now e

@@ -1,5 +1,5 @@
 -- What is claimed of the definitions themselves, apart from any call of a function: this project's own.
-use Rattle.std.specs.Prelude.{◌≡◌, ◌<◌, ℕ, List, [], ◌∷◌, Option, IfSome, Ok}
+use Rattle.std.specs.Prelude.{◌≡◌, ◌≢◌, ◌<◌, ℕ, List, [], ◌∷◌, Option, IfSome, Ok}
 use Rattle.gc_lines.specs.Replies.{ReplyFields}
 use Rattle.gc_lines.specs.Readers.{reply_at, request_at}
 use Rattle.gc_values.specs.Decimals.{fraction}
@@ -18,46 +18,46 @@ use Rattle.gc_values.specs.Lists.{kinds_of}
 use Rattle.gc_catalogue.specs.Readings.{IsReading}
 use Rattle.gc_catalogue.specs.Texts.{reply_line, reply_of, request_line, request_of}
 
--- two calls take parameters of the same kinds, and their answers have one shape
-pub record AreAlike (c d : Call) : Type 0 where
+-- two calls have parameters of the same kinds, and answers of the same shape
+pub record HaveOneSignature (c d : Call) : Type 0 where
   pub kinds : kinds_of (call_fields c).values ≡ kinds_of (call_fields d).values
   pub answer : (call_fields c).answer ≡ (call_fields d).answer
 
--- calls with one number are alike, and one call where their values agree too: no two procedures share a number
+-- no two procedures share a number: calls with the same number have one signature, and if their values agree too, they are the same call
 pub record NumbersDiffer : Type 0 where
-  pub alike : (c d : Call) → (call_fields c).number ≡ (call_fields d).number → AreAlike c d
+  pub alike : (c d : Call) → (call_fields c).number ≡ (call_fields d).number → HaveOneSignature c d
   pub same : (c d : Call) → (call_fields c).number ≡ (call_fields d).number → (call_fields c).values ≡ (call_fields d).values → c ≡ d
 
--- a value as it is written: a double is rounded to the places, and any other value stays
+-- `shown` is the value `v` as it is written: a double is rounded to the places, and any other value is unchanged
 abbrev pub IsShown : ℕ → Value → Value → Type 0
 IsShown places (value.Double d) (value.Double shown) = IsRounded (fraction d) places shown.digits shown.scale
 IsShown places v shown = v ≡ shown
 
--- values as they are written, one for one: each double rounded to the places, and any other value as it is
+-- the second list is the first as it is written, value for value: each double rounded to the places, and any other value unchanged
 abbrev pub AreShown : ℕ → List Value → List Value → Type 0
 AreShown places [] [] = Unit {0}
 AreShown places [] (shown ∷ rest) = ⊥
 AreShown places (v ∷ vs) [] = ⊥
 AreShown places (v ∷ vs) (shown ∷ rest) = IsShown places v shown × AreShown places vs rest
 
--- an answer is written with every double rounded, and with its shape and every other value as they are
+-- an answer is written with every double rounded to the places, and with its shape and every other value unchanged
 abbrev pub DoublesAreRounded : Type 0
 DoublesAreRounded = (places : ℕ) (answer : Answer)
     → ((answer_fields (rounded_answer places answer)).shape ≡ (answer_fields answer).shape)
     × AreShown places (answer_fields answer).values (answer_fields (rounded_answer places answer)).values
 
--- two calls with one line are one call, with one id
+-- two calls with the same request line are the same call, and have the same id
 abbrev pub OneCallForALine : Type 0
 OneCallForALine = (i j : Option ℕ) (c d : Call) → IfSome i (λ n. n < 8) → IfSome j (λ n. n < 8) → IsFitting c → IsFitting d
     → request_line i c ≡ request_line j d → (i ≡ j) × (c ≡ d)
 
--- a number and parameters are those of one call, or have one refusal, and never both
+-- the number and the parameters of a request are those of at most one call and have at most one refusal, and never both
 pub record OneCallOrRefusal : Type 0 where
   pub call : (rpc : ℕ) (params : List ℕ) (c d : Call) → IsCall rpc params c → IsCall rpc params d → c ≡ d
   pub refusal : (rpc : ℕ) (params : List ℕ) (e f : CallFault) → IsRefusal rpc params e → IsRefusal rpc params f → e ≡ f
   pub never_both : (rpc : ℕ) (params : List ℕ) (c : Call) (e : CallFault) → IsCall rpc params c → IsRefusal rpc params e → ⊥
 
--- a reply to a call has one reading at most
+-- a reply to a call has at most one reading
 abbrev pub OneReading : Type 0
 OneReading = (call : Call) (reply : ReplyFields) (x y : Reading) → IsReading call reply x → IsReading call reply y → x ≡ y
 
@@ -65,7 +65,7 @@ OneReading = (call : Call) (reply : ReplyFields) (x y : Reading) → IsReading c
 abbrev pub EachReplyIsRead : Type 0
 EachReplyIsRead = (call : Call) (reply : ReplyFields) → (reading : Reading) × IsReading call reply reading
 
--- the line of a call reads as a request, whose number and parameters are the call's
+-- the line of a call reads as its request, whose number and parameters are the call's
 pub record ReadsBackCall (id : Option ℕ) (call : Call) : Type 0 where
   pub line : request_at (request_line id call) ≡ Ok (request_of id call)
   pub is_call : IsCall (request_of id call).rpc (request_of id call).params call
@@ -74,12 +74,22 @@ pub record ReadsBackCall (id : Option ℕ) (call : Call) : Type 0 where
 abbrev pub CallsReadBack : Type 0
 CallsReadBack = (id : Option ℕ) (call : Call) → IfSome id (λ n. n < 8) → IsFitting call → ReadsBackCall id call
 
--- the line of an answer reads as a reply, which has this reading for the call
+-- the line of a reply with this return code and answer reads as that reply, which has this reading for the call
 pub record ReadsBackAnswer (call : Call) (id rc : ℕ) (answer : Answer) (places : ℕ) (reading : Reading) : Type 0 where
   pub line : reply_at (reply_line id rc answer places) ≡ Ok (reply_of id rc answer places)
   pub is_reading : IsReading call (reply_of id rc answer places) reading
 
--- an answer of the call is read as the answer with its doubles rounded, and a return code other than 0 as a refusal
+-- if the return code is 0, the reply line with this answer reads back, for each call of which it is an answer, as the answer with its doubles
+-- rounded
+abbrev pub ReadsBackValue : ℕ → ℕ → Answer → ℕ → Type 0
+ReadsBackValue id rc answer places =
+    (call : Call) → rc ≡ 0 → IsAnswerOf call answer → ReadsBackAnswer call id rc answer places (reading.Value (rounded_answer places answer))
+
+-- if the return code isn't 0, the reply line reads back, for each call, as the refusal with that code
+abbrev pub ReadsBackRefusal : ℕ → ℕ → Answer → ℕ → Type 0
+ReadsBackRefusal id rc answer places = (call : Call) → rc ≢ 0 → ReadsBackAnswer call id rc answer places (reading.Refused rc)
+
+-- the line of a call's answer reads back as the answer with its doubles rounded, and that of a return code other than 0 as a refusal
 pub record AnswersReadBack : Type 0 where
   pub value : (call : Call) (id : ℕ) (answer : Answer) (places : ℕ) → id < 8 → IsAnswerOf call answer → IsFittingAnswer answer
       → ReadsBackAnswer call id 0 answer places (reading.Value (rounded_answer places answer))

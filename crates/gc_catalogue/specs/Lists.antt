@@ -3,7 +3,10 @@ use Rattle.std.specs.Prelude.{ℕ, List, [], ◌∷◌, ◌++◌, map, Option, S
 use Rattle.std.specs.List.{flat_map}
 use Rattle.gc_values.specs.Decimals.{rounded}
 use Rattle.gc_values.specs.Item.{text}
+use Rattle.gc_values.specs.Lists.{kinds_of}
 use Rattle.gc_values.specs.Params.{joined}
+use Rattle.gc_values.specs.declared.fault.ValueFault.{ValueFault}
+use Rattle.gc_values.specs.declared.value.Kind.{Kind}
 use Rattle.gc_values.specs.declared.value.Value.{Value}
 use Rattle.gc_values.specs.declared.value.Value.TheVariants as value
 
@@ -11,20 +14,30 @@ use Rattle.gc_values.specs.declared.value.Value.TheVariants as value
 abbrev pub params_of : List Value → List ℕ
 params_of values = joined (map text values)
 
--- the values' texts, each after a comma
+-- the values' texts, each with a comma before it
 abbrev pub behind_commas : List Value → List ℕ
 behind_commas values = flat_map (λ v. 44 ∷ text v) values
 
--- the values' texts, each before a comma
+-- the values' texts, each with a comma after it
 abbrev pub before_commas : List Value → List ℕ
 before_commas values = flat_map (λ v. text v ++ 44 ∷ []) values
 
--- the value with each double rounded to the places, where places are given
+-- a value as it is written: a double is rounded to the places, if places are given, and any other value is unchanged
 abbrev pub shown : Option ℕ → Value → Value
 shown None v = v
 shown (Some places) (value.Double d) = value.Double (rounded d places)
 shown (Some places) v = v
 
--- the values with each double rounded to the places, where places are given
+-- the values as they are written: each double rounded to the places, if places are given
 abbrev pub shown_values : Option ℕ → List Value → List Value
 shown_values places vs = map (λ v. shown places v) vs
+
+-- parameters are asked for one by one, which took them from `old` to `new`: if none are left, those asked for read as these values, by the
+-- relation `reads` of the trait `Parameters`
+abbrev pub ReadsAll : {P : Type 0} → (reads : P → List Value → Type 0) → (old new : P) → List Value → Type 0
+ReadsAll reads old new values = reads new [] → reads old values
+
+-- parameters of the kinds of these values are asked for one by one, which took them from `old` to `new`: if none are asked for after them, each
+-- fault of `new` is one of `old`, by the relation `fails` of the trait `Parameters`
+abbrev pub FailsAll : {P : Type 0} → (fails : P → List Kind → ValueFault → Type 0) → (old new : P) → List Value → Type 0
+FailsAll fails old new values = (e : ValueFault) → fails new [] e → fails old (kinds_of values) e

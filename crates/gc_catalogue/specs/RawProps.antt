@@ -1,11 +1,11 @@
--- No part of a promise: that a procedure may be asked for has one proof at most.
+-- For the proofs alone: `IsRawCall` has at most one proof for a number and parameters.
 use Rattle.std.specs.Prelude.{◌≡◌, ◌<◌, ◌≤◌, ◌%◌, ℕ, List, length}
 use Rattle.std.proofs.Props.{props}
 use Rattle.gc_lines.specs.Lines.{IsPlain}
 use Rattle.gc_values.specs.Params.{IsParams, quotes}
 use Rattle.gc_catalogue.specs.Raws.{line_length, IsNoProcedure, IsRawCall}
 
--- that a procedure may be asked for has one proof at most
+-- any two proofs that a number and parameters may be asked for are equal
 pub IsRawCall-prop : (rpc : ℕ) (params : List ℕ) → IsProp (IsRawCall rpc params)
 IsRawCall-prop rpc params x y =
     let bound_prop : IsProp (rpc < 65536) = hlevel props in

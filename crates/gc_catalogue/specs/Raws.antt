@@ -23,24 +23,24 @@ IsProcedure rpc = (call : Call) × ((call_fields call).number ≡ rpc)
 abbrev pub IsNoProcedure : ℕ → Type 0
 IsNoProcedure rpc = (call : Call) → (call_fields call).number ≢ rpc
 
--- how many bytes the request's line has with an id
+-- the length, in bytes, of the line of a request with this number, these parameters and an id
 abbrev pub line_length : ℕ → List ℕ → ℕ
 line_length rpc params = length (request_text (record { rpc = rpc; id = Some 0; params = params }))
 
--- the parameters are at most 16 items, whatever these are
+-- the parameters are a list of at most 16 items, of any kinds
 abbrev pub AreFewItems : List ℕ → Type 0
 AreFewItems params = (items : List (List ℕ)) × IsParams params items × (length items ≤ 16)
 
--- the parameters are more than 16 items
+-- the parameters are a list of more than 16 items
 abbrev pub AreManyItems : List ℕ → Type 0
 AreManyItems params = (items : List (List ℕ)) × IsParams params items × (16 < length items)
 
--- why the parameters aren't at most 16 items: an odd number of double quotes, else more than 16 items
+-- the fault for which the parameters aren't at most 16 items: an odd number of double quotes, or more than 16 items
 abbrev pub IsItemsRefusal : List ℕ → ValueFault → Type 0
 IsItemsRefusal params e = ((e ≡ fault.OpenQuote) × (quotes params % 2 ≡ 1)) ⊎ ((e ≡ fault.TooMany) × AreManyItems params)
 
--- a number that is no procedure's of the table may be asked for with these parameters: they are plain bytes, the line has at most 512
--- bytes with an id, their double quotes are in pairs, and they are at most 16 items
+-- this number may be asked for with these parameters: no procedure of the table has it, the parameters have neither CR nor LF, the
+-- request's line has at most 512 bytes with an id, the double quotes are in pairs, and there are at most 16 items
 pub record IsRawCall (rpc : ℕ) (params : List ℕ) : Type 0 where
   pub bound : rpc < 65536
   pub no_procedure : IsNoProcedure rpc
@@ -49,7 +49,7 @@ pub record IsRawCall (rpc : ℕ) (params : List ℕ) : Type 0 where
   pub closed : quotes params % 2 ≡ 0
   pub few : (items : List (List ℕ)) → IsParams params items → length items ≤ 16
 
--- why a number and parameters may not be asked for so: the first that holds, in this order
+-- the fault for which a number and parameters may not be asked for as they are: the first that holds, in this order
 abbrev pub IsRawRefusal : ℕ → List ℕ → RawFault → Type 0
 IsRawRefusal rpc params InTable = IsProcedure rpc
 IsRawRefusal rpc params NotPlain = IsNoProcedure rpc × (¬ IsPlain params)
@@ -57,8 +57,8 @@ IsRawRefusal rpc params TooLong = IsNoProcedure rpc × IsPlain params × (512 < 
 IsRawRefusal rpc params OpenQuote = IsNoProcedure rpc × IsPlain params × (line_length rpc params ≤ 512) × (quotes params % 2 ≡ 1)
 IsRawRefusal rpc params TooMany = IsNoProcedure rpc × IsPlain params × (line_length rpc params ≤ 512) × AreManyItems params
 
--- what a reply says of a procedure that isn't in the table: as of any call, a communication fault where the communication code isn't 0,
--- else a refusal where the return code isn't 0; else nothing that is read, where its parameters are at most 16 items, or why they aren't
+-- the reply has this reading for a procedure that isn't in the table: a communication fault if the communication code isn't 0, else a
+-- refusal if the return code isn't 0, else the answer `Nothing` if its parameters are at most 16 items, else the fault of its parameters
 abbrev pub IsRawReading : ReplyFields → Reading → Type 0
 IsRawReading r (ComFault code) = (r.rc_com ≢ 0) × (code ≡ r.rc_com)
 IsRawReading r (Refused code) = (r.rc_com ≡ 0) × (r.rc ≢ 0) × (code ≡ r.rc)

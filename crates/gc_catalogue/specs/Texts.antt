@@ -8,18 +8,18 @@ use Rattle.gc_catalogue.specs.Answers.{answer_fields, rounded_answer}
 use Rattle.gc_catalogue.specs.Calls.{call_fields}
 use Rattle.gc_catalogue.specs.Lists.{params_of}
 
--- the fields of a call's request
+-- the fields of a call's request, with an id or without one
 abbrev pub request_of : Option ℕ → Call → RequestFields
 request_of id call = record { rpc = (call_fields call).number; id = id; params = params_of (call_fields call).values }
 
--- the fields of a reply with an answer, each double rounded to the places
+-- the fields of a reply with an id, a return code and an answer, whose doubles are rounded to the places
 abbrev pub reply_of : ℕ → ℕ → Answer → ℕ → ReplyFields
 reply_of id rc answer places = record { rc_com = 0; id = Some id; rc = rc; params = params_of (answer_fields (rounded_answer places answer)).values }
 
--- the line of a call, with its id or none
+-- the request line of a call, with an id or without one
 abbrev pub request_line : Option ℕ → Call → List ℕ
 request_line id call = request_text (request_of id call)
 
--- the line of an answer, with each double rounded to the places
+-- the reply line with an id, a return code and an answer, whose doubles are rounded to the places
 abbrev pub reply_line : ℕ → ℕ → Answer → ℕ → List ℕ
 reply_line id rc answer places = reply_text (reply_of id rc answer places)

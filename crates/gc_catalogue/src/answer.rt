@@ -1,4 +1,4 @@
-//! Answers: one variant for each shape, and what a reply says of its call.
+//! Answers: one variant for each shape, and what a reply says in answer to a call.
 
 use crate::call::{DateTime, Station};
 use gc_values::{Decimal, Text, ValueFault};
@@ -36,7 +36,7 @@ pub enum Answer {
     },
 }
 
-/// Which variant of `Answer` a procedure has.
+/// The shape of an answer: the variant of `Answer`, without its values. All answers of a procedure have one shape.
 #[derive(Clone, Copy, Debug, PartialEq, Eq)]
 pub enum Shape {
     Nothing,
@@ -53,7 +53,7 @@ pub enum Shape {
     MeasuredMode,
 }
 
-/// What a reply says of its call.
+/// What a reply says in answer to a call.
 #[derive(Clone, Copy, Debug, PartialEq, Eq)]
 pub enum Reading {
     /// The procedure succeeded, with this answer.

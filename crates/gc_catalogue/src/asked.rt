@@ -43,7 +43,7 @@ impl From<Call> for Asked {
 }
 
 impl Asked {
-    /// Whether it is a call of the table.
+    /// Whether a call of the table is asked for.
     #[inline]
     pub fn is_of_table(&self) -> bool
         ensures { result ≡ is_of_table self.now }
@@ -54,7 +54,7 @@ impl Asked {
         }
     }
 
-    /// The number of the procedure.
+    /// The number of the procedure that is asked for.
     pub fn number(&self) -> u16
         ensures { result ≡ (asked_request None self.now).rpc }
     {
@@ -106,7 +106,7 @@ pub fn encode_asked(id: Option<u8>, asked: &Asked) -> Line
 }
 
 /// Reads what a request asks for: a call of the table, or a procedure that isn't in it. `None`: its number is in the table
-/// and its parameters can't be read as those of the call, or it may not be asked for as it is.
+/// and its parameters can't be read as those of the procedure, or its number isn't in the table and [`raw_call`] refuses it.
 pub fn decode_asked(request: &Request<'_>) -> Option<Asked>
     ensures found { IfSome result (λ asked. IsAsked request.now.rpc request.now.params.now asked) }
     ensures only { (asked : Asked) → IsAsked request.now.rpc request.now.params.now asked → result ≡ Some asked }
@@ -120,7 +120,8 @@ pub fn decode_asked(request: &Request<'_>) -> Option<Asked>
     }
 }
 
-// Reads what a reply says of a procedure that isn't in the table, into `reading`.
+// Reads what a reply says in answer to a request for a procedure that isn't in the table, into `reading`. With both codes 0 that is
+// `Answer::Nothing` if the reply's parameters are at most 16 items, whatever these are, and else the fault of the parameters.
 fn decode_raw_into(reply: &Reply<'_>, reading: &mut Reading)
     ensures { IsRawReading (reply_seen reply.now) reading.new }
 {
@@ -136,7 +137,7 @@ fn decode_raw_into(reply: &Reply<'_>, reading: &mut Reading)
     }
 }
 
-/// Reads what a reply says of what was asked, into `reading`.
+/// Reads what a reply says in answer to what was asked, into `reading`.
 #[inline]
 pub fn decode_asked_into(asked: &Asked, reply: &Reply<'_>, reading: &mut Reading)
     ensures found { IsAskedReading asked.now (reply_seen reply.now) reading.new }

@@ -1,4 +1,4 @@
-//! What a client can ask: a thing with a request line, of which a reply says something.
+//! What a client can ask: any type whose values have a request line, and with which a reply can be read.
 
 ghost use Rattle.std.specs.Prelude.{◌≡◌, ◌+◌, ◌<◌, ◌≤◌, ◌++◌};
 ghost use Rattle.std.specs.Option.{ForSome};
@@ -16,14 +16,14 @@ use crate::replies::decode_answer_into;
 use crate::requests::encode_call_onto;
 use gc_lines::{Line, Reply};
 
-/// What a client can ask. Ids, windows and settlements are the same for every such thing; only its request line and the meaning of
-/// a reply are its own.
+/// What a client can ask. Ids, windows and settlements are the same for every type with this trait, which says what the request line
+/// of a value is, and how a reply is read.
 pub trait Asking: Copy + Drop {
     ghost use Rattle.std.specs.Prelude.{ℕ, List, Option};
     ghost use Rattle.gc_lines.specs.Replies.{ReplyFields};
     ghost use Rattle.gc_catalogue.specs.declared.answer.Reading.{Reading};
 
-    /// What is in a place that nothing uses.
+    /// The value in the unused places of a window.
     ghost blank: { Self };
 
     /// The request line, with an id or without one.
@@ -35,11 +35,11 @@ pub trait Asking: Copy + Drop {
     /// The values of the request are within their ranges.
     ghost fits: { Self → Type 0 };
 
-    /// What is in a place that nothing uses.
+    /// The value in the unused places of a window.
     fn blank() -> Self
         ensures { result ≡ blank };
 
-    /// Appends the request line, with the id or without one. It fits in a line.
+    /// Writes the request line, with the id or without one, into `out`, which has to be empty.
     fn write_onto(&self, out: &mut Line, id: Option<u8>)
         requires id { ForSome id (λ i. i < 8) }
         requires room { array_vec_len out.old + 512 ≤ 512 }
@@ -47,7 +47,7 @@ pub trait Asking: Copy + Drop {
         ensures plain { IsPlain (line id self.now) }
         ensures fitting { fits self.now };
 
-    /// Reads what a reply says of what was asked, into `reading`.
+    /// Reads what a reply says in answer to this request, into `reading`.
     fn read_into(&self, reply: &Reply<'_>, reading: &mut Reading)
         ensures { says self.now (reply_seen reply.now) reading.new };
 }

@@ -5,13 +5,17 @@ use gc_values::Decimal;
 /// A station's coordinates and the instrument's height over it, in metres.
 #[derive(Clone, Copy, Debug, PartialEq, Eq)]
 pub struct Station {
+    /// The easting.
     pub e0: Decimal,
+    /// The northing.
     pub n0: Decimal,
+    /// The height of the station.
     pub h0: Decimal,
+    /// The instrument's height over the station.
     pub hi: Decimal,
 }
 
-/// A date and a time of day, as the instrument's clock shows them.
+/// A date and a time of day of the instrument's clock. That they exist in a calendar isn't checked.
 #[derive(Clone, Copy, Debug, PartialEq, Eq)]
 pub struct DateTime {
     pub year: i16,
@@ -24,7 +28,7 @@ pub struct DateTime {
 
 /// What a request asks for: a procedure with its parameters. The numbers and names of the procedures are those of the
 /// GeoCOM manual's tables; which parameters each has is this project's own choice after them. Angles are in radians,
-/// lengths in metres.
+/// lengths in metres. `dummy` is a parameter without a meaning, as in the manual.
 #[derive(Clone, Copy, Debug, PartialEq, Eq)]
 pub enum Call {
     /// COM_NullProc: does nothing; its reply shows that the line works.

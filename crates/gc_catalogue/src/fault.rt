@@ -17,7 +17,7 @@ pub enum CallFault {
 }
 
 impl CallFault {
-    /// The fault's number: 21 or 22.
+    /// The fault's number: 21 for `Unknown`, 22 for `Parameters`.
     pub fn number(self) -> u8
         ensures { result ≡ call_fault_number self }
     {

@@ -3,68 +3,70 @@
 ghost use Rattle.gc_catalogue.specs.AskedLaws.{AskedReadBack, EachReplyIsReadForAsked, OneAsked, OneAskedForALine, OneAskedReading, RawLinesFit};
 ghost use Rattle.gc_catalogue.specs.Laws.{NumbersDiffer, OneCallForALine, OneCallOrRefusal, OneReading, EachReplyIsRead, CallsReadBack, AnswersReadBack, DoublesAreRounded};
 
-/// No two procedures share a number: calls with one number have parameters of the same kinds and answers of one shape, and are one
-/// call where their values agree, too.
+/// No two procedures share a number: calls with the same number have parameters of the same kinds and answers of the same shape, and
+/// if their parameters agree too, they are the same call.
 pub fn numbers_differ()
     ensures { NumbersDiffer }
 {}
 
-/// Two calls with one line are one call, with one id.
+/// Two calls with the same request line are the same call, and have the same id.
 pub fn one_call_for_a_line()
     ensures { OneCallForALine }
 {}
 
-/// A number and parameters are those of one call, or have one refusal, and never both.
+/// The number and the parameters of a request are those of at most one call and have at most one refusal, and never both.
 pub fn one_call_or_refusal()
     ensures { OneCallOrRefusal }
 {}
 
-/// A reply to a call has one reading at most.
+/// A reply to a call has at most one reading.
 pub fn one_reading_for_a_reply()
     ensures { OneReading }
 {}
 
-/// Each reply has a reading for each call, whatever its codes and its parameters are.
+/// Each reply has a reading for each call, whatever the codes and the parameters of the reply are.
 pub fn each_reply_is_read()
     ensures { EachReplyIsRead }
 {}
 
-/// The line of a call reads back as that call.
+/// The request line of a call reads back as that call.
 pub fn calls_read_back()
     ensures { CallsReadBack }
 {}
 
-/// The line of a call's answer reads back as that answer with its doubles rounded, and the line of a refusal as that refusal.
+/// The reply line of a call's answer reads back as that answer with its doubles rounded, and the reply line of a refusal as that
+/// refusal.
 pub fn answers_read_back()
     ensures { AnswersReadBack }
 {}
 
-/// An answer is written with each double rounded to the places, and with every other value as it is.
+/// An answer is written with each double rounded to the precision, and with every other value unchanged.
 pub fn doubles_are_rounded()
     ensures { DoublesAreRounded }
 {}
 
-/// The line of a procedure that isn't in the table fits in a line, and its number is no procedure's of the table.
+/// The request line of a procedure that isn't in the table has at most 512 bytes without CR and LF, and no procedure of the table
+/// has its number.
 pub fn raw_lines_fit()
     ensures { RawLinesFit }
 {}
 
-/// A number and parameters ask for one thing at most.
+/// The number and the parameters of a request ask for at most one thing: one call of the table, or one procedure that isn't in it.
 pub fn one_asked()
     ensures { OneAsked }
 {}
 
-/// Two things that are asked by one line are one, with one id.
+/// Two requests with the same line ask for the same thing, and have the same id.
 pub fn one_asked_for_a_line()
     ensures { OneAskedForALine }
 {}
 
-/// The line of whatever is asked reads back as what was asked.
+/// The request line of whatever is asked reads back as what was asked.
 pub fn asked_read_back()
     ensures { AskedReadBack }
 {}
 
-/// A reply has one reading at most for what was asked.
+/// A reply has at most one reading for what was asked.
 pub fn one_asked_reading()
     ensures { OneAskedReading }
 {}

@@ -45,7 +45,7 @@ impl Call {
     }
 }
 
-/// The name of the procedure of the table that has this number. `None`: no procedure of the table has it.
+/// The manual's name of the procedure with this number. `None`: no procedure of the table has it.
 pub fn procedure_name(rpc: u16) -> Option<&'static str>
     ensures name { (call : Call) → (call_fields call).number ≡ rpc → option_map (λ name. name.now) result ≡ Some (call_name call) }
     ensures known { IfSome result (λ _. IsProcedure rpc) }

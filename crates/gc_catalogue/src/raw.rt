@@ -16,6 +16,7 @@ use gc_values::{ValueFault, split};
 pub struct RawCall {
     rpc: u16,
     params: RawText,
+    // This number may be asked for with these parameters.
     pub ghost is: { IsRawCall rpc (raw_bytes params) } by { IsRawCall-prop rpc (raw_bytes params) },
 }
 
@@ -35,7 +36,7 @@ pub enum RawFault {
 }
 
 impl RawFault {
-    // The fault of parameters that aren't at most 16 items.
+    // The `RawFault` for a fault that `items_fault` found: `OpenQuote` or `TooMany`.
     fn of_items(fault: ValueFault) -> RawFault
         ensures open_quote { fault ≡ ValueFault.OpenQuote → result ≡ RawFault.OpenQuote }
         ensures too_many { fault ≡ ValueFault.TooMany → result ≡ RawFault.TooMany }
@@ -47,7 +48,8 @@ impl RawFault {
     }
 }
 
-/// Why parameters aren't at most 16 items: `OpenQuote` or `TooMany`. `None`: they are at most 16 items.
+/// The fault of a list of parameters, whatever their kinds are: `OpenQuote` for an odd number of double quotes, `TooMany` for more than
+/// 16 items. `None`: the list has at most 16 items.
 pub(crate) fn items_fault(params: &[u8]) -> Option<ValueFault>
     ensures found { IfSome result (λ e. IsItemsRefusal params.now e) }
     ensures none { IfNone result (AreFewItems params.now) }
@@ -58,7 +60,7 @@ pub(crate) fn items_fault(params: &[u8]) -> Option<ValueFault>
     }
 }
 
-// Why a number and parameters may not be asked for as they are: the first fault that there is. `None`: they may.
+// The first fault, in the order of `RawFault`, for which this number may not be asked for with these parameters. `None`: it may.
 fn raw_fault(rpc: u16, params: &[u8]) -> Option<RawFault>
     ensures found { IfSome result (λ e. IsRawRefusal rpc params.now e) }
     ensures none { IfNone result (IsRawCall rpc params.now) }

@@ -2,11 +2,12 @@
 
 ghost use Rattle.std.specs.Prelude.{◌≡◌, ◌-◌, ◌≤◌, ◌++◌, length, drop, replicate};
 
-/// The most bytes of such parameters: a request's line of 512 bytes with an id has at least 9 before them.
+/// The most bytes that the parameters of a procedure that isn't in the table may have: a request's line of 512 bytes with an id has at
+/// least 9 before them.
 pub const RAW_BYTES: usize = 503;
 
-/// The parameters of a procedure that isn't in the table: at most 503 bytes. The unused bytes are zero. It has no model, since a `Copy`
-/// struct that holds one can't be passed by value and used again.
+/// The parameters of a procedure that isn't in the table: at most 503 bytes. The unused bytes are zero. The type has no
+/// model, since a `Copy` struct that holds a value with a model can't be passed by value and used again.
 #[derive(Clone, Copy, Debug, PartialEq, Eq)]
 pub struct RawText {
     bytes: [u8; RAW_BYTES],
@@ -16,7 +17,7 @@ pub struct RawText {
     pub ghost zeros: { drop len bytes ≡ replicate (503 - len) 0 },
 }
 
-// The bytes, and zeros after them up to 503.
+// The bytes, followed by as many zeros as make them 503 bytes.
 fn filled_up(bytes: &[u8]) -> [u8; RAW_BYTES]
     requires { length bytes.now ≤ 503 }
     ensures { result ≡ bytes.now ++ replicate (503 - length bytes.now) 0 }
@@ -29,7 +30,7 @@ fn filled_up(bytes: &[u8]) -> [u8; RAW_BYTES]
 impl RawText {
     ghost use Rattle.gc_catalogue.specs.RawTexts.{raw_bytes};
 
-    // The text of these bytes.
+    // Makes the text of these bytes, with zeros in its unused places.
     pub(crate) fn new(bytes: &[u8]) -> RawText
         requires { length bytes.now ≤ 503 }
         ensures { raw_bytes result ≡ bytes.now }

@@ -1,5 +1,5 @@
-//! The rows for reading: what each procedure asks its parameters for, and what each shape of answer asks for. The kinds
-//! of a procedure's parameters are what its row asks for.
+//! The rows for reading: of which kinds the parameters of each procedure are, and the values of each shape of answer. A row reads
+//! them one by one, in their order on the line.
 
 ghost use Rattle.std.specs.Prelude.{◌≡◌, ◌≢◌, ◌++◌, [], List, IsTrue, IsFalse};
 ghost use Rattle.gc_values.specs.Lists.{kinds_of};
@@ -8,6 +8,7 @@ ghost use Rattle.gc_values.specs.declared.value.Kind.{Kind};
 ghost use Rattle.gc_values.specs.declared.value.Value.{Value};
 ghost use Rattle.gc_catalogue.specs.Answers.{answer_fields};
 ghost use Rattle.gc_catalogue.specs.Calls.{call_fields};
+ghost use Rattle.gc_catalogue.specs.Lists.{FailsAll, ReadsAll};
 ghost use Rattle.gc_catalogue.specs.Structs.{date_values, station_values};
 ghost use Rattle.gc_catalogue.specs.declared.answer.Shape.TheVariants as shape;
 ghost use Rattle.gc_catalogue.specs.declared.call.Call.{Call};
@@ -16,13 +17,12 @@ use crate::answer::{Answer, Shape};
 use crate::call::{Call, DateTime, Station};
 use gc_values::Parameters;
 
-/// Asks for the parameters of the procedure with this number, makes the call of them in `call`, and says whether any
-/// procedure has the number.
+/// Reads the parameters of the procedure with this number, and makes a call of them in `call`. It returns `false`, and reads nothing,
+/// if no procedure has the number.
 pub(crate) fn read_row<P: Parameters>(rpc: u16, params: &mut P, call: &mut Call) -> bool
     ensures found { IsTrue result → (call_fields call.new).number ≡ rpc }
-    ensures reads { IsTrue result → P.reads params.new [] → P.reads params.old (call_fields call.new).values }
-    ensures fails { IsTrue result → (e : ValueFault) → P.fails params.new [] e
-        → P.fails params.old (kinds_of (call_fields call.new).values) e }
+    ensures reads { IsTrue result → ReadsAll P.reads params.old params.new (call_fields call.new).values }
+    ensures fails { IsTrue result → FailsAll P.fails params.old params.new (call_fields call.new).values }
     ensures none { IsFalse result → (other : Call) → (call_fields other).number ≢ rpc }
 {
     match rpc {
@@ -80,14 +80,15 @@ pub(crate) fn read_row<P: Parameters>(rpc: u16, params: &mut P, call: &mut Call)
     true
 }
 
-// The rows whose parameters are large are in functions of their own, so that the others don't make room for them.
+// The rows with large values are in functions of their own, so that the stack frames of `read_row` and `read_answer_row` stay small.
+// Each function has the contract of its table for its own row: that of `read_row` for one number, or of `read_answer_row` for one shape.
 
 // The row of CSV_SetDateTime: a date and a time of day.
 #[inline(never)]
 fn read_set_date<P: Parameters>(params: &mut P, call: &mut Call)
     ensures number { (call_fields call.new).number ≡ 5007 }
-    ensures reads { P.reads params.new [] → P.reads params.old (call_fields call.new).values }
-    ensures fails { (e : ValueFault) → P.fails params.new [] e → P.fails params.old (kinds_of (call_fields call.new).values) e }
+    ensures reads { ReadsAll P.reads params.old params.new (call_fields call.new).values }
+    ensures fails { FailsAll P.fails params.old params.new (call_fields call.new).values }
 {
     *call = Call::SetDate(read_date(params));
 }
@@ -96,8 +97,8 @@ fn read_set_date<P: Parameters>(params: &mut P, call: &mut Call)
 #[inline(never)]
 fn read_set_station<P: Parameters>(params: &mut P, call: &mut Call)
     ensures number { (call_fields call.new).number ≡ 2010 }
-    ensures reads { P.reads params.new [] → P.reads params.old (call_fields call.new).values }
-    ensures fails { (e : ValueFault) → P.fails params.new [] e → P.fails params.old (kinds_of (call_fields call.new).values) e }
+    ensures reads { ReadsAll P.reads params.old params.new (call_fields call.new).values }
+    ensures fails { FailsAll P.fails params.old params.new (call_fields call.new).values }
 {
     *call = Call::SetStation(read_station(params));
 }
@@ -106,8 +107,8 @@ fn read_set_station<P: Parameters>(params: &mut P, call: &mut Call)
 #[inline(never)]
 fn read_set_height<P: Parameters>(params: &mut P, call: &mut Call)
     ensures number { (call_fields call.new).number ≡ 2012 }
-    ensures reads { P.reads params.new [] → P.reads params.old (call_fields call.new).values }
-    ensures fails { (e : ValueFault) → P.fails params.new [] e → P.fails params.old (kinds_of (call_fields call.new).values) e }
+    ensures reads { ReadsAll P.reads params.old params.new (call_fields call.new).values }
+    ensures fails { FailsAll P.fails params.old params.new (call_fields call.new).values }
 {
     *call = Call::SetHeight(params.double());
 }
@@ -116,8 +117,8 @@ fn read_set_height<P: Parameters>(params: &mut P, call: &mut Call)
 #[inline(never)]
 fn read_position<P: Parameters>(params: &mut P, call: &mut Call)
     ensures number { (call_fields call.new).number ≡ 9027 }
-    ensures reads { P.reads params.new [] → P.reads params.old (call_fields call.new).values }
-    ensures fails { (e : ValueFault) → P.fails params.new [] e → P.fails params.old (kinds_of (call_fields call.new).values) e }
+    ensures reads { ReadsAll P.reads params.old params.new (call_fields call.new).values }
+    ensures fails { FailsAll P.fails params.old params.new (call_fields call.new).values }
 {
     *call = Call::Position {
         hz: params.double(),
@@ -128,12 +129,12 @@ fn read_position<P: Parameters>(params: &mut P, call: &mut Call)
     };
 }
 
-// The row of AUT_FineAdjust: two areas and a Boolean.
+// The row of AUT_FineAdjust: the two angles of the search area and a Boolean.
 #[inline(never)]
 fn read_fine_adjust<P: Parameters>(params: &mut P, call: &mut Call)
     ensures number { (call_fields call.new).number ≡ 9037 }
-    ensures reads { P.reads params.new [] → P.reads params.old (call_fields call.new).values }
-    ensures fails { (e : ValueFault) → P.fails params.new [] e → P.fails params.old (kinds_of (call_fields call.new).values) e }
+    ensures reads { ReadsAll P.reads params.old params.new (call_fields call.new).values }
+    ensures fails { FailsAll P.fails params.old params.new (call_fields call.new).values }
 {
     *call = Call::FineAdjust {
         area_hz: params.double(),
@@ -142,11 +143,11 @@ fn read_fine_adjust<P: Parameters>(params: &mut P, call: &mut Call)
     };
 }
 
-/// Asks for the values of an answer of this shape, and makes the answer of them in `answer`.
+/// Reads the values of an answer of this shape, and makes an answer of them in `answer`.
 pub(crate) fn read_answer_row<P: Parameters>(shape: Shape, params: &mut P, answer: &mut Answer)
     ensures found { (answer_fields answer.new).shape ≡ shape }
-    ensures reads { P.reads params.new [] → P.reads params.old (answer_fields answer.new).values }
-    ensures fails { (e : ValueFault) → P.fails params.new [] e → P.fails params.old (kinds_of (answer_fields answer.new).values) e }
+    ensures reads { ReadsAll P.reads params.old params.new (answer_fields answer.new).values }
+    ensures fails { FailsAll P.fails params.old params.new (answer_fields answer.new).values }
 {
     match shape {
         Shape::Nothing => *answer = Answer::Nothing,
@@ -156,7 +157,7 @@ pub(crate) fn read_answer_row<P: Parameters>(shape: Shape, params: &mut P, answe
         }
         Shape::Long => *answer = Answer::Long(params.long()),
         Shape::Name => read_name(params, answer),
-        Shape::Date => read_clock(params, answer),
+        Shape::Date => read_date_answer(params, answer),
         Shape::Temperature => read_temperature(params, answer),
         Shape::Place => read_place(params, answer),
         Shape::Height => read_height(params, answer),
@@ -170,18 +171,18 @@ pub(crate) fn read_answer_row<P: Parameters>(shape: Shape, params: &mut P, answe
 #[inline(never)]
 fn read_name<P: Parameters>(params: &mut P, answer: &mut Answer)
     ensures shape { (answer_fields answer.new).shape ≡ shape.Name }
-    ensures reads { P.reads params.new [] → P.reads params.old (answer_fields answer.new).values }
-    ensures fails { (e : ValueFault) → P.fails params.new [] e → P.fails params.old (kinds_of (answer_fields answer.new).values) e }
+    ensures reads { ReadsAll P.reads params.old params.new (answer_fields answer.new).values }
+    ensures fails { FailsAll P.fails params.old params.new (answer_fields answer.new).values }
 {
     *answer = Answer::Name(params.text());
 }
 
 // The answer `Date`: a date and a time of day.
 #[inline(never)]
-fn read_clock<P: Parameters>(params: &mut P, answer: &mut Answer)
+fn read_date_answer<P: Parameters>(params: &mut P, answer: &mut Answer)
     ensures shape { (answer_fields answer.new).shape ≡ shape.Date }
-    ensures reads { P.reads params.new [] → P.reads params.old (answer_fields answer.new).values }
-    ensures fails { (e : ValueFault) → P.fails params.new [] e → P.fails params.old (kinds_of (answer_fields answer.new).values) e }
+    ensures reads { ReadsAll P.reads params.old params.new (answer_fields answer.new).values }
+    ensures fails { FailsAll P.fails params.old params.new (answer_fields answer.new).values }
 {
     *answer = Answer::Date(read_date(params));
 }
@@ -190,8 +191,8 @@ fn read_clock<P: Parameters>(params: &mut P, answer: &mut Answer)
 #[inline(never)]
 fn read_temperature<P: Parameters>(params: &mut P, answer: &mut Answer)
     ensures shape { (answer_fields answer.new).shape ≡ shape.Temperature }
-    ensures reads { P.reads params.new [] → P.reads params.old (answer_fields answer.new).values }
-    ensures fails { (e : ValueFault) → P.fails params.new [] e → P.fails params.old (kinds_of (answer_fields answer.new).values) e }
+    ensures reads { ReadsAll P.reads params.old params.new (answer_fields answer.new).values }
+    ensures fails { FailsAll P.fails params.old params.new (answer_fields answer.new).values }
 {
     *answer = Answer::Temperature(params.double());
 }
@@ -200,8 +201,8 @@ fn read_temperature<P: Parameters>(params: &mut P, answer: &mut Answer)
 #[inline(never)]
 fn read_place<P: Parameters>(params: &mut P, answer: &mut Answer)
     ensures shape { (answer_fields answer.new).shape ≡ shape.Place }
-    ensures reads { P.reads params.new [] → P.reads params.old (answer_fields answer.new).values }
-    ensures fails { (e : ValueFault) → P.fails params.new [] e → P.fails params.old (kinds_of (answer_fields answer.new).values) e }
+    ensures reads { ReadsAll P.reads params.old params.new (answer_fields answer.new).values }
+    ensures fails { FailsAll P.fails params.old params.new (answer_fields answer.new).values }
 {
     *answer = Answer::Place(read_station(params));
 }
@@ -210,8 +211,8 @@ fn read_place<P: Parameters>(params: &mut P, answer: &mut Answer)
 #[inline(never)]
 fn read_height<P: Parameters>(params: &mut P, answer: &mut Answer)
     ensures shape { (answer_fields answer.new).shape ≡ shape.Height }
-    ensures reads { P.reads params.new [] → P.reads params.old (answer_fields answer.new).values }
-    ensures fails { (e : ValueFault) → P.fails params.new [] e → P.fails params.old (kinds_of (answer_fields answer.new).values) e }
+    ensures reads { ReadsAll P.reads params.old params.new (answer_fields answer.new).values }
+    ensures fails { FailsAll P.fails params.old params.new (answer_fields answer.new).values }
 {
     *answer = Answer::Height(params.double());
 }
@@ -220,8 +221,8 @@ fn read_height<P: Parameters>(params: &mut P, answer: &mut Answer)
 #[inline(never)]
 fn read_angles<P: Parameters>(params: &mut P, answer: &mut Answer)
     ensures shape { (answer_fields answer.new).shape ≡ shape.Angles }
-    ensures reads { P.reads params.new [] → P.reads params.old (answer_fields answer.new).values }
-    ensures fails { (e : ValueFault) → P.fails params.new [] e → P.fails params.old (kinds_of (answer_fields answer.new).values) e }
+    ensures reads { ReadsAll P.reads params.old params.new (answer_fields answer.new).values }
+    ensures fails { FailsAll P.fails params.old params.new (answer_fields answer.new).values }
 {
     *answer = Answer::Angles {
         hz: params.double(),
@@ -233,8 +234,8 @@ fn read_angles<P: Parameters>(params: &mut P, answer: &mut Answer)
 #[inline(never)]
 fn read_measured<P: Parameters>(params: &mut P, answer: &mut Answer)
     ensures shape { (answer_fields answer.new).shape ≡ shape.Measured }
-    ensures reads { P.reads params.new [] → P.reads params.old (answer_fields answer.new).values }
-    ensures fails { (e : ValueFault) → P.fails params.new [] e → P.fails params.old (kinds_of (answer_fields answer.new).values) e }
+    ensures reads { ReadsAll P.reads params.old params.new (answer_fields answer.new).values }
+    ensures fails { FailsAll P.fails params.old params.new (answer_fields answer.new).values }
 {
     *answer = Answer::Measured {
         hz: params.double(),
@@ -247,8 +248,8 @@ fn read_measured<P: Parameters>(params: &mut P, answer: &mut Answer)
 #[inline(never)]
 fn read_measured_mode<P: Parameters>(params: &mut P, answer: &mut Answer)
     ensures shape { (answer_fields answer.new).shape ≡ shape.MeasuredMode }
-    ensures reads { P.reads params.new [] → P.reads params.old (answer_fields answer.new).values }
-    ensures fails { (e : ValueFault) → P.fails params.new [] e → P.fails params.old (kinds_of (answer_fields answer.new).values) e }
+    ensures reads { ReadsAll P.reads params.old params.new (answer_fields answer.new).values }
+    ensures fails { FailsAll P.fails params.old params.new (answer_fields answer.new).values }
 {
     *answer = Answer::MeasuredMode {
         hz: params.double(),
@@ -258,7 +259,7 @@ fn read_measured_mode<P: Parameters>(params: &mut P, answer: &mut Answer)
     };
 }
 
-// Asks for a date's six parameters, and makes the date of them.
+// Reads the six parameters of a date, and makes a date of them.
 fn read_date<P: Parameters>(params: &mut P) -> DateTime
     ensures reads { (vs : List Value) → P.reads params.new vs → P.reads params.old (date_values result ++ vs) }
     ensures fails { (ks : List Kind) (e : ValueFault) → P.fails params.new ks e → P.fails params.old (kinds_of (date_values result) ++ ks) e }
@@ -273,7 +274,7 @@ fn read_date<P: Parameters>(params: &mut P) -> DateTime
     }
 }
 
-// Asks for a station's four parameters, and makes the station of them.
+// Reads the four parameters of a station, and makes a station of them.
 fn read_station<P: Parameters>(params: &mut P) -> Station
     ensures reads { (vs : List Value) → P.reads params.new vs → P.reads params.old (station_values result ++ vs) }
     ensures fails { (ks : List Kind) (e : ValueFault) → P.fails params.new ks e → P.fails params.old (kinds_of (station_values result) ++ ks) e }

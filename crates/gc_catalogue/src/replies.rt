@@ -4,12 +4,11 @@ ghost use Rattle.std.specs.Prelude.{◌≡◌, ◌≢◌, ◌+◌, ◌<◌, ◌�
 ghost use Rattle.arrayvec.specs.ArrayVec.{array_vec_len};
 ghost use Rattle.gc_lines.specs.Lines.{IsPlain};
 ghost use Rattle.gc_lines.specs.Replies.{reply_seen};
-ghost use Rattle.gc_catalogue.specs.Answers.{IsAnswerOf, IsFittingAnswer, rounded_answer};
-ghost use Rattle.gc_catalogue.specs.Laws.{ReadsBackAnswer};
-ghost use Rattle.gc_catalogue.specs.Readings.{beside_zeros, IsReading};
+ghost use Rattle.gc_catalogue.specs.Answers.{IsFittingAnswer, rounded_answer};
+ghost use Rattle.gc_catalogue.specs.Laws.{ReadsBackValue, ReadsBackRefusal};
+ghost use Rattle.gc_catalogue.specs.Readings.{successful_reply, IsReading};
 ghost use Rattle.gc_catalogue.specs.Texts.{reply_line};
 ghost use Rattle.gc_catalogue.specs.declared.answer.Reading.{Reading};
-ghost use Rattle.gc_catalogue.specs.declared.call.Call.{Call};
 
 use crate::answer::{Answer, Reading};
 use crate::call::Call;
@@ -18,7 +17,7 @@ use arrayvec::ArrayVec;
 use gc_lines::{Line, Reply, push_reply};
 use gc_values::{Listed, Quick};
 
-/// Appends the reply line of an answer, with each double rounded to the places. It fits in a line, whatever the answer
+/// Appends the reply line of an answer, with each double rounded to `places` places. It fits in a line, whatever the answer
 /// is, and reads back. With a return code other than 0, `answer` has to be `Nothing`.
 #[inline(always)]
 pub fn encode_answer_onto<const N: usize>(
@@ -34,20 +33,19 @@ pub fn encode_answer_onto<const N: usize>(
     requires room { array_vec_len out.old + 512 ≤ N }
     ensures line { out.new.items ≡ out.old.items ++ reply_line id rc answer.now places }
     ensures plain { IsPlain (reply_line id rc answer.now places) }
-    ensures reads_back { (call : Call) → rc ≡ 0 → IsAnswerOf call answer.now
-        → ReadsBackAnswer call id rc answer.now places (Reading.Value (rounded_answer places answer.now)) }
-    ensures refused { (call : Call) → rc ≢ 0 → ReadsBackAnswer call id rc answer.now places (Reading.Refused rc) }
+    ensures reads_back { ReadsBackValue id rc answer.now places }
+    ensures refused { ReadsBackRefusal id rc answer.now places }
     ensures fitting { IsFittingAnswer (rounded_answer places answer.now) }
     ensures bound { array_vec_len out.new ≤ array_vec_len out.old + 512 }
 {
     push_reply(out, 0, id, rc);
     out.push(b',');
     answer.write_row(places, out);
-    // Takes off the comma after the last value, or after the return code.
+    // Removes the comma after the last value, or after the return code.
     out.pop();
 }
 
-/// Writes the reply line of an answer, with each double rounded to the places. It fits in a line, whatever the answer
+/// Writes the reply line of an answer, with each double rounded to `places` places. It fits in a line, whatever the answer
 /// is, and reads back. With a return code other than 0, `answer` has to be `Nothing`.
 pub fn encode_answer(id: u8, rc: u16, answer: &Answer, places: u8) -> Line
     requires id { id < 8 }
@@ -55,18 +53,18 @@ pub fn encode_answer(id: u8, rc: u16, answer: &Answer, places: u8) -> Line
     requires refused { rc ≢ 0 → answer.now ≡ Answer.Nothing }
     ensures line { result.items ≡ reply_line id rc answer.now places }
     ensures plain { IsPlain result.items }
-    ensures reads_back { (call : Call) → rc ≡ 0 → IsAnswerOf call answer.now
-        → ReadsBackAnswer call id rc answer.now places (Reading.Value (rounded_answer places answer.now)) }
-    ensures refused { (call : Call) → rc ≢ 0 → ReadsBackAnswer call id rc answer.now places (Reading.Refused rc) }
+    ensures reads_back { ReadsBackValue id rc answer.now places }
+    ensures refused { ReadsBackRefusal id rc answer.now places }
 {
     let mut line = Line::new();
     encode_answer_onto(&mut line, id, rc, answer, places);
     line
 }
 
-// Tries to read parameters in the common spelling as the call's answer, into `reading`, and says whether that succeeded.
+// Reads parameters in the common spelling as the call's answer, into `reading`. It returns `false` if they aren't in the common
+// spelling; `reading` may then be any reading.
 fn read_quickly(call: &Call, params: &[u8], reading: &mut Reading) -> bool
-    ensures { IsTrue result → IsReading call.now (beside_zeros params.now) reading.new }
+    ensures { IsTrue result → IsReading call.now (successful_reply params.now) reading.new }
 {
     let mut quick = Quick::new(params);
     *reading = Reading::Value(Answer::Nothing);
@@ -78,10 +76,10 @@ fn read_quickly(call: &Call, params: &[u8], reading: &mut Reading) -> bool
     quick.is_done()
 }
 
-// Reads parameters in any spelling as the call's answer, or finds why they are none, into `reading`.
+// Reads parameters in any spelling into `reading`: the call's answer, or their first fault.
 #[inline(never)]
 fn read_any_spelling(call: &Call, params: &[u8], reading: &mut Reading)
-    ensures { IsReading call.now (beside_zeros params.now) reading.new }
+    ensures { IsReading call.now (successful_reply params.now) reading.new }
 {
     let mut listed = Listed::new(params);
     let mut answer = Answer::Nothing;
@@ -106,7 +104,7 @@ pub fn decode_answer_into(call: &Call, reply: &Reply<'_>, reading: &mut Reading)
     }
 }
 
-/// Reads what a reply says of its call. Parameters are read only where both codes are 0; their faults come in the
+/// Reads what a reply says in answer to a call. Parameters are read only where both codes are 0; their faults come in the
 /// order that `decode_call` has for a request's.
 pub fn decode_answer(call: &Call, reply: &Reply<'_>) -> Reading
     ensures found { IsReading call.now (reply_seen reply.now) result }

@@ -4,7 +4,7 @@ ghost use Rattle.std.specs.Prelude.{◌≡◌, ◌≢◌, ◌+◌, ◌<◌, ◌�
 ghost use Rattle.std.specs.Option.{ForSome};
 ghost use Rattle.arrayvec.specs.ArrayVec.{array_vec_len};
 ghost use Rattle.gc_lines.specs.Lines.{IsPlain};
-ghost use Rattle.gc_catalogue.specs.Calls.{IsCall, IsRefusal, IsFitting};
+ghost use Rattle.gc_catalogue.specs.Calls.{IsCall, IsCallOf, IsRefusal, IsRefusalOf, IsFitting};
 ghost use Rattle.gc_catalogue.specs.Laws.{ReadsBackCall};
 ghost use Rattle.gc_catalogue.specs.Texts.{request_line};
 ghost use Rattle.gc_catalogue.specs.declared.fault.CallFault.{CallFault};
@@ -43,7 +43,7 @@ pub fn encode_call(id: Option<u8>, call: &Call) -> Line
     line
 }
 
-// Takes a comma off the end, where there is one: the one after the last value.
+// Removes the comma at the end, if there is one. There is one after a call's last value, since each value is written with a comma after it.
 fn end_list<const N: usize>(out: &mut ArrayVec<u8, N>)
     ensures comma { (front : List ℕ) → out.old.items ≡ front ++ 44 ∷ [] → out.new.items ≡ front }
     ensures other { ((front : List ℕ) → out.old.items ≢ front ++ 44 ∷ []) → out.new.items ≡ out.old.items }
@@ -53,7 +53,8 @@ fn end_list<const N: usize>(out: &mut ArrayVec<u8, N>)
     }
 }
 
-// Tries to read a number and parameters in the common spelling as a call, into `call`, and says whether that succeeded.
+// Reads a number and parameters in the common spelling as a call, into `call`. It returns `false` if no procedure has the number, or the
+// parameters aren't in the common spelling; `call` may then be any call.
 fn read_quickly(rpc: u16, params: &[u8], call: &mut Call) -> bool
     ensures { IsTrue result → IsCall rpc params.now call.new }
 {
@@ -77,7 +78,7 @@ fn read_any_spelling(rpc: u16, params: &[u8], call: &mut Call) -> Result<(), Cal
     }
 }
 
-// Reads a number and parameters as a call, into `call`, or names the first fault: the quick way first.
+// Reads a number and parameters as a call, into `call`, or names the first fault. It tries the common spelling first.
 #[inline]
 fn read_call(rpc: u16, params: &[u8], call: &mut Call) -> Result<(), CallFault>
     ensures found { OnOk result (IsCall rpc params.now call.new) }
@@ -92,11 +93,11 @@ fn read_call(rpc: u16, params: &[u8], call: &mut Call) -> Result<(), CallFault>
 /// As [`decode_call`], but the call is written into `call`, which may be any call after a fault.
 #[inline]
 pub fn decode_call_into(request: &Request<'_>, call: &mut Call) -> Result<(), CallFault>
-    ensures found { OnOk result (IsCall request.now.rpc request.now.params.now call.new) }
+    ensures found { OnOk result (IsCallOf request.now call.new) }
     ensures fitting { OnOk result (IsFitting call.new) }
-    ensures only { (c : Call) → IsCall request.now.rpc request.now.params.now c → IsOk result × (call.new ≡ c) }
-    ensures fault { IfErr result (λ e. IsRefusal request.now.rpc request.now.params.now e) }
-    ensures exactly { (e : CallFault) → IsRefusal request.now.rpc request.now.params.now e → result ≡ Err e }
+    ensures only { (c : Call) → IsCallOf request.now c → IsOk result × (call.new ≡ c) }
+    ensures fault { IfErr result (λ e. IsRefusalOf request.now e) }
+    ensures exactly { (e : CallFault) → IsRefusalOf request.now e → result ≡ Err e }
 {
     read_call(request.rpc, request.params, call)
 }
@@ -106,11 +107,11 @@ pub fn decode_call_into(request: &Request<'_>, call: &mut Call) -> Result<(), Ca
 /// The faults come in this order: `Unknown` where no procedure has the number; then `Parameters` with `OpenQuote`,
 /// `TooMany`, `Count`, or `Spelling` or `Range` of the first parameter from the left that can't be read.
 pub fn decode_call(request: &Request<'_>) -> Result<Call, CallFault>
-    ensures found { IfOk result (λ call. IsCall request.now.rpc request.now.params.now call) }
+    ensures found { IfOk result (λ call. IsCallOf request.now call) }
     ensures fitting { IfOk result (λ call. IsFitting call) }
-    ensures only { (call : Call) → IsCall request.now.rpc request.now.params.now call → result ≡ Ok call }
-    ensures fault { IfErr result (λ e. IsRefusal request.now.rpc request.now.params.now e) }
-    ensures exactly { (e : CallFault) → IsRefusal request.now.rpc request.now.params.now e → result ≡ Err e }
+    ensures only { (call : Call) → IsCallOf request.now call → result ≡ Ok call }
+    ensures fault { IfErr result (λ e. IsRefusalOf request.now e) }
+    ensures exactly { (e : CallFault) → IsRefusalOf request.now e → result ≡ Err e }
 {
     let mut call = Call::NullProc;
     match decode_call_into(request, &mut call) {

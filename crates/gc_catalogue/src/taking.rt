@@ -1,5 +1,5 @@
-//! Takers, to which the number of a call and the values of a call or an answer are handed one by one: one writes them as
-//! bytes, and one keeps the number alone.
+//! Takers, to which the number of a call and the values of a call or an answer are handed one by one: `ArrayVec` appends them as
+//! bytes, and `NumberAlone` stores the number.
 
 ghost use Rattle.std.specs.Prelude.{◌≡◌, ◌+◌, ◌-◌, ◌/◌, ◌<◌, ◌≤◌, ◌++◌, ◌∷◌, [], ℕ, List, Option, length, suc};
 ghost use Rattle.std.specs.Option.{ForSome};
@@ -20,7 +20,7 @@ use gc_values::{
 /// A taker of a call's number, with the request's id, and of values, from the left. Each call's clause `takes` says what was
 /// taken up to some later state `t`, from the state before the call: its own value, and then what was taken after it.
 pub(crate) trait Taker {
-    /// For how many values there is room.
+    /// How many values can still be taken.
     ghost room: { Self → ℕ };
 
     /// From the first state to the last, these values were taken.
@@ -80,7 +80,7 @@ pub(crate) trait Taker {
         ensures takes { (vs : List Value) (t : Self) → takes self.new vs t → takes self.old (Value.Text v.now ∷ vs) t };
 }
 
-/// Takes everything, and keeps the number alone.
+/// A taker that stores a call's number and ignores its values.
 #[derive(Drop)]
 pub(crate) struct NumberAlone {
     pub(crate) rpc: u16,

@@ -14,7 +14,7 @@ use crate::taking::{NumberAlone, Taker};
 
 impl Call {
     /// Hands over the call's number and then its values, in their order on the line, and returns the shape of the
-    /// call's answers.
+    /// call's answers. It is the table of procedures, a row for each; the definition's is `call_fields`.
     pub(crate) fn write_row<T: Taker>(&self, id: Option<u8>, to: &mut T) -> Shape
         requires room { 7 ≤ T.room to.old }
         requires id { ForSome id (λ i. i < 8) }
@@ -204,7 +204,7 @@ impl Call {
 }
 
 impl Station {
-    // Hands over the coordinates and the instrument's height.
+    // Hands over the station's coordinates and the instrument's height, each with all its places.
     fn hand_over<T: Taker>(&self, to: &mut T)
         requires { 4 ≤ T.room to.old }
         ensures { (vs : List Value) (t : T) → T.takes to.new vs t → T.takes to.old (station_values self.now ++ vs) t }
@@ -232,7 +232,8 @@ impl DateTime {
 }
 
 impl Answer {
-    /// Hands over the answer's values, in their order on the line and with doubles rounded to the places.
+    /// Hands over the answer's values, in their order on the line, with doubles rounded to `places` places. It is the table of answers;
+    /// the definition's is `answer_fields`.
     pub(crate) fn write_row<T: Taker>(&self, places: u8, to: &mut T)
         requires places { places ≤ 15 }
         requires room { 6 ≤ T.room to.old }

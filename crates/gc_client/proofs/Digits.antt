@@ -6,7 +6,7 @@ use Rattle.gc_lines.specs.Replies.{ReplyFields, IsReply}
 use Rattle.gc_lines.specs.Readers.{reply_at}
 use Rattle.gc_lines.proofs.Replies.{reply_found, reply_again}
 use Rattle.gc_client.specs.Rule.{ById, place, place_in, fits, id_in}
-use Rattle.gc_client.specs.Ids.{id_at, id_of, IsWindow, Waits, SendKeepsIds, SettlingKeepsIds, HearsByGrammar}
+use Rattle.gc_client.specs.Ids.{id_at, id_of, IsWithinLimits, Waits, SendKeepsIds, SettlingKeepsIds, HearsByGrammar}
 
 -- a request that is sent has the next id, and the others keep theirs
 pub sending : (next waiting : ℕ) → next < 8 → waiting < 7 → SendKeepsIds next waiting
@@ -29,15 +29,15 @@ id_back : (next waiting id : ℕ) → next < 8 → waiting ≤ 7 → id < 8 → 
 id_back next waiting id digit few below = omega arith
 
 -- the id of the request at place k has place k
-pub place_of_id : {Q : Type 0} (c : ById Q) (k : ℕ) → IsWindow c → k < length c.waiting → place_in c (id_of c k) ≡ k
+pub place_of_id : {Q : Type 0} (c : ById Q) (k : ℕ) → IsWithinLimits c → k < length c.waiting → place_in c (id_of c k) ≡ k
 place_of_id c k w below = place_back c.next (length c.waiting) k w.digit w.few below
 
 -- two requests that wait with the same id are one request: their places j and k are equal
-pub same_id_same_place : {Q : Type 0} (c : ById Q) (j k : ℕ) → IsWindow c → j < length c.waiting → k < length c.waiting → id_of c j ≡ id_of c k → j ≡ k
+pub same_id_same_place : {Q : Type 0} (c : ById Q) (j k : ℕ) → IsWithinLimits c → j < length c.waiting → k < length c.waiting → id_of c j ≡ id_of c k → j ≡ k
 same_id_same_place c j k w below_j below_k same = sym (place_of_id c j w below_j) ∙ ap (place_in c) same ∙ place_of_id c k w below_k
 
 -- a reply's id fits exactly where a request with that id waits
-pub fits_where_it_waits : {Q : Type 0} (c : ById Q) (id : ℕ) → IsWindow c → id < 8 → (fits c (Some id) ≡ true) ↔ Waits c id
+pub fits_where_it_waits : {Q : Type 0} (c : ById Q) (id : ℕ) → IsWithinLimits c → id < 8 → (fits c (Some id) ≡ true) ↔ Waits c id
 fits_where_it_waits c id w digit = (
   λ fit. (place_in c id, ltb-true _ _ fit, id_back c.next (length c.waiting) id w.digit w.few digit),
   λ (k, below, same). lt-ltb _ _ (subst (λ j. j < length c.waiting) (sym (place_of_id c k w below) ∙ ap (place_in c) same) below),

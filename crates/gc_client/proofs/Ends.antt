@@ -6,22 +6,22 @@ use Rattle.gc_lines.proofs.Replies.{reply_found}
 use Rattle.gc_client.specs.declared.pending.Pending.{Pending}
 use Rattle.gc_client.specs.declared.settlement.Outcome.{Outcome}
 use Rattle.gc_client.specs.declared.settlement.Outcome.TheVariants.{Answered, Late, Lost}
-use Rattle.gc_client.specs.Rule.{ById, lost, met, settle, id_in, heard, id_settled, hears}
+use Rattle.gc_client.specs.Rule.{ById, lost, settled_by_line, settle, id_in, heard, id_settled, hears}
 use Rattle.gc_client.specs.Places.{place_heard}
 use Rattle.gc_client.specs.Rule
 use Rattle.gc_client.specs.Settlements.{Says, IsAnsweredBy, IsSettledBy}
 
 -- the rule's settlement of a request by a reply line, where the request had timed out (true) or hadn't
-abbrev met_when : {Q : Type 0} → Pending Q → List ℕ → Bool → Rule.Settlement Q
-met_when p line given_up = record { target = p.target; call = p.call; outcome = if given_up then Rule.Late else Rule.Answered line }
+abbrev settled_when : {Q : Type 0} → Pending Q → List ℕ → Bool → Rule.Settlement Q
+settled_when p line given_up = record { target = p.target; call = p.call; outcome = if given_up then Rule.Late else Rule.Answered line }
 
 -- where a request hadn't timed out, and an outcome is the answer that this reply line gives it, the request with that
 -- outcome is the settlement that the rule makes of it by that line
 pub answered_is : {Q : Type 0} (says : Says Q) (p : Pending Q) (line : List ℕ) (fields : ReplyFields) (o : Outcome) → p.given_up ≡ false → reply_at line ≡ Ok fields
-    → IsAnsweredBy says p.call fields line o → IsSettledBy says (record { target = p.target; call = p.call; outcome = o }) (met p line)
+    → IsAnsweredBy says p.call fields line o → IsSettledBy says (record { target = p.target; call = p.call; outcome = o }) (settled_by_line p line)
 answered_is says p line fields (Answered reading copy) given_up reads (same, is_said) =
     record {
-      seen = ap₂ (met_when p) same (sym given_up);
+      seen = ap₂ (settled_when p) same (sym given_up);
       read = record { reply = fields; is_reply = reply_found copy.items fields (ap reply_at same ∙ reads); is_reading = is_said };
     }
 answered_is says p line fields Late given_up reads is = absurd is
@@ -29,10 +29,10 @@ answered_is says p line fields Lost given_up reads is = absurd is
 
 -- settling through place k settles the first k requests as lost, and the one at place k by the line
 pub settle_is : {Q : Type 0} (k : ℕ) (line : List ℕ) (ws : List (Pending Q)) (p : Pending Q) (left : List (Pending Q)) → drop k ws ≡ p ∷ left
-    → settle k line ws ≡ map lost (take k ws) ++ met p line ∷ []
+    → settle k line ws ≡ map lost (take k ws) ++ settled_by_line p line ∷ []
 settle_is zero line [] p left e = cc
 settle_is (suc k) line [] p left e = cc
-settle_is zero line (w ∷ ws) p left e = let same : w ≡ p = cc in ap (λ x. met x line ∷ []) same
+settle_is zero line (w ∷ ws) p left e = let same : w ≡ p = cc in ap (λ x. settled_by_line x line ∷ []) same
 settle_is (suc k) line (w ∷ ws) p left e = ap (λ rs. lost w ∷ rs) (settle_is k line ws p left e)
 
 -- `None` isn't `Some k`

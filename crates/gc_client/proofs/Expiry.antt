@@ -30,8 +30,8 @@ expired_is now p e = ap (λ b. record p { given_up = b }) (flag (nat_le p.deadli
   flag false false e = e
 
 -- a request that doesn't time out at this moment stays as it is
-stays : {Q : Type 0} (now : ℕ) (p : Pending Q) → is_expiring now p ≡ false → expired now p ≡ p
-stays now p e = ap (λ b. record p { given_up = b }) (flag (nat_le p.deadline now) p.given_up e) where
+expired_unchanged : {Q : Type 0} (now : ℕ) (p : Pending Q) → is_expiring now p ≡ false → expired now p ≡ p
+expired_unchanged now p e = ap (λ b. record p { given_up = b }) (flag (nat_le p.deadline now) p.given_up e) where
   -- of a request that isn't due, or has timed out already, the new mark is the old one
   flag : (due given : Bool) → (due && not given) ≡ false → (given || due) ≡ given
   flag due true e = refl
@@ -84,22 +84,22 @@ module _ {Q : Type 0} (now k : ℕ) (ws qs : List (Pending Q)) (p : Pending Q) (
   pub not_due_done : is_expiring now p ≡ false → qs ≡ expired_up_to now (k + 1) ws
   not_due_done b =
       done ∙ ap (λ l. map (expired now) (take k ws) ++ l) (drop_turn ws k p at_k)
-      ∙ ap (λ x. map (expired now) (take k ws) ++ x ∷ drop (suc k) ws) (sym (stays now p b))
+      ∙ ap (λ x. map (expired now) (take k ws) ++ x ∷ drop (suc k) ws) (sym (expired_unchanged now p b))
       ∙ sym (expired_one_more now k ws p at_k) ∙ ap (λ m. expired_up_to now m ws) suc_k
 
   -- where the request at place k times out at the moment, its target is the next in the list
-  pub due_told : (targets : List ℕ) → targets ≡ expiring now (take k ws) → is_expiring now p ≡ true → targets ++ p.target ∷ [] ≡ expiring now (take (k + 1) ws)
-  due_told targets told b =
-      ap₂ (λ xs ys. xs ++ ys) told (sym (one b)) ∙ sym (next_expiring now k ws p at_k) ∙ ap (λ m. expiring now (take m ws)) suc_k
+  pub due_listed : (targets : List ℕ) → targets ≡ expiring now (take k ws) → is_expiring now p ≡ true → targets ++ p.target ∷ [] ≡ expiring now (take (k + 1) ws)
+  due_listed targets listed b =
+      ap₂ (λ xs ys. xs ++ ys) listed (sym (one b)) ∙ sym (next_expiring now k ws p at_k) ∙ ap (λ m. expiring now (take m ws)) suc_k
     where
       -- where p times out at the moment, the list of the targets timed out, for p alone, is p's target
       one : is_expiring now p ≡ true → expiring now (p ∷ []) ≡ p.target ∷ []
       one b = rw b refl
 
   -- where the request at place k doesn't time out at the moment, the list of targets stays as it is
-  pub not_due_told : (targets : List ℕ) → targets ≡ expiring now (take k ws) → is_expiring now p ≡ false → targets ≡ expiring now (take (k + 1) ws)
-  not_due_told targets told b =
-      told ∙ sym (append_none _) ∙ ap (λ ys. expiring now (take k ws) ++ ys) (sym (none b)) ∙ sym (next_expiring now k ws p at_k) ∙ ap (λ m. expiring now (take m ws)) suc_k
+  pub not_due_listed : (targets : List ℕ) → targets ≡ expiring now (take k ws) → is_expiring now p ≡ false → targets ≡ expiring now (take (k + 1) ws)
+  not_due_listed targets listed b =
+      listed ∙ sym (append_none _) ∙ ap (λ ys. expiring now (take k ws) ++ ys) (sym (none b)) ∙ sym (next_expiring now k ws p at_k) ∙ ap (λ m. expiring now (take m ws)) suc_k
     where
       -- where p doesn't time out at the moment, the list of the targets timed out, for p alone, is empty
       none : is_expiring now p ≡ false → expiring now (p ∷ []) ≡ []

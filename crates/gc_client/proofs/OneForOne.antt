@@ -5,7 +5,7 @@ use Rattle.std.proofs.Common.{◌≡◌, ℕ, zero, suc, ◌+◌, Bool, true, fa
 use Rattle.std.proofs.lemmas.List.{map-append, append-nil}
 use Rattle.gc_client.specs.declared.pending.Pending.{Pending}
 use Rattle.gc_client.specs.Rule.{Settled, ById, expired, lost, settle, place, heard, id_send, id_settled, hears, restarts}
-use Rattle.gc_client.specs.OneForOne.{Step, Send, Hear, Expire, Restart, Course, of_settled, of_pending, begun, sent_on, settled_on, goes, course, IsOneForOne}
+use Rattle.gc_client.specs.OneForOne.{Step, Send, Hear, Expire, Restart, Course, of_settled, of_pending, begun, sent_on, settled_on, course_after, course, IsOneForOne}
 
 -- the requests settled through place k, and after them the requests past that place, are those that waited, in order
 settle_parts : {Q : Type 0} (k : ℕ) (line : List ℕ) (ps : List (Pending Q)) → map of_settled (settle k line ps) ++ map of_pending (drop (suc k) ps) ≡ map of_pending ps
@@ -51,7 +51,7 @@ settled_keeps x s parts h = pieces ∙ ap (λ l. map of_settled x.settlements ++
   pieces = simp (map-append, append_assoc)
 
 -- every step keeps a course one for one
-step_keeps : {Q : Type 0} (width : ℕ) (x : Course Q) (step : Step Q) → IsOneForOne x → IsOneForOne (goes width x step)
+step_keeps : {Q : Type 0} (width : ℕ) (x : Course Q) (step : Step Q) → IsOneForOne x → IsOneForOne (course_after width x step)
 step_keeps width x (Send target call deadline) h = sent_keeps x target call deadline (eqb (length x.client.waiting) width) h
 step_keeps width x (Hear line) h = settled_keeps x (hears x.client line (heard line)) (heard_parts x.client line (heard line)) h
 step_keeps width x (Expire now) h = ap (λ l. map of_settled x.settlements ++ l) (expired_parts now x.client.waiting) ∙ h
@@ -60,7 +60,7 @@ step_keeps width x Restart h = settled_keeps x (restarts x.client) (append-nil _
 -- all steps, one after the other, keep a course one for one
 steps_keep : {Q : Type 0} (width : ℕ) (x : Course Q) (steps : List (Step Q)) → IsOneForOne x → IsOneForOne (course width x steps)
 steps_keep width x [] h = h
-steps_keep width x (step ∷ steps) h = steps_keep width (goes width x step) steps (step_keeps width x step h)
+steps_keep width x (step ∷ steps) h = steps_keep width (course_after width x step) steps (step_keeps width x step h)
 
 -- a new client's course is one for one, whatever the steps
 pub one_for_one : {Q : Type 0} (width : ℕ) (steps : List (Step Q)) → IsOneForOne (course width begun steps)

@@ -10,7 +10,7 @@ use Rattle.gc_client.specs.Rule
 use Rattle.gc_client.specs.Settlements.{Says, settlement_seen, IsReadBy, IsSettledBy, AreSettledBy}
 use Rattle.gc_client.proofs.Lists.{take_turn, head_of_drop}
 
--- a list of one settlement that is well read is a list of well read settlements
+-- where the outcome of a settlement is read by `says`, so are the outcomes of the list of this settlement alone
 well_read_one : {Q : Type 0} (says : Says Q) (s : Settlement Q) → IsReadBy says s.call s.outcome → All (λ s. IsReadBy says s.call s.outcome) (s ∷ [])
 well_read_one says s read zero d lt = read
 well_read_one says s read (suc k) d lt = absurd (omega arith)

@@ -1,6 +1,6 @@
--- A beginning, this project's own: null procedures, one after the other, whose ids are those of a fixed list, the word. It
--- is meant to leave no line from before in flight, once all are answered. It rests on ids alone, and on no clock. When it
--- does so, and what the line has to do for it, is said in `gc_field`.
+-- A beginning, this project's own: null procedures, one after the other, whose ids are those of a fixed list, the word. Once all are
+-- answered, no line from before is to be in flight. It uses ids alone, and no clock. The theorem about this, with its premises, is in
+-- `gc_field`.
 use Rattle.std.specs.Prelude.{◌≡◌, ◌⊎◌, ℕ, Bool, true, false, List, [], ◌∷◌, Option, Some, None, nat_eq}
 use Rattle.gc_catalogue.specs.declared.call.Call.TheVariants.{NullProc}
 use Rattle.gc_catalogue.specs.Texts.{request_line}
@@ -10,7 +10,7 @@ use Rattle.gc_catalogue.specs.Texts.{request_line}
 abbrev pub the_word : List ℕ
 the_word = 6 ∷ 5 ∷ 4 ∷ 3 ∷ 2 ∷ 1 ∷ 0 ∷ 7 ∷ []
 
--- the first ids are a subsequence of the second ones: they are among these in their order, with any others between
+-- the first list is a subsequence of the second: its ids are in the second list in the same order, with any others between
 abbrev pub IsSubsequence : List ℕ → List ℕ → Type 0
 IsSubsequence [] ids = Unit {0}
 IsSubsequence (w ∷ word) [] = ⊥
@@ -19,27 +19,24 @@ IsSubsequence (w ∷ word) (i ∷ ids) = ((w ≡ i) × IsSubsequence word ids) �
 -- Below, a beginning is the list of the ids of the word that aren't answered yet: the whole word at first, and empty once it
 -- has begun.
 
--- the line of the null procedure that is asked for: that of the first id that isn't answered, the same whenever it is sent.
--- None where all are answered
+-- the line of the null procedure with the first id that isn't answered; none if all are answered
 abbrev pub asks : List ℕ → Option (List ℕ)
 asks [] = None
 asks (asked ∷ rest) = Some (request_line (Some asked) NullProc)
 
--- whether a line that is heard with this id, or with none, answers the null procedure that is asked for: a reply with the id of
--- that null procedure does, whatever its codes and parameters
+-- whether a reply with this id, or a line without one (`None`), answers the null procedure with the first id that isn't answered: it does if
+-- it has that id
 abbrev pub is_answered : List ℕ → Option ℕ → Bool
 is_answered [] id = false
 is_answered (asked ∷ rest) None = false
 is_answered (asked ∷ rest) (Some id) = nat_eq id asked
 
--- the ids that aren't answered yet, where `asked` was asked for and `rest` comes after it: `rest` alone if it was answered
--- (true), else both
+-- the ids that aren't answered yet, of `asked` and `rest`: `rest` alone if `asked` was answered (true), else both
 abbrev pub left_by_one : Bool → ℕ → List ℕ → List ℕ
 left_by_one true asked rest = rest
 left_by_one false asked rest = asked ∷ rest
 
--- the ids that aren't answered yet after a line that is heard with this id, or with none: a line that doesn't answer changes
--- nothing
+-- the ids that aren't answered yet after a reply with this id, or a line without one: a line that doesn't answer changes nothing
 abbrev pub left_by : List ℕ → Option ℕ → List ℕ
 left_by [] id = []
 left_by (asked ∷ rest) id = left_by_one (is_answered (asked ∷ rest) id) asked rest

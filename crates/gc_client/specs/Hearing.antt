@@ -1,29 +1,64 @@
--- What a client makes of a line, this project's own: it settles, it is a stray, or it is no reply by the manual's chapter on the
--- ASCII protocol.
-use Rattle.std.specs.Prelude.{◌≡◌, ℕ, true, false, List, [], IsOk, Err}
+-- What a client does with a line, this project's own: the line settles requests, is a stray, or is no reply by the manual's chapter on
+-- the ASCII protocol.
+use Rattle.std.specs.Prelude.{◌≡◌, ℕ, true, false, List, [], map, take, IsOk, Err}
 use Rattle.gc_lines.specs.Readers.{reply_at}
+use Rattle.gc_client.specs.declared.pending.Pending.{Pending}
 use Rattle.gc_client.specs.declared.settlement.Settlement.{Settlement}
 use Rattle.gc_client.specs.declared.heard.Heard.{Heard}
 use Rattle.gc_client.specs.declared.heard.Hearing.{Hearing}
 use Rattle.gc_client.specs.declared.heard.Hearing.TheVariants as kind
+use Rattle.gc_lines.specs.declared.fault.LineFault.TheVariants.{TooLong}
 use Rattle.gc_client.specs.declared.heard.Heard.TheVariants.{Settled, Stray, Unread}
-use Rattle.gc_client.specs.Rule.{ById, heard, fits}
+use Rattle.gc_client.specs.Rule.{ById, Windowed, heard, fits, hears, id_settled, lost}
+use Rattle.gc_client.specs.Settlements.{Says, AreSettledBy}
 
--- what a line settled
+-- the settlements in what a client reports of a line
 abbrev pub settlements_in : {Q : Type 0} → Heard Q → List (Settlement Q)
 settlements_in (Settled settlements) = settlements.items
 settlements_in Stray = []
 settlements_in (Unread fault) = []
 
--- what a client makes of a line, by the kind of what it heard: `old` is the client before the line and `new` after it. A stray
--- and a line that is no reply settle nothing and change nothing; what a reply settles is said by `AreSettledBy`
+-- what a client reports of a line is right: `old` is the client before the line, and `new` after it. A stray and a line that is no reply
+-- settle nothing and change nothing; which settlements a reply makes is in `AreSettledBy`
 abbrev pub HearsInto : {Q : Type 0} → ById Q → List ℕ → Hearing → List (Settlement Q) → ById Q → Type 0
 HearsInto old line kind.Settled settlements new = fits old (heard line) ≡ true
 HearsInto old line kind.Stray settlements new = IsOk (reply_at line) × (fits old (heard line) ≡ false) × (settlements ≡ []) × (new ≡ old)
 HearsInto old line (kind.Unread fault) settlements new = (reply_at line ≡ Err fault) × (settlements ≡ []) × (new ≡ old)
 
--- what a client makes of a line, by what it heard: as `HearsInto` has it, for a result that has the settlements in itself
+-- the same as `HearsInto`, of a report that contains the settlements
 abbrev pub HearsAs : {Q : Type 0} → ById Q → List ℕ → Heard Q → ById Q → Type 0
 HearsAs old line (Settled settlements) new = fits old (heard line) ≡ true
 HearsAs old line Stray new = IsOk (reply_at line) × (fits old (heard line) ≡ false) × (new ≡ old)
 HearsAs old line (Unread fault) new = (reply_at line ≡ Err fault) × (new ≡ old)
+
+-- these settlements, read by the relation `says`, are those that the rule makes of the line in the client `old`
+abbrev pub AreSettledByLine : {Q : Type 0} → Says Q → ById Q → (line : List ℕ) → List (Settlement Q) → Type 0
+AreSettledByLine says old line settlements = AreSettledBy says settlements (hears old line (heard line)).settlements
+
+-- the client `new` is what the rule makes of `old` by the line
+abbrev pub IsAfterLine : {Q : Type 0} → Windowed Q → (line : List ℕ) → Windowed Q → Type 0
+IsAfterLine old line new = new ≡ record old { ids = (hears old.ids line (heard line)).client }
+
+-- by the rule the line settles nothing in this client
+abbrev pub SettlesNone : {Q : Type 0} → ById Q → (line : List ℕ) → Type 0
+SettlesNone c line = (hears c line (heard line)).settlements ≡ []
+
+-- by the rule the line leaves this client unchanged
+abbrev pub LeavesUnchanged : {Q : Type 0} → ById Q → (line : List ℕ) → Type 0
+LeavesUnchanged c line = (hears c line (heard line)).client ≡ c
+
+-- a line of more than 512 bytes is reported as too long, there are no settlements, and the client `new` is `old`
+abbrev pub IsOverlong : {Q : Type 0} → Hearing → List (Settlement Q) → (old new : Windowed Q) → Type 0
+IsOverlong hearing settlements old new = (hearing ≡ kind.Unread TooLong) × (settlements ≡ []) × (new ≡ old)
+
+-- these settlements, read by the relation `says`, are those of the client's request at place k by the line, and of those before it as lost
+abbrev pub AreSettledAt : {Q : Type 0} → Says Q → ById Q → (line : List ℕ) → (k : ℕ) → List (Settlement Q) → Type 0
+AreSettledAt says old line k settlements = AreSettledBy says settlements (id_settled old line k true).settlements
+
+-- the client `new` is what is left of `old` when its request at place k, and those before it, are settled by the line
+abbrev pub IsAfterSettling : {Q : Type 0} → Windowed Q → (line : List ℕ) → (k : ℕ) → Windowed Q → Type 0
+IsAfterSettling old line k new = new ≡ record old { ids = (id_settled old.ids line k true).client }
+
+-- the first `count` settlements are those of the first `count` requests as lost, read by the relation `says`
+abbrev pub AreFirstLost : {Q : Type 0} → Says Q → (count : ℕ) → List (Pending Q) → List (Settlement Q) → Type 0
+AreFirstLost says count requests settlements = AreSettledBy says (take count settlements) (map lost (take count requests))

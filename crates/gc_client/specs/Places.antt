@@ -1,13 +1,17 @@
--- No part of a promise: places, as the code counts them.
-use Rattle.std.specs.Prelude.{ℕ, List, ◌++◌, take, drop, Option, Some, None, if◌then◌else◌, nat_lt}
-use Rattle.gc_client.specs.Rule.{place}
+-- Places of requests in a window, as the code counts them: for contracts of private functions.
+use Rattle.std.specs.Prelude.{◌≡◌, ℕ, List, ◌++◌, length, take, drop, Option, Some, None, if◌then◌else◌, nat_lt}
+use Rattle.gc_client.specs.Rule.{ById, place}
 
--- the place of the request that waits for a reply with this id, if one does, and none for a reply without an id. `next` is the client's next
--- id, and `waiting` how many requests wait
+-- the place of the request that waits for a reply with this id; none if no request does, or if the reply has no id. `next` is the client's
+-- next id, and `waiting` how many requests wait
 abbrev pub place_heard : ℕ → ℕ → Option ℕ → Option ℕ
 place_heard next waiting None = None
 place_heard next waiting (Some id) = if nat_lt (place next waiting id) waiting then Some (place next waiting id) else None
 
--- `len` elements from the oldest's place on, going round at the end of the list
+-- in this client, the request that waits for a reply with this id is at place k
+abbrev pub IsPlaceHeard : {Q : Type 0} → ById Q → Option ℕ → (k : ℕ) → Type 0
+IsPlaceHeard c id k = place_heard c.next (length c.waiting) id ≡ Some k
+
+-- the `len` elements from the place `oldest` on, going round at the end of the list
 abbrev pub waiting_in : {A : Type 0} → ℕ → ℕ → List A → List A
 waiting_in oldest len places = take len (drop oldest places ++ take oldest places)

@@ -21,12 +21,12 @@ pub record Settlement (Q : Type 0) : Type 0 where
   pub call : Q
   pub outcome : Outcome
 
--- a client that knows requests by ids: the next id, and the requests that wait, oldest first
+-- what a client stores: the next id, and the requests that wait, oldest first
 pub record ById (Q : Type 0) : Type 0 where
   pub next : ℕ
   pub waiting : List (Pending Q)
 
--- a client as its caller sees it: how many requests it lets wait, which never changes, and what it knows by ids
+-- a client as its caller sees it: how many requests it lets wait, which never changes, and what it stores
 pub record Windowed (Q : Type 0) : Type 0 where
   pub width : ℕ
   pub ids : ById Q
@@ -36,12 +36,12 @@ pub record Sending (Client : Type 0) : Type 0 where
   pub id : ℕ
   pub client : Client
 
--- what was settled, and the client after it
+-- what a line or a restart settles, in order, and the client after it
 pub record Settled (Q Client : Type 0) : Type 0 where
   pub settlements : List (Settlement Q)
   pub client : Client
 
--- a client at its start
+-- a client at its start: the first id is 0, and no request waits
 abbrev pub fresh : {Q : Type 0} → ById Q
 fresh = record { next = 0; waiting = [] }
 
@@ -51,11 +51,11 @@ IsWidth width = (1 ≤ width) × (width ≤ WINDOW)
 
 -- Pendings.
 
--- a request that has just been sent
+-- a request that has just been sent, with this target, call and deadline
 abbrev pub pending_of : {Q : Type 0} → ℕ → Q → ℕ → Pending Q
 pending_of target call deadline = record { target = target; call = call; deadline = deadline; given_up = false }
 
--- the request, marked as timed out from now on if its deadline is at most this moment
+-- the request as it is after this moment: timed out if it had timed out before, or if its deadline is at most this moment
 abbrev pub expired : {Q : Type 0} → ℕ → Pending Q → Pending Q
 expired now p = record p { given_up = p.given_up || nat_le p.deadline now }
 
@@ -71,12 +71,12 @@ expiring now ps = map (λ p. p.target) (filter (is_expiring now) ps)
 abbrev pub deadlines : {Q : Type 0} → List (Pending Q) → List ℕ
 deadlines ps = map (λ p. p.deadline) (filter (λ p. not p.given_up) ps)
 
--- the earliest of these moments: none where there are none, and else the least
+-- this is the earliest of the moments `ds`: none if there are none, else the least
 abbrev pub IsEarliest : List ℕ → Option ℕ → Type 0
 IsEarliest ds None = ds ≡ []
 IsEarliest ds (Some d) = Contains ds d × All (λ e. d ≤ e) ds
 
--- the requests, with the one at place k timed out
+-- the requests, with the one at place k marked as timed out
 abbrev pub given_up_at : {Q : Type 0} → ℕ → List (Pending Q) → List (Pending Q)
 given_up_at k [] = []
 given_up_at zero (p ∷ ps) = record p { given_up = true } ∷ ps
@@ -88,14 +88,14 @@ given_up_at (suc k) (p ∷ ps) = p ∷ given_up_at k ps
 abbrev pub lost : {Q : Type 0} → Pending Q → Settlement Q
 lost p = record { target = p.target; call = p.call; outcome = Lost }
 
--- the settlement of a request by this reply line: late where the request had timed out, else answered
-abbrev pub met : {Q : Type 0} → Pending Q → List ℕ → Settlement Q
-met p line = record { target = p.target; call = p.call; outcome = if p.given_up then Late else Answered line }
+-- the settlement of a request by this reply line: late if the request had timed out, else answered
+abbrev pub settled_by_line : {Q : Type 0} → Pending Q → List ℕ → Settlement Q
+settled_by_line p line = record { target = p.target; call = p.call; outcome = if p.given_up then Late else Answered line }
 
--- the settlements of the first k requests as lost, and of the next one by this line
+-- the settlements of the first k of these requests as lost, and of the next one by this reply line
 abbrev pub settle : {Q : Type 0} → ℕ → List ℕ → List (Pending Q) → List (Settlement Q)
 settle k line [] = []
-settle zero line (p ∷ ps) = met p line ∷ []
+settle zero line (p ∷ ps) = settled_by_line p line ∷ []
 settle (suc k) line (p ∷ ps) = lost p ∷ settle k line ps
 
 -- Ids.
@@ -104,11 +104,11 @@ settle (suc k) line (p ∷ ps) = lost p ∷ settle k line ps
 abbrev pub place : ℕ → ℕ → ℕ → ℕ
 place next waiting id = (id + IDS - (next + IDS - waiting) % IDS) % IDS
 
--- the place of an id among the requests that wait
+-- how far an id lies after that of the client's oldest request: the place of the request with this id, if one waits
 abbrev pub place_in : {Q : Type 0} → ById Q → ℕ → ℕ
 place_in c id = place c.next (length c.waiting) id
 
--- whether a reply with this id, or with none, fits a request that waits
+-- whether a request waits with this id; a reply without an id (`None`) fits no request
 abbrev pub fits : {Q : Type 0} → ById Q → Option ℕ → Bool
 fits c None = false
 fits c (Some id) = nat_lt (place_in c id) (length c.waiting)
@@ -118,14 +118,14 @@ abbrev pub id_in : Result ReplyFields LineFault → Option ℕ
 id_in (Ok reply) = reply.id
 id_in (Err fault) = None
 
--- the id that a line has, where it reads as a reply with one; the law `ids_are_heard` says the same by the grammar of replies
+-- the id of a line that reads as a reply with an id, else none; the law `ids_are_heard` says the same by the grammar of replies
 abbrev pub heard : List ℕ → Option ℕ
 heard line = id_in (reply_at line)
 
 -- The rule.
 
--- what a send gives: none, which is a refusal, where the window is full (true), and else the request's id and the client after
--- the send
+-- what a send gives, by whether the window is full: if it is (true), none, which is a refusal, and else the request's id and the client
+-- after the send
 abbrev pub id_send : {Q : Type 0} → ById Q → ℕ → Q → ℕ → Bool → Option (Sending (ById Q))
 id_send c target call deadline true = None
 id_send c target call deadline false =
@@ -139,8 +139,22 @@ id_send c target call deadline false =
 abbrev pub sends : {Q : Type 0} → ℕ → ById Q → ℕ → Q → ℕ → Option (Sending (ById Q))
 sends width c target call deadline = id_send c target call deadline (nat_eq (length c.waiting) width)
 
--- what a reply line does, by the place k of its id. Where a request waits at that place (true), it and those before it are
--- settled and wait no more. Where none does (false), nothing changes
+-- the rule accepts a send of this call, which leads the client from `old` to `new`, and `line` is the request line with the id that was next,
+-- where `line_of` gives the request line of a call with an id
+abbrev pub IsAcceptedSend : {Q : Type 0} → (Option ℕ → Q → List ℕ) → Windowed Q → ℕ → Q → ℕ → Windowed Q → List ℕ → Type 0
+IsAcceptedSend line_of old target call deadline new line =
+    (sends old.width old.ids target call deadline ≡ Some (record { id = old.ids.next; client = new.ids })) × (line ≡ line_of (Some old.ids.next) call)
+
+-- the rule refuses a send of this call to this target, with this deadline
+abbrev pub IsRefusedSend : {Q : Type 0} → Windowed Q → ℕ → Q → ℕ → Type 0
+IsRefusedSend old target call deadline = sends old.width old.ids target call deadline ≡ None
+
+-- as many requests wait as the client's window is wide
+abbrev pub IsFull : {Q : Type 0} → Windowed Q → Type 0
+IsFull c = length c.ids.waiting ≡ c.width
+
+-- what a reply line does, by the place k of its id. If a request waits at that place (true), it is settled by the line, and those
+-- before it as lost. If none does (false), nothing changes
 abbrev pub id_settled : {Q : Type 0} → ById Q → List ℕ → ℕ → Bool → Settled Q (ById Q)
 id_settled c line k false = record { settlements = []; client = c }
 id_settled c line k true = record { settlements = settle k line c.waiting; client = record { next = c.next; waiting = drop (k + 1) c.waiting } }

@@ -1,4 +1,4 @@
--- What settlements are in the words of the client's rule, this project's own; a line is read by the manual's chapter on the
+-- How the code's settlements correspond to those of the client's rule: this project's own. A line is read by the manual's chapter on the
 -- ASCII protocol.
 use Rattle.std.specs.Prelude.{◌≡◌, ℕ, List, map, All, ⊤}
 use Rattle.gc_lines.specs.Replies.{ReplyFields, IsReply}
@@ -10,41 +10,41 @@ use Rattle.gc_client.specs.declared.settlement.Outcome.{Outcome}
 use Rattle.gc_client.specs.declared.settlement.Outcome.TheVariants.{Answered, Late, Lost}
 use Rattle.gc_client.specs.Rule
 
--- an outcome without its reading, which its line and its call determine
+-- an outcome as the rule has it: without the reading, which the line and the call determine
 abbrev pub outcome_seen : Outcome → Rule.Outcome
 outcome_seen (Answered reading line) = Rule.Answered line.items
 outcome_seen Late = Rule.Late
 outcome_seen Lost = Rule.Lost
 
--- a settlement as the rule speaks of it
+-- a settlement as the rule has it: the same, with its outcome as the rule has that
 abbrev pub settlement_seen : {Q : Type 0} → Settlement Q → Rule.Settlement Q
 settlement_seen s = record { target = s.target; call = s.call; outcome = outcome_seen s.outcome }
 
--- which readings a reply has for what was asked
+-- the type of a relation that says which readings a reply has for what was asked
 abbrev pub Says : Type 0 → Type 1
 Says Q = Q → ReplyFields → Reading → Type 0
 
--- the line is a reply, and this is what it says of what was asked
+-- the line is a reply with this reading for what was asked, by the relation `says`
 pub record ReadsBy {Q : Type 0} (says : Says Q) (call : Q) (line : List ℕ) (reading : Reading) : Type 0 where
   pub reply : ReplyFields
   pub is_reply : IsReply line reply
   pub is_reading : says call reply reading
 
--- the line is a reply, and this is what it says of the call
+-- the line is a reply with this reading for the call
 abbrev pub ReadsAs : Call → List ℕ → Reading → Type 0
 ReadsAs call line reading = ReadsBy IsReading call line reading
 
--- the reading of an answer is what its line says of what was asked; of other outcomes nothing is said
+-- if the outcome is an answer, its reading is that of its line for what was asked
 abbrev pub IsReadBy : {Q : Type 0} → Says Q → Q → Outcome → Type 0
 IsReadBy says call (Answered reading line) = ReadsBy says call line.items reading
 IsReadBy says call Late = ⊤
 IsReadBy says call Lost = ⊤
 
--- the reading of an answer is what its line says of the call; of other outcomes nothing is said
-abbrev pub IsWellRead : Call → Outcome → Type 0
-IsWellRead call outcome = IsReadBy IsReading call outcome
+-- if the outcome is an answer, its reading is that of its line for the call
+abbrev pub IsReadForCall : Call → Outcome → Type 0
+IsReadForCall call outcome = IsReadBy IsReading call outcome
 
--- this settlement is the rule's: the same target, call and outcome, and an answer's reading is its line's
+-- the settlement `s` is the rule's: it has the target, call and outcome of `ruled`, and an answer's reading is that of its line
 pub record IsSettledBy {Q : Type 0} (says : Says Q) (s : Settlement Q) (ruled : Rule.Settlement Q) : Type 0 where
   pub seen : settlement_seen s ≡ ruled
   pub read : IsReadBy says s.call s.outcome
@@ -58,7 +58,7 @@ pub record AreSettledBy {Q : Type 0} (says : Says Q) (settlements : List (Settle
 abbrev pub AreSettlements : List (Settlement Call) → List (Rule.Settlement Call) → Type 0
 AreSettlements settlements ruled = AreSettledBy IsReading settlements ruled
 
--- no part of a promise: the outcome is an answer with these bytes, whose reading is what this reply says of what was asked
+-- the outcome is an answer with these bytes as its line, and the reading of this reply for what was asked
 abbrev pub IsAnsweredBy : {Q : Type 0} → Says Q → Q → ReplyFields → List ℕ → Outcome → Type 0
 IsAnsweredBy says call reply bytes (Answered reading line) = (line.items ≡ bytes) × says call reply reading
 IsAnsweredBy says call reply bytes Late = ⊥

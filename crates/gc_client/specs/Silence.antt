@@ -1,4 +1,4 @@
--- Foreign lines, this project's own: a line that is no reply, or a reply without an id, is none of the client's.
+-- Foreign lines, this project's own: lines that are no replies, and replies without an id.
 use Rattle.std.specs.Prelude.{◌≡◌, ℕ, Bool, List, [], ◌∷◌, ◌++◌, filter, Some}
 use Rattle.std.specs.Option.{is_some}
 use Rattle.gc_lines.specs.Replies.{ReplyFields, IsReply}
@@ -11,15 +11,15 @@ pub record IsReplyWithId (line : List ℕ) : Type 0 where
   pub is_reply : IsReply line reply
   pub has_id : reply.id ≡ Some id
 
--- whether a line is a reply with an id
+-- whether the client takes an id from a line, as it does from each reply with an id (`ours` of the law `foreign_lines_are_silent`)
 abbrev pub is_ours : List ℕ → Bool
 is_ours line = is_some (heard line)
 
--- what x settles, with these earlier settlements before it, and the client of x
+-- `x` with these earlier settlements in front of its own
 abbrev pub preceded_by : {Q : Type 0} → List (Settlement Q) → Settled Q (ById Q) → Settled Q (ById Q)
 preceded_by settlements x = record { settlements = settlements ++ x.settlements; client = x.client }
 
--- the client's rule over a list of lines, in order
+-- what all these lines settle, in order, and the client after them
 abbrev pub hears_all : {Q : Type 0} → ById Q → List (List ℕ) → Settled Q (ById Q)
 hears_all c [] = record { settlements = []; client = c }
 hears_all c (line ∷ lines) = preceded_by (hears c line (heard line)).settlements (hears_all (hears c line (heard line)).client lines)

@@ -1,4 +1,4 @@
-//! The beginning: null procedures before the first command, each of which is repeated with the same id until it is answered.
+//! The beginning: eight null procedures before the first command, each of which is sent again with its id until it is answered.
 
 ghost use Rattle.std.specs.Prelude.{◌≡◌, ◌<◌, ◌≤◌, ◌↔◌, true, false, [], length, drop, Some, None, IfSome, MatchOption};
 ghost use Rattle.gc_lines.specs.Lines.{IsPlain};
@@ -74,8 +74,7 @@ impl Beginning {
         self.answered == WORD.len()
     }
 
-    /// The line of the null procedure that is asked for, without CR LF, and none once all are answered. The line stays the
-    /// same until an answer came.
+    /// The line of the first null procedure that isn't answered, without CR LF. `None`: all are answered.
     pub fn ask(&self) -> Option<Line>
         ensures line { MatchOption result (asks self.now ≡ None) (λ line. asks self.now ≡ Some line.items) }
         ensures plain { IfSome result (λ line. IsPlain line.items) }
@@ -84,9 +83,9 @@ impl Beginning {
         Some(encode_call(Some(*id), &Call::NullProc))
     }
 
-    /// Takes a line that came, without its CR LF, and says whether the line answers: a reply with the id of the null procedure
-    /// that is asked for does, whatever its codes and parameters. Every other line is discarded, also one that is longer
-    /// than 512 bytes.
+    /// Takes a line that came, without its CR LF, and returns whether it answers the first null procedure that isn't answered yet: a
+    /// reply with the id of that null procedure does, whatever its codes and parameters are. Every other line is ignored, and so is
+    /// one of more than 512 bytes.
     pub fn hear(&mut self, line: &[u8]) -> bool
         ensures left { length line.now ≤ 512 → self.new ≡ left_by self.old (heard line.now) }
         ensures answers { length line.now ≤ 512 → result ≡ is_answered self.old (heard line.now) }

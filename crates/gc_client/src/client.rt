@@ -1,13 +1,14 @@
-//! The client: all that happens to the next id and to the requests that wait is the client's rule, this project's own.
+//! The client. What each call does to the next id and to the requests that wait is the client's rule (`specs/Rule.antt`), this
+//! project's own.
 
-ghost use Rattle.std.specs.Prelude.{◌≡◌, ℕ, ◌+◌, ◌<◌, ◌≤◌, ◌↔◌, true, List, [], ◌∷◌, ◌++◌, length, Option, Some, None, Ok, Err, IfSome, IfOk, IfErr, OnOk, IsOk, IsErr, MatchResult};
+ghost use Rattle.std.specs.Prelude.{◌≡◌, ℕ, ◌+◌, ◌<◌, ◌≤◌, ◌↔◌, List, [], ◌∷◌, ◌++◌, length, Option, Some, None, Ok, Err, IfSome, IfOk, IfErr, OnOk, IsOk, IsErr, MatchResult};
 ghost use Rattle.gc_lines.specs.Lines.{IsPlain};
 ghost use Rattle.gc_lines.specs.Replies.{reply_seen};
 ghost use Rattle.gc_lines.specs.Readers.{reply_at};
-ghost use Rattle.gc_client.specs.Rule.{fresh, sends, heard, hears, id_settled, deadlines, IsEarliest, expires, expiring, restarts};
-ghost use Rattle.gc_client.specs.Places.{place_heard};
+ghost use Rattle.gc_client.specs.Rule.{fresh, IsAcceptedSend, IsFull, IsRefusedSend, deadlines, IsEarliest, expires, expiring, restarts};
+ghost use Rattle.gc_client.specs.Places.{IsPlaceHeard, place_heard};
 ghost use Rattle.gc_client.specs.Settlements.{AreSettledBy};
-ghost use Rattle.gc_client.specs.Hearing.{HearsAs, HearsInto, settlements_in};
+ghost use Rattle.gc_client.specs.Hearing.{AreSettledAt, AreSettledByLine, HearsAs, HearsInto, IsAfterLine, IsAfterSettling, IsOverlong, LeavesUnchanged, SettlesNone, settlements_in};
 ghost use Rattle.gc_client.specs.declared.heard.Hearing.TheVariants.{Unread};
 ghost use Rattle.gc_lines.specs.declared.fault.LineFault.TheVariants.{TooLong};
 
@@ -110,7 +111,7 @@ impl<W: Window> Client<W> {
         Client::resume(window, width, 0)
     }
 
-    /// Goes on from what another client left: its width, the id that comes next, and the requests that wait in this window.
+    /// Makes a client again from the parts of another one: the window with the requests that wait, the width, and the next id.
     pub fn resume(window: W, width: u8, next: u8) -> Client<W>
         requires least { 1 ≤ width }
         requires most { width ≤ WINDOW }
@@ -150,7 +151,7 @@ impl<W: Window> Client<W> {
         self.width
     }
 
-    /// How many requests are not settled, timed-out ones included.
+    /// How many requests are outstanding, timed-out ones included.
     pub fn waiting(&self) -> usize
         ensures waiting { result ≡ length self.now.ids.waiting }
         ensures within { result ≤ self.now.width }
@@ -182,7 +183,7 @@ impl<W: Window> Client<W> {
     }
 
     /// The earliest deadline of the outstanding requests that haven't timed out: until then the caller may wait for a line.
-    /// `None`: there is no such request.
+    /// `None`: all have timed out, or none is outstanding.
     pub fn next_deadline(&self) -> Option<u64>
         ensures { IsEarliest (deadlines self.now.ids.waiting) result }
     {
@@ -201,13 +202,12 @@ impl<W: Window> Client<W> {
     /// Takes a line that came, without its CR LF.
     ///
     /// A reply settles the request that waits with its id, and each one that was sent before it. The earlier ones are lost.
-    /// The request itself is late where it had timed out, and else answered. A reply that no request waits for is a stray,
-    /// also where it has no id. A line that is no reply is unread. After a stray and an unread line the client is unchanged.
+    /// The request itself is late if it had timed out, and else answered. A reply that no request waits for is a stray,
+    /// and so is a reply without an id. A line that is no reply is unread. Strays and unread lines leave the client unchanged.
     pub fn on_line(&mut self, line: &Line) -> Heard<W::Asked>
         ensures heard { HearsAs self.old.ids line.now.items result self.new.ids }
-        ensures settled { AreSettledBy W.Asked.says (settlements_in result)
-            (hears self.old.ids line.now.items (heard line.now.items)).settlements }
-        ensures client { self.new ≡ record self.old { ids = (hears self.old.ids line.now.items (heard line.now.items)).client } }
+        ensures settled { AreSettledByLine W.Asked.says self.old.ids line.now.items (settlements_in result) }
+        ensures client { IsAfterLine self.old line.now.items self.new }
     {
         let mut settled = ArrayVec::new();
         match self.hear(line.as_slice(), &mut settled) {
@@ -217,10 +217,10 @@ impl<W: Window> Client<W> {
         }
     }
 
-    /// Takes a line as `on_line` does, from any bytes, and settles into a list that is handed in.
+    /// Takes a line as `on_line` does, given as bytes, and writes the settlements into the list `settled`.
     ///
     /// Afterwards the list holds this line's settlements alone: none after a stray or an unread line. Its places are
-    /// written over, so one list that is kept for all lines costs least. More than 512 bytes are no line, and unread by
+    /// written over, so it is fastest to use one list for all lines. More than 512 bytes are unread, with the fault
     /// `LineFault::TooLong`.
     pub fn hear(
         &mut self,
@@ -228,12 +228,9 @@ impl<W: Window> Client<W> {
         settled: &mut ArrayVec<Settlement<W::Asked>, WINDOW>,
     ) -> Hearing
         ensures heard { length line.now ≤ 512 → HearsInto self.old.ids line.now result settled.new.items self.new.ids }
-        ensures settled { length line.now ≤ 512
-            → AreSettledBy W.Asked.says settled.new.items (hears self.old.ids line.now (heard line.now)).settlements }
-        ensures client { length line.now ≤ 512
-            → self.new ≡ record self.old { ids = (hears self.old.ids line.now (heard line.now)).client } }
-        ensures overlong { 512 < length line.now
-            → (result ≡ Unread TooLong) × (settled.new.items ≡ []) × (self.new ≡ self.old) }
+        ensures settled { length line.now ≤ 512 → AreSettledByLine W.Asked.says self.old.ids line.now settled.new.items }
+        ensures client { length line.now ≤ 512 → IsAfterLine self.old line.now self.new }
+        ensures overlong { 512 < length line.now → IsOverlong result settled.new.items self.old self.new }
     {
         match self.find_request(line) {
             Ok((k, reply)) => {
@@ -250,8 +247,8 @@ impl<W: Window> Client<W> {
     /// Times out each outstanding request whose deadline is at most this time. It returns the targets of those that hadn't
     /// timed out before, in order.
     ///
-    /// A request that has timed out stays outstanding, and a reply that arrives for it settles it as late. The time may lie
-    /// before an earlier one; nothing is undone then.
+    /// A request that has timed out stays outstanding, and a reply that arrives for it settles it as late. If the time lies
+    /// before that of an earlier call, no time-out is undone.
     pub fn expire(&mut self, now: u64) -> ArrayVec<u32, WINDOW>
         ensures targets { result.items ≡ expiring now self.old.ids.waiting }
         ensures client { self.new ≡ record self.old { ids = expires self.old.ids now } }
@@ -270,17 +267,15 @@ impl<W: Window> Client<W> {
 
     // Mutators.
 
-    /// Sends a request to be answered before the deadline, and gives its line, without CR LF. The target comes back with
-    /// the settlement.
+    /// Registers a request that has to be answered before the deadline, and returns its line, without CR LF. The target is
+    /// returned with the settlement.
     ///
-    /// It is refused exactly where as many requests wait as the window is wide, those that had timed out included. A refusal
-    /// changes nothing.
+    /// The send is refused exactly if as many requests wait as the window is wide, timed-out ones included. A refusal changes
+    /// nothing.
     pub fn send(&mut self, target: u32, call: W::Asked, deadline: u64) -> Result<Line, WindowFull>
-        ensures rule { let ruled = sends self.old.width self.old.ids target call deadline in MatchResult result
-            (λ line. (ruled ≡ Some (record { id = self.old.ids.next; client = self.new.ids }))
-            × (line.items ≡ W.Asked.line (Some self.old.ids.next) call))
-            (λ _. (ruled ≡ None) × (self.new ≡ self.old)) }
-        ensures full { IsErr result ↔ (length self.old.ids.waiting ≡ self.old.width) }
+        ensures rule { MatchResult result (λ line. IsAcceptedSend W.Asked.line self.old target call deadline self.new line.items)
+            (λ _. IsRefusedSend self.old target call deadline × (self.new ≡ self.old)) }
+        ensures full { IsErr result ↔ IsFull self.old }
         ensures first { self.old.ids.waiting ≡ [] → IsOk result }
         ensures width { self.new.width ≡ self.old.width }
         ensures plain { IfOk result (λ line. IsPlain line.items) }
@@ -291,9 +286,9 @@ impl<W: Window> Client<W> {
         Ok(line)
     }
 
-    /// Sends a request as `send` does, and writes its line, without CR LF, into the one that is handed in.
+    /// Sends a request as `send` does, and writes its line, without CR LF, into `line`.
     ///
-    /// The line is written over, so one line serves for all sends. A refusal leaves it as it was.
+    /// `line` is overwritten, so one can be used for all sends. A refusal leaves it unchanged.
     pub fn send_into(
         &mut self,
         target: u32,
@@ -301,11 +296,9 @@ impl<W: Window> Client<W> {
         deadline: u64,
         line: &mut Line,
     ) -> Result<(), WindowFull>
-        ensures rule { let ruled = sends self.old.width self.old.ids target call.now deadline in MatchResult result
-            (λ _. (ruled ≡ Some (record { id = self.old.ids.next; client = self.new.ids }))
-            × (line.new.items ≡ W.Asked.line (Some self.old.ids.next) call.now))
-            (λ _. (ruled ≡ None) × (self.new ≡ self.old) × (line.new.items ≡ line.old.items)) }
-        ensures full { IsErr result ↔ (length self.old.ids.waiting ≡ self.old.width) }
+        ensures rule { MatchResult result (λ _. IsAcceptedSend W.Asked.line self.old target call.now deadline self.new line.new.items)
+            (λ _. IsRefusedSend self.old target call.now deadline × (self.new ≡ self.old) × (line.new.items ≡ line.old.items)) }
+        ensures full { IsErr result ↔ IsFull self.old }
         ensures first { self.old.ids.waiting ≡ [] → IsOk result }
         ensures width { self.new.width ≡ self.old.width }
         ensures plain { OnOk result (IsPlain line.new.items) }
@@ -328,7 +321,7 @@ impl<W: Window> Client<W> {
 
     /// Settles all outstanding requests as lost, in order, and starts again at id 0, with the same width.
     ///
-    /// The caller is responsible for that no line is in flight in either direction. An instrument that still retains the reply
+    /// The caller has to make sure that no line is in flight in either direction. An instrument that still retains the reply
     /// to its last request would take a new request with that id for a repeat, and not execute it. So either the instrument
     /// restarts too, or the first request is a null procedure, alone until it is answered (`docs/LIBRARY.md`).
     pub fn restart(&mut self) -> ArrayVec<Settlement<W::Asked>, WINDOW>
@@ -343,19 +336,18 @@ impl<W: Window> Client<W> {
         settled
     }
 
-    // The place of the request that a line replies to, and the reply. `Err`: the line is a stray, or no reply.
+    // The place of the request that a line replies to, counted from the oldest, and the reply. `Err`: what to report of a line that
+    // settles nothing, which is a stray or unread.
     #[inline]
     fn find_request<'a>(&self, line: &'a [u8]) -> Result<(usize, Reply<'a>), Hearing>
         ensures reads { IfOk result (λ found. reply_at line.now ≡ Ok (reply_seen found.1)) }
-        ensures place { IfOk result (λ found. place_heard self.now.ids.next (length self.now.ids.waiting) found.1.id ≡ Some found.0) }
+        ensures place { IfOk result (λ found. IsPlaceHeard self.now.ids found.1.id found.0) }
         ensures waits { IfOk result (λ found. found.0 < length self.now.ids.waiting) }
         ensures narrow { IfOk result (λ found. found.0 < WINDOW) }
         ensures short { IfOk result (λ _. length line.now ≤ 512) }
         ensures none { IfErr result (λ hearing. length line.now ≤ 512 → HearsInto self.now.ids line.now hearing [] self.now.ids) }
-        ensures settled { IfErr result (λ _. length line.now ≤ 512
-            → (hears self.now.ids line.now (heard line.now)).settlements ≡ []) }
-        ensures client { IfErr result (λ _. length line.now ≤ 512
-            → (hears self.now.ids line.now (heard line.now)).client ≡ self.now.ids) }
+        ensures settled { IfErr result (λ _. length line.now ≤ 512 → SettlesNone self.now.ids line.now) }
+        ensures client { IfErr result (λ _. length line.now ≤ 512 → LeavesUnchanged self.now.ids line.now) }
         ensures overlong { 512 < length line.now → result ≡ Err (Unread TooLong) }
     {
         if line.len() > 512 {
@@ -384,8 +376,8 @@ impl<W: Window> Client<W> {
         requires short { length line.now ≤ 512 }
         requires waits { k < length self.old.ids.waiting }
         requires narrow { k < WINDOW }
-        ensures settled { AreSettledBy W.Asked.says settled.new.items (id_settled self.old.ids line.now k true).settlements }
-        ensures client { self.new ≡ record self.old { ids = (id_settled self.old.ids line.now k true).client } }
+        ensures settled { AreSettledAt W.Asked.says self.old.ids line.now k settled.new.items }
+        ensures client { IsAfterSettling self.old line.now k self.new }
     {
         make_places(settled, k + 1);
         lose(&mut self.window, k, settled);
@@ -396,7 +388,7 @@ impl<W: Window> Client<W> {
     }
 }
 
-// The place of the request that waits for a reply with this id. `None`: no request waits for it, or the reply has no id.
+// The place, counted from the oldest, of the request that waits for a reply with this id. `None`: no request waits for such a reply.
 #[inline]
 fn place_of(next: u8, waiting: usize, id: Option<u8>) -> Option<usize>
     requires next { next < IDS }
@@ -411,7 +403,7 @@ fn place_of(next: u8, waiting: usize, id: Option<u8>) -> Option<usize>
     if k < waiting { Some(k) } else { None }
 }
 
-// The earlier of this deadline and `earliest`, the earliest one so far, if there is one.
+// The earlier of `deadline` and `earliest`; `deadline` if `earliest` is `None`.
 #[inline]
 fn earlier(earliest: Option<u64>, deadline: u64) -> u64
     ensures { (ds : List ℕ) → IsEarliest ds earliest → IsEarliest (ds ++ deadline ∷ []) (Some result) }

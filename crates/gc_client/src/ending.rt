@@ -1,13 +1,13 @@
-//! How requests end: settlements are written into the places of a list that is handed in, and no line is copied twice.
-//! The compiler zeroes a large value at the entry of the function that holds it. So each large value that is seldom needed is
-//! made in a function of its own.
+//! How requests end: settlements are written in place into a list of the caller's, and no line is copied twice. The compiler zeroes a
+//! large value at the entry of the function that holds it. So each large value that is seldom needed is made in a function of its own.
 
-ghost use Rattle.std.specs.Prelude.{◌≡◌, ◌+◌, ◌<◌, ◌≤◌, length, map, take, drop, Ok};
+ghost use Rattle.std.specs.Prelude.{◌≡◌, ◌+◌, ◌<◌, ◌≤◌, length, drop, Ok};
 ghost use Rattle.arrayvec.specs.ArrayVec.{array_vec_len};
 ghost use Rattle.gc_lines.specs.Replies.{reply_seen};
 ghost use Rattle.gc_lines.specs.Readers.{reply_at};
-ghost use Rattle.gc_client.specs.Rule.{lost, met};
-ghost use Rattle.gc_client.specs.Settlements.{IsAnsweredBy, IsSettledBy, AreSettledBy};
+ghost use Rattle.gc_client.specs.Rule.{lost, settled_by_line};
+ghost use Rattle.gc_client.specs.Hearing.{AreFirstLost};
+ghost use Rattle.gc_client.specs.Settlements.{IsAnsweredBy, IsSettledBy};
 ghost use Rattle.gc_client.specs.declared.settlement.Outcome.TheVariants.{Late};
 
 use crate::pending::Pending;
@@ -17,7 +17,7 @@ use arrayvec::ArrayVec;
 use gc_catalogue::{Asking, Reading};
 use gc_lines::{Line, Reply, append};
 
-/// Makes a list `count` settlements long. What they say doesn't matter: the caller writes over them.
+/// Makes a list `count` settlements long. Their values don't matter, since the caller writes over them.
 #[inline(always)]
 pub(crate) fn make_places<Q: Asking>(settled: &mut ArrayVec<Settlement<Q>, WINDOW>, count: usize)
     requires { count ≤ WINDOW }
@@ -29,8 +29,8 @@ pub(crate) fn make_places<Q: Asking>(settled: &mut ArrayVec<Settlement<Q>, WINDO
     }
 }
 
-// Appends a settlement that the caller writes over. It is an answer, so that the next answer can be written over its parts.
-// The function has a frame of its own, because a settlement is large.
+// Appends a settlement, which the caller writes over. Its outcome is `Answered`, so that an answer can be written into its parts. The
+// function has a frame of its own, because a settlement is large.
 #[inline(never)]
 fn push_place<Q: Asking>(settled: &mut ArrayVec<Settlement<Q>, WINDOW>)
     requires { array_vec_len settled.old < WINDOW }
@@ -43,8 +43,7 @@ fn push_place<Q: Asking>(settled: &mut ArrayVec<Settlement<Q>, WINDOW>)
     });
 }
 
-/// Takes the first `count` requests out of a window, and writes into the first `count` places of a list that they are
-/// lost.
+/// Takes the first `count` requests out of a window, and writes their settlements as lost into the first `count` places of a list.
 #[inline]
 pub(crate) fn lose<W: Window>(
     window: &mut W,
@@ -54,7 +53,7 @@ pub(crate) fn lose<W: Window>(
     requires count { count ≤ length (W.pendings window.old) }
     requires within { length (W.pendings window.old) ≤ WINDOW }
     requires places { count ≤ array_vec_len settled.old }
-    ensures settled { AreSettledBy W.Asked.says (take count settled.new.items) (map lost (take count (W.pendings window.old))) }
+    ensures settled { AreFirstLost W.Asked.says count (W.pendings window.old) settled.new.items }
     ensures places { array_vec_len settled.new ≡ array_vec_len settled.old }
     ensures left { W.pendings window.new ≡ drop count (W.pendings window.old) }
 {
@@ -86,7 +85,7 @@ pub(crate) fn set_replied<Q: Asking>(
 )
     requires reads { reply_at line.now ≡ Ok (reply_seen reply.now) }
     requires short { length line.now ≤ 512 }
-    ensures { IsSettledBy Q.says settlement.new (met p.now line.now) }
+    ensures { IsSettledBy Q.says settlement.new (settled_by_line p.now line.now) }
 {
     settlement.target = p.target;
     settlement.call = p.call;

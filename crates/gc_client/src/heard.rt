@@ -1,11 +1,11 @@
-//! What a client makes of a line.
+//! What a client reports of a line that it took.
 
 use crate::settlement::Settlement;
 use crate::window::WINDOW;
 use arrayvec::ArrayVec;
 use gc_lines::LineFault;
 
-/// What a client made of a line.
+/// What a client reports of a line, with the settlements.
 #[derive(Debug, PartialEq, Eq, Drop)]
 pub enum Heard<Q> {
     /// The line is the reply to a request that waits. The list holds the settlement of each request that was sent before
@@ -17,10 +17,10 @@ pub enum Heard<Q> {
     Unread(LineFault),
 }
 
-/// What a client made of a line, without the settlements: those are in the list that was handed in.
+/// What a client reports of a line, without the settlements, which it wrote into a list of the caller's.
 #[derive(Clone, Copy, Debug, PartialEq, Eq)]
 pub enum Hearing {
-    /// The line is the reply to a request that waits. The list that was handed in holds the settlement of each request that was
+    /// The line is the reply to a request that waits. The caller's list holds the settlement of each request that was
     /// sent before that request, and then its own, in the order of sending.
     Settled,
     /// The line is a reply, and no request waits for it: it has no id, or one that nothing waits with.

@@ -1,14 +1,14 @@
-//! Laws of the client's rule: what ids are good for, and what holds whoever made the lines.
-//! Each function is its contract, and does nothing.
+//! Laws of the client's rule: of ids, and of what the client does with lines of any origin. Each function does nothing: its contract
+//! is the law.
 
-ghost use Rattle.std.specs.Prelude.{◌≡◌, ℕ, ◌<◌, ◌≤◌, ◌↔◌, true, List, length, Some};
+ghost use Rattle.std.specs.Prelude.{◌≡◌, ℕ, ◌<◌, ◌≤◌, ◌↔◌, true, List};
 ghost use Rattle.gc_client.specs.declared.window.TheConstants.{WINDOW, IDS};
-ghost use Rattle.gc_client.specs.Rule.{ById, place_in, fits};
-ghost use Rattle.gc_client.specs.Ids.{id_of, IsWindow, Waits, SendKeepsIds, SettlingKeepsIds, HearsByGrammar};
+ghost use Rattle.gc_client.specs.Rule.{ById};
+ghost use Rattle.gc_client.specs.Ids.{FitsWaiting, IdsDiffer, IdsHavePlaces, SendKeepsIds, SettlingKeepsIds, HearsByGrammar};
 ghost use Rattle.gc_client.specs.Silence.{IsReplyWithId, is_ours, IsSilent};
 ghost use Rattle.gc_client.specs.OneForOne.{Step, begun, course, IsOneForOne};
 
-/// At most seven requests are outstanding, and there are eight ids.
+/// The widest window lets seven requests wait, and there are eight ids.
 pub fn limits()
     ensures window { WINDOW ≡ 7 }
     ensures ids { IDS ≡ 8 }
@@ -20,17 +20,15 @@ pub fn ids_last()
     ensures settling { (next waiting : ℕ) → waiting ≤ WINDOW → SettlingKeepsIds next waiting }
 {}
 
-/// The outstanding requests have different ids, so an id is that of one request at most. A reply fits exactly where a request
-/// with its id is outstanding, at that request's place.
+/// The outstanding requests have different ids. A reply fits exactly if a request with its id is outstanding, and then it settles
+/// that request.
 pub fn ids_tell_requests_apart<Q>()
-    ensures differ { (c : ById Q) (j k : ℕ) → IsWindow c → j < length c.waiting → k < length c.waiting
-        → id_of c j ≡ id_of c k → j ≡ k }
-    ensures place { (c : ById Q) (k : ℕ) → IsWindow c → k < length c.waiting → place_in c (id_of c k) ≡ k }
-    ensures fits { (c : ById Q) (id : ℕ) → IsWindow c → id < IDS → (fits c (Some id) ≡ true) ↔ Waits c id }
+    ensures differ { (c : ById Q) → IdsDiffer c }
+    ensures place { (c : ById Q) → IdsHavePlaces c }
+    ensures fits { (c : ById Q) → FitsWaiting c }
 {}
 
-/// The id that the client takes from a line is that of the reply that the line is by the grammar. It takes none from other
-/// lines.
+/// The client takes an id from a line exactly if the line is a reply with an id by the grammar, and then it takes that id.
 pub fn ids_are_heard()
     ensures { (line : List ℕ) → HearsByGrammar line }
 {}

@@ -1,4 +1,4 @@
-//! A window in a ring on the heap.
+//! A window in a ring buffer on the heap.
 
 ghost use Rattle.std.specs.Prelude.{◌≡◌, ◌<◌, [], ◌∷◌, ◌++◌, length, IfOk};
 
@@ -9,14 +9,13 @@ use gc_catalogue::{Asking, Call};
 use std::alloc::{AllocError, Global};
 use std::marker::Model;
 
-/// A window in a ring on the heap.
-/// `new` makes the room for all seven, so no other call takes memory.
+/// A window in a ring buffer on the heap. `new` allocates the room for seven requests; no other call allocates.
 #[derive(Drop)]
 pub struct RingOf<Q: Asking> {
     buffer: HeapCircularBuffer<Pending<Q>, Global>,
 }
 
-/// A window in a ring on the heap, of requests for calls.
+/// A window of requests for calls, in a ring buffer on the heap.
 pub type Ring = RingOf<Call>;
 
 impl<Q: Asking> Model for RingOf<Q> {
@@ -32,7 +31,7 @@ impl<Q: Asking> Model for RingOf<Q> {
 }
 
 impl<Q: Asking> RingOf<Q> {
-    /// Makes an empty window with room for seven. It fails only where the heap has no memory for that room.
+    /// Makes an empty window with room for seven requests. It fails only if the allocation of that room fails.
     pub fn new(alloc: Global) -> Result<RingOf<Q>, AllocError>
         ensures { IfOk result (λ ring. ring ≡ []) }
     {

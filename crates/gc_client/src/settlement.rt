@@ -9,17 +9,17 @@ use gc_lines::Line;
 /// How a request ended.
 #[derive(Debug, PartialEq, Eq, Drop)]
 pub enum Outcome {
-    /// Its reply came in time: what the reply says of what was asked, and the very line.
-    /// A reply whose parameters can't be read is an answer too, whose reading says so.
+    /// Its reply came in time: the reading of the reply, and its line. A reply whose parameters can't be read is an answer, too,
+    /// with the reading `Unreadable`.
     Answered(Reading, Line),
-    /// A reply to it came after it had timed out. What the reply said is dropped.
+    /// A reply to it came after it had timed out. The reply is discarded.
     Late,
-    /// A later request was answered first, or the client was restarted: no reply will be taken.
-    /// Whether the instrument acted on it is not known.
+    /// A reply to a later request came first, or the client was restarted: a reply to it that comes now is ignored. It isn't
+    /// known whether the instrument acted on it.
     Lost,
 }
 
-// Lost: the value in the places of a list that nothing uses yet.
+// The default is `Lost`: the value in the unused places of a list.
 impl Default for Outcome {
     ghost is_default = { λ outcome. outcome ≡ Lost };
 
@@ -31,7 +31,7 @@ impl Default for Outcome {
 /// The end of one request. That is what "settlement" means here, and no movement of the ground.
 #[derive(Debug, PartialEq, Eq, Drop)]
 pub struct Settlement<Q> {
-    /// Whom the request was for, as it was handed to `send`.
+    /// Whom the request was for: the number that was passed to `send`.
     pub target: u32,
     /// What it asked for.
     pub call: Q,
@@ -42,7 +42,7 @@ pub struct Settlement<Q> {
 impl<Q: Asking> Default for Settlement<Q> {
     ghost is_default = { λ s. (s.target ≡ 0) × (s.call ≡ Q.blank) × (s.outcome ≡ Lost) };
 
-    /// Lost, for target 0: what fills the places of an `ArrayVec` that nothing uses yet.
+    /// A lost request for target 0: the value in the unused places of an `ArrayVec`.
     #[inline(always)]
     fn default() -> Settlement<Q> {
         Settlement {

@@ -1,4 +1,4 @@
-//! A window in eight fixed places: a request's place is its id.
+//! A window in an array of eight places, one for each id.
 
 ghost use Rattle.std.specs.Prelude.{◌≡◌, ◌<◌, [], ◌∷◌, ◌++◌, length};
 ghost use Rattle.gc_client.specs.declared.window.TheConstants.{WINDOW};
@@ -11,8 +11,8 @@ use std::marker::Model;
 // A place for each id.
 const PLACES: usize = IDS as usize;
 
-/// A window in eight fixed places, for a station that must never ask for memory. `clear` begins again at place 0, as a
-/// client's ids begin at 0, so the request with id i is at place i.
+/// A window in an array of eight places, which never allocates. Requests take the places in turn, going round. `clear` begins again at
+/// place 0, as a new client's ids begin at 0, so in its window the request with id i is at place i.
 #[derive(Drop)]
 pub struct SlotsOf<Q: Asking> {
     places: [Pending<Q>; PLACES],
@@ -22,7 +22,7 @@ pub struct SlotsOf<Q: Asking> {
     len: usize,
 }
 
-/// A window in eight fixed places, of requests for calls.
+/// A window of requests for calls, in an array of eight places.
 pub type Slots = SlotsOf<Call>;
 
 impl<Q: Asking> Model for SlotsOf<Q> {
@@ -39,7 +39,7 @@ impl<Q: Asking> Model for SlotsOf<Q> {
     ghost invariant = { λ s. (s.oldest < PLACES) × (s.len ≤ WINDOW) × (length s.places ≡ PLACES) };
 }
 
-// The value of a place that nothing has used yet.
+// The value in an unused place.
 #[inline(always)]
 fn vacant<Q: Asking>() -> Pending<Q> {
     Pending {
@@ -51,7 +51,7 @@ fn vacant<Q: Asking>() -> Pending<Q> {
 }
 
 impl<Q: Asking> SlotsOf<Q> {
-    /// Makes an empty window. It takes no memory.
+    /// Makes an empty window, without allocating.
     pub fn new() -> SlotsOf<Q>
         ensures { result ≡ [] }
     {
@@ -63,7 +63,7 @@ impl<Q: Asking> SlotsOf<Q> {
     }
 }
 
-// An empty window, as `new` makes it.
+// The default is an empty window.
 impl<Q: Asking> Default for SlotsOf<Q> {
     ghost is_default = { λ slots. slots ≡ [] };
 

@@ -1,4 +1,4 @@
-//! The window: the requests that wait, as a list of at most seven, however it is kept.
+//! The window: the store of the requests that wait, as the client uses it.
 
 ghost use Rattle.std.specs.Prelude.{◌≡◌, ◌<◌, ◌≤◌, [], ◌∷◌, ◌++◌, length, slice_get};
 ghost use Rattle.gc_client.specs.Rule.{given_up_at};
@@ -6,14 +6,13 @@ ghost use Rattle.gc_client.specs.Rule.{given_up_at};
 use crate::pending::Pending;
 use gc_catalogue::Asking;
 
-/// How many requests can wait at most: the width of the widest window.
+/// The most requests that can wait at the same time: the width of the widest window.
 pub const WINDOW: usize = 7;
 
-/// How many ids there are: one digit from 0 on, one more than can wait.
+/// How many ids there are: the digits 0 to 7, one more than requests can wait.
 pub const IDS: u8 = 8;
 
-/// The requests that wait, oldest first: at most seven.
-/// The client sees this list and nothing else of a window.
+/// A store of the requests that wait, which contracts see as a list of at most seven, oldest first.
 pub trait Window: Drop {
     ghost use Rattle.std.specs.Prelude.{List};
     ghost use Rattle.gc_client.specs.declared.pending.Pending.{Pending};

@@ -1,5 +1,5 @@
 -- What the code wrote for a request is the reply that the definitions give to it (`AnswersRequest`, `IsReplied`, `handed`), and
--- it says of the call what carrying it out gave.
+-- it reads as the outcome of carrying out the call (`IsAnswered`).
 use Rattle.std.proofs.Common.{◌≡◌, ◌≢◌, ◌⊎◌, inl, inr, ℕ, zero, suc, ◌<◌, arith, List, cond, ◌==◌, if◌then◌else◌, Some, None, Result, Ok, Err, refl, sym, ap, ◌∙◌, subst, Bool, [], true, false, Option}
 use Rattle.std.specs.Prelude.{unwrap_or}
 use Rattle.gc_lines.specs.Lines.{IsPlain}
@@ -23,7 +23,7 @@ use Rattle.gc_catalogue.specs.Texts.{reply_line, reply_of, request_line, request
 use Rattle.gc_catalogue.specs.declared.answer.Answer.{Answer}
 use Rattle.gc_catalogue.specs.declared.fault.CallFault.{CallFault}
 use Rattle.gc_catalogue.specs.declared.call.Call.{Call}
-use Rattle.gc_instrument.proofs.Executions.{ComesOut, exec_outcome}
+use Rattle.gc_instrument.proofs.Executions.{IsSoundOutcome, exec_outcome}
 use Rattle.gc_instrument.specs.State.{State, IsFittingState}
 use Rattle.gc_instrument.specs.Execution.{Executed, Executes, exec}
 use Rattle.gc_instrument.specs.Replying.{IsReplied, silent, answers, AnswersCall, repeats, executes, AnswersRequest, refuses, answers_call, AppendsCall, AppendsReply, IsAnswered, IsExchanged, Handed, handed, again_or_new, kept_line, with_kept, reading_of, refusal_line, executed_line, reply_id}
@@ -63,7 +63,7 @@ at_zero n a b h = ap (λ (m : ℕ). if m == 0 then a else b) h
 past_zero : (n : ℕ) (a b : Reading) → n ≢ 0 → (if n == 0 then a else b) ≡ b
 past_zero n a b h = ap (λ (t : Bool). cond t a b) (ne_eqb n 0 h)
 
--- where the reply line of a call's outcome reads back as the outcome's reading, it says of the call what carrying it out gave
+-- where the reply line of a call's outcome reads back as the outcome's reading, `IsAnswered` holds of it
 reads_as : (before : State) (number : ℕ) (call : Call) (x : Executed) (reading : Reading) → exec before call ≡ x → reading_of x ≡ reading
     → ReadsBackAnswer call number x.rc x.answer x.state.precision reading → IsAnswered before number call (executed_line number x)
 reads_as before number call x reading e same back = record {
@@ -73,8 +73,7 @@ reads_as before number call x reading e same back = record {
   reading = subst (λ (r : Reading). IsReading call (reply_of number x.rc x.answer x.state.precision) r) (sym (ap reading_of e ∙ same)) back.is_reading;
 }
 
--- where the reply line of a call's outcome reads back as the answer, if the code is 0, and else as the refusal, that line says of
--- the call what carrying the call out gave
+-- where the reply line of a call's outcome reads back as the answer, if the code is 0, and else as the refusal, `IsAnswered` holds of it
 pub reads_executed : (before : State) (number : ℕ) (call : Call) (x : Executed) → exec before call ≡ x
     → (x.rc ≡ 0 → ReadsBackAnswer call number x.rc x.answer x.state.precision (Value (rounded_answer x.state.precision x.answer)))
     → (x.rc ≢ 0 → ReadsBackAnswer call number x.rc x.answer x.state.precision (Refused x.rc)) → IsAnswered before number call (executed_line number x)
@@ -84,31 +83,31 @@ reads_executed before number call x e done refused = elim (zero_or_more x.rc) [
 ]
 
 -- where the line written of the code and the answer that a call gave, with the precision after it, reads back as that answer,
--- or as the refusal where the code isn't 0, it says of the call what carrying it out gave
+-- or as the refusal where the code isn't 0, `IsAnswered` holds of it
 pub made_answered : (before after : State) (call : Call) (number code places : ℕ) (answer : Answer) → Executes before call after code answer → places ≡ after.precision
     → (code ≡ 0 → IsAnswerOf call answer → ReadsBackAnswer call number code answer places (Value (rounded_answer places answer)))
     → (code ≢ 0 → ReadsBackAnswer call number code answer places (Refused code))
     → IsAnswered before number call (reply_line number code answer places)
 made_answered before after call number code places answer done precision back refused =
     let x : Executed = record { state = after; rc = code; answer = answer } in
-    let outcome : ComesOut before call x = subst (λ (y : Executed). ComesOut before call y) done (exec_outcome before call) in
+    let outcome : IsSoundOutcome before call x = subst (λ (y : Executed). IsSoundOutcome before call y) done (exec_outcome before call) in
     let value = λ (h : code ≡ 0). subst (λ (p : ℕ). ReadsBackAnswer call number code answer p (Value (rounded_answer p answer))) precision (back h (outcome.answers h)) in
     let refusal = λ (h : code ≢ 0). subst (λ (p : ℕ). ReadsBackAnswer call number code answer p (Refused code)) precision (refused h) in
     let whole : reply_line number code answer places ≡ executed_line number x = ap (λ (p : ℕ). reply_line number code answer p) precision in
     subst (λ (l : List ℕ). IsAnswered before number call l) (sym whole) (reads_executed before number call x done value refusal)
 
--- what a call's request line reads as is the call's request
+-- a call's request line reads as the call's request, and as no other
 pub read_of : (line : List ℕ) (q : RequestFields) (id : ℕ) (call : Call) → id < 8 → IsFitting call → line ≡ request_line (Some id) call → IsRequest line q → q ≡ request_of (Some id) call
 read_of line q id call small fits e is =
     one_request line q (request_of (Some id) call) is
     (subst (λ (x : List ℕ). IsRequest x (request_of (Some id) call)) (sym e) (request_found (request_line (Some id) call) (request_of (Some id) call) (call_again (Some id) call small fits).line))
 
--- handing over a request with the kept id gives the kept line, and changes nothing
+-- for a request with the stored id, `handed` gives the stored line and changes nothing
 pub handed_again : (s : State) (id : ℕ) (call : Call) (line : List ℕ) → kept_line s.kept (Some id) ≡ Some line → handed s id call ≡ record { state = s; reply = line; executed = false }
 unfolding handed
 handed_again s id call line e = ap (again_or_new s id call) e
 
--- handing over a request with another id gives the line of carrying out its call
+-- for a request with another id, `handed` gives the reply line of carrying out its call
 pub handed_new : (s : State) (id : ℕ) (call : Call) → kept_line s.kept (Some id) ≡ None → handed s id call ≡ again_or_new s id call None
 unfolding handed
 handed_new s id call e = ap (again_or_new s id call) e
@@ -143,7 +142,7 @@ exchanged before after q id call text same is (answers_call made is_made does) p
           (subst (λ (n : ℕ). IsAnswered before n call text) (ap (λ (o : Option ℕ). unwrap_or o 0) same) (answered (ap (kept_line before.kept) same ∙ new)));
     }
 
--- in a state that fits, the reply line of a call says of the call what carrying it out gave
+-- in a state that fits, `IsAnswered` holds of the reply line of a call's outcome
 pub executed_answered : (s : State) (id : ℕ) (call : Call) → IsFittingState s → id < 8 → IsFitting call → IsAnswered s id call (executed_line id (exec s call))
 executed_answered s id call good small fits =
     let x = exec s call in
@@ -154,7 +153,7 @@ executed_answered s id call good small fits =
     (λ h. subst (λ (a : Answer). ReadsBackAnswer call id x.rc a x.state.precision (Refused x.rc)) (sym (outcome.refuses h))
     (refusal_again call id x.rc x.state.precision small (omega (arith, h)) outcome.code))
 
--- in a state that fits, the reply to a request whose id isn't the kept one says of the call what carrying it out gave
+-- in a state that fits, `IsAnswered` holds of the reply to a request whose id isn't the stored one
 pub handed_answered : (s : State) (id : ℕ) (call : Call) → IsFittingState s → id < 8 → IsFitting call → kept_line s.kept (Some id) ≡ None → IsAnswered s id call (handed s id call).reply
 handed_answered s id call good small fits new =
     subst (λ (h : Handed State). IsAnswered s id call h.reply) (sym (handed_new s id call new)) (executed_answered s id call good small fits)
@@ -174,8 +173,7 @@ line_exchanged before after line bytes q id call text same is small fits own mad
     let call_is : IsCall q.rpc q.params call = subst (λ (p : RequestFields). IsCall p.rpc p.params call) (sym q_is) (call_again (Some id) call small fits).is_call in
     exchanged before after q id call text (ap (λ (p : RequestFields). p.id) q_is) call_is made (plain call call_is) (answered call call_is)
 
--- a line that doesn't read as a request isn't a call's request line, which always does: so whatever is claimed of such a line
--- holds
+-- a line that doesn't read as a request isn't a call's request line, so `IsExchanged` holds of it for lack of a case
 pub silence_exchanged : (state : State) (line bytes : List ℕ) (fault : LineFault) (view : Request → RequestFields) (id : ℕ) (call : Call) → bytes ≡ line
     → ((q : RequestFields) → IsRequest bytes q → Gives view (Err fault) (Ok q)) → id < 8 → IsFitting call → line ≡ request_line (Some id) call → IsExchanged state id call state None
 silence_exchanged state line bytes fault view id call same only small fits own =
@@ -184,7 +182,7 @@ silence_exchanged state line bytes fault view id call same only small fits own =
     let never : ⊥ = cc in
     absurd never
 
--- a line is kept, or none is
+-- an optional line is some line, or none
 pub kept_or_not : (o : Option (List ℕ)) → ((line : List ℕ) × (o ≡ Some line)) ⊎ (o ≡ None)
 kept_or_not (Some line) = inl (line, refl)
 kept_or_not None = inr refl

@@ -1,6 +1,5 @@
--- What holds of the outcome of every call, `ComesOut`: the serial number, the name and the scene stay, the values lie in their
--- types, and with a code other than 0 comes no answer. A call *comes out* where this holds of its outcome. A state *fits* where
--- its values lie in their types (`IsFittingState`).
+-- The outcome of every call is sound (`IsSoundOutcome`): the serial number, the name and the scene stay, the values are in range, and a code
+-- other than 0 has no answer. Below, a state *fits* if `IsFittingState` holds of it.
 use Rattle.std.proofs.Common.{◌≡◌, ℕ, ℤ, pos, negsuc, ◌<◌, ◌≤◌, ◌&&◌, ◌||◌, Bool, true, false, cond, Option, Some, None, refl, subst, arith}
 use Rattle.std.proofs.lemmas.Bool.{and_parts, leb-true}
 use Rattle.std.specs.Prelude.{int_lt, int_le, nat_le, unsigned_abs}
@@ -17,19 +16,18 @@ use Rattle.gc_catalogue.specs.declared.answer.Answer.TheVariants.{Nothing}
 use Rattle.gc_catalogue.specs.declared.call.Call.{Call}
 use Rattle.gc_catalogue.specs.declared.call.Call.TheVariants.{NullProc}
 use Rattle.gc_catalogue.specs.declared.call.DateTime.{DateTime}
-use Rattle.gc_instrument.specs.Execution.{exec, done, refused, set_if, told, commanded, searched, adjusted, measured, unmeasured, pointed, is_precision, is_prism, is_date}
+use Rattle.gc_instrument.specs.Execution.{exec, done, refused, set_if, distance_outcome, commanded, searched, adjusted, measured, unmeasured, pointed, is_precision, is_prism, is_date}
 use Rattle.gc_instrument.specs.Faces.{face_number}
-pub use Rattle.gc_instrument.specs.Outcomes.{ComesOut}
+pub use Rattle.gc_instrument.specs.Outcomes.{IsSoundOutcome}
 use Rattle.gc_instrument.specs.State.{State, IsFittingState, IsFittingKept, opening_of, restarted, first_date}
 use Rattle.gc_instrument.specs.Targets.{first_within}
 use Rattle.gc_instrument.specs.declared.face.Face.{Face}
 use Rattle.gc_instrument.specs.declared.face.Face.TheVariants.{Normal, Turned}
 use Rattle.gc_instrument.specs.declared.target.Target.{Target}
 
--- a call that was carried out comes out, where serial number, name and scene stay, the values fit, and the answer is one of
--- that call
+-- an outcome with code 0 is sound if serial number, name and scene stay, the values fit, and the answer is one of the call
 done_outcome : (s t : State) (call : Call) (a : Answer) → opening_of t ≡ opening_of s → (IsFittingState s → IsFittingState t) → IsAnswerOf call a
-    → (IsFittingState s → IsFitting call → IsFittingAnswer a) → ComesOut s call (done t a)
+    → (IsFittingState s → IsFitting call → IsFittingAnswer a) → IsSoundOutcome s call (done t a)
 done_outcome s t call a same fits of_call answer_fits = record {
   same = same;
   fits = fits;
@@ -39,8 +37,8 @@ done_outcome s t call a same fits of_call answer_fits = record {
   answer_fits = answer_fits;
 }
 
--- a call that was refused comes out, where serial number, name and scene stay, and the values fit
-refused_outcome : (s t : State) (call : Call) (code : ℕ) → opening_of t ≡ opening_of s → (IsFittingState s → IsFittingState t) → 0 < code → code < 65536 → ComesOut s call (refused t code)
+-- an outcome with another code and no answer is sound if serial number, name and scene stay, and the values fit
+refused_outcome : (s t : State) (call : Call) (code : ℕ) → opening_of t ≡ opening_of s → (IsFittingState s → IsFittingState t) → 0 < code → code < 65536 → IsSoundOutcome s call (refused t code)
 refused_outcome s t call code same fits some small = record {
   same = same;
   fits = fits;
@@ -50,11 +48,11 @@ refused_outcome s t call code same fits some small = record {
   answer_fits = λ _ _. tt;
 }
 
--- a call that only answers comes out, where the answer is one of that call, and its values fit
-told_outcome : (s : State) (call : Call) (a : Answer) → IsAnswerOf call a → (IsFittingState s → IsFitting call → IsFittingAnswer a) → ComesOut s call (done s a)
-told_outcome s call a of_call answer_fits = done_outcome s s call a refl (λ f. f) of_call answer_fits
+-- the outcome of a call that only answers is sound if the answer is one of the call, and its values fit
+answered_outcome : (s : State) (call : Call) (a : Answer) → IsAnswerOf call a → (IsFittingState s → IsFitting call → IsFittingAnswer a) → IsSoundOutcome s call (done s a)
+answered_outcome s call a of_call answer_fits = done_outcome s s call a refl (λ f. f) of_call answer_fits
 
--- a state with the same precision, serial number, name, date, prism type and kept reply fits where the other does
+-- a state with the same precision, serial number, name, date, prism type and stored reply fits where the other does
 fits_likewise : (s t : State) → s.precision ≡ t.precision → s.serial ≡ t.serial → s.name ≡ t.name → s.date ≡ t.date → s.prism ≡ t.prism → s.kept ≡ t.kept → IsFittingState s → IsFittingState t
 fits_likewise s t p n l d r k f = record {
   precision = subst (λ (x : ℕ). x ≤ 15) p f.precision;
@@ -65,43 +63,43 @@ fits_likewise s t p n l d r k f = record {
   kept = subst IsFittingKept k f.kept;
 }
 
--- a call that leads from the state s to t if that is allowed (b is true), and else is refused and leaves s, comes out either way: if t has
--- the serial number, name and scene of s; if t, where it is allowed, fits whenever s does; and if the call is answered without values
-set_outcome : (b : Bool) (s t : State) (call : Call) → opening_of t ≡ opening_of s → (b ≡ true → IsFittingState s → IsFittingState t) → IsAnswerOf call Nothing → ComesOut s call (set_if b s t)
+-- the outcome of a call that leads from the state s to t if that is allowed (b is true), and else is refused in s, is sound: if t has the
+-- serial number, name and scene of s; if t, where it is allowed, fits whenever s does; and if the call is answered without values
+set_outcome : (b : Bool) (s t : State) (call : Call) → opening_of t ≡ opening_of s → (b ≡ true → IsFittingState s → IsFittingState t) → IsAnswerOf call Nothing → IsSoundOutcome s call (set_if b s t)
 set_outcome true s t call same fits of_call = done_outcome s t call Nothing same (fits refl) of_call (λ _ _. tt)
 set_outcome false s t call same fits of_call = refused_outcome s s call 2 refl (λ f. f) (omega arith) (omega arith)
 
--- a call that answers with the distance d, or is refused where there is none, comes out, where serial number, name and scene
--- stay, and the values fit
+-- the outcome of a call that answers with the distance d, or is refused if there is none, is sound if serial number, name and scene stay, and
+-- the values fit
 with_outcome : (s t : State) (call : Call) (answer_with : Decimal → Answer) (d : Option Decimal) → opening_of t ≡ opening_of s → (IsFittingState s → IsFittingState t)
-    → ((x : Decimal) → IsAnswerOf call (answer_with x)) → ((x : Decimal) → IsFitting call → IsFittingAnswer (answer_with x)) → ComesOut s call (told t answer_with d)
+    → ((x : Decimal) → IsAnswerOf call (answer_with x)) → ((x : Decimal) → IsFitting call → IsFittingAnswer (answer_with x)) → IsSoundOutcome s call (distance_outcome t answer_with d)
 with_outcome s t call answer_with (Some d) same fits of_call answer_fits = done_outcome s t call (answer_with d) same fits (of_call d) (λ _ c. answer_fits d c)
 with_outcome s t call answer_with None same fits of_call answer_fits = refused_outcome s t call 1285 same fits (omega arith) (omega arith)
 
--- measuring as commanded comes out
-commanded_outcome : (s : State) (call : Call) (command : ℤ) → IsAnswerOf call Nothing → ComesOut s call (commanded s command)
+-- the outcome of a measuring command is sound
+commanded_outcome : (s : State) (call : Call) (command : ℤ) → IsAnswerOf call Nothing → IsSoundOutcome s call (commanded s command)
 commanded_outcome s call command of_call = by_tests (int_eq command (pos 0)) (int_eq command (pos 1)) (int_eq command (pos 3)) where
-  -- whichever outcome the three tests of the command choose, it comes out
-  by_tests : (a b c : Bool) → ComesOut s call (cond a (done s Nothing) (cond b (done (measured s) Nothing) (cond c (done (unmeasured s) Nothing) (refused s 2))))
-  by_tests true b c = told_outcome s call Nothing of_call (λ _ _. tt)
+  -- whichever outcome the three tests of the command choose, it is sound
+  by_tests : (a b c : Bool) → IsSoundOutcome s call (cond a (done s Nothing) (cond b (done (measured s) Nothing) (cond c (done (unmeasured s) Nothing) (refused s 2))))
+  by_tests true b c = answered_outcome s call Nothing of_call (λ _ _. tt)
   by_tests false true c = done_outcome s (measured s) call Nothing refl (fits_likewise s (measured s) refl refl refl refl refl refl) of_call (λ _ _. tt)
   by_tests false false true = done_outcome s (unmeasured s) call Nothing refl (fits_likewise s (unmeasured s) refl refl refl refl refl refl) of_call (λ _ _. tt)
   by_tests false false false = refused_outcome s s call 2 refl (λ f. f) (omega arith) (omega arith)
 
--- pointing at a target that was met, or at none, comes out
-adjusted_outcome : (s : State) (call : Call) (t : Option Target) → IsAnswerOf call Nothing → ComesOut s call (adjusted s t)
+-- the outcome of a search that found a target, or none, is sound
+adjusted_outcome : (s : State) (call : Call) (t : Option Target) → IsAnswerOf call Nothing → IsSoundOutcome s call (adjusted s t)
 adjusted_outcome s call (Some t) of_call = done_outcome s (pointed s t.hz t.v) call Nothing refl (fits_likewise s (pointed s t.hz t.v) refl refl refl refl refl refl) of_call (λ _ _. tt)
 adjusted_outcome s call None of_call = refused_outcome s s call 8710 refl (λ f. f) (omega arith) (omega arith)
 
--- looking for a target within areas comes out
-searched_outcome : (s : State) (call : Call) (area_hz area_v : Decimal) → IsAnswerOf call Nothing → ComesOut s call (searched s area_hz area_v)
+-- the outcome of a search within areas is sound
+searched_outcome : (s : State) (call : Call) (area_hz area_v : Decimal) → IsAnswerOf call Nothing → IsSoundOutcome s call (searched s area_hz area_v)
 searched_outcome s call area_hz area_v of_call = by_test (int_lt area_hz.digits (pos 0) || int_lt area_v.digits (pos 0)) where
-  -- whether an area is below zero (true) or none is, the outcome comes out
-  by_test : (b : Bool) → ComesOut s call (cond b (refused s 2) (adjusted s (first_within s.pointing area_hz area_v s.scene)))
+  -- whether an area is below zero (true) or none is, the outcome is sound
+  by_test : (b : Bool) → IsSoundOutcome s call (cond b (refused s 2) (adjusted s (first_within s.pointing area_hz area_v s.scene)))
   by_test true = refused_outcome s s call 2 refl (λ f. f) (omega arith) (omega arith)
   by_test false = adjusted_outcome s call (first_within s.pointing area_hz area_v s.scene) of_call
 
--- what the tests say
+-- What the tests of values imply.
 
 -- a precision that is allowed is at most 15
 precision_few : (n : ℤ) → is_precision n ≡ true → unsigned_abs n ≤ 15
@@ -135,7 +133,7 @@ date_tests a b c d e f g h i all =
       abcdefgh.1,
     )
 
--- the values of a date that the clock takes lie in their types
+-- the values of a date that the clock takes are in the ranges of their types
 date_fits : (d : DateTime) → is_date d ≡ true → AreValues (date_values d)
 date_fits d h =
     let t = date_tests (int_le (pos 1) d.year) (int_le d.year (pos 9999)) (nat_le 1 d.month) (nat_le d.month 12) (nat_le 1 d.day) (nat_le d.day 31)
@@ -178,10 +176,10 @@ prismed : (s : State) (n : ℤ) → is_prism n ≡ true → IsFittingState s →
 prismed s n h f = record { precision = f.precision; serial = f.serial; name = f.name; date = f.date; prism = prism_fits n h; kept = f.kept }
 
 -- the lemmas of which the search proves each row of the execution table
-ruleset row_rules = (told_outcome, done_outcome, set_outcome, with_outcome, commanded_outcome, searched_outcome, fits_likewise, precise, dated, prismed, face_fits, precision_fits, arith)
+ruleset row_rules = (answered_outcome, done_outcome, set_outcome, with_outcome, commanded_outcome, searched_outcome, fits_likewise, precise, dated, prismed, face_fits, precision_fits, arith)
 
--- every call comes out in every state. A new row is made of the same parts, so it needs nothing here
-pub exec_outcome : (s : State) (call : Call) → ComesOut s call (exec s call)
+-- the outcome of every call in every state is sound. A new row of the table is made of the same parts, so it needs nothing here
+pub exec_outcome : (s : State) (call : Call) → IsSoundOutcome s call (exec s call)
 unfolding exec
 exec_outcome s NullProc = search row_rules
 exec_outcome s call = search row_rules

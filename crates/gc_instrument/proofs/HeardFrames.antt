@@ -35,9 +35,9 @@ abbrev pub lines_of : List Frame → List (List ℕ)
 lines_of seen = filter_map line_in seen
 
 -- mapping f over an optional element, and over the list after it, is mapping f over the two in a row
-mapped : {X Y : Type 0} (f : X → Y) (o : Option X) (xs : List X) → option_to_list (option_map f o) ++ map f xs ≡ map f (option_to_list o ++ xs)
-mapped f None xs = refl
-mapped f (Some x) xs = refl
+option_to_list_map : {X Y : Type 0} (f : X → Y) (o : Option X) (xs : List X) → option_to_list (option_map f o) ++ map f xs ≡ map f (option_to_list o ++ xs)
+option_to_list_map f None xs = refl
+option_to_list_map f (Some x) xs = refl
 
 -- the lines among these frames take the instrument from s to t, and the texts are its replies, each with its CR LF
 record Heard (s t : State) (seen : List Frame) (texts : List (List ℕ)) : Type 0 where
@@ -53,7 +53,7 @@ heard_line s u t line reply text later rest texts replied text_is h are = record
   replies = option_to_list reply ++ h.replies;
   hears = (u, reply, h.replies, replied, h.hears, refl);
   texts_are = are ∙ ap (λ (o : Option (List ℕ)). option_to_list o ++ rest) text_is
-      ∙ ap (λ (ts : List (List ℕ)). option_to_list (option_map with_end reply) ++ ts) h.texts_are ∙ mapped with_end reply h.replies;
+      ∙ ap (λ (ts : List (List ℕ)). option_to_list (option_map with_end reply) ++ ts) h.texts_are ∙ option_to_list_map with_end reply h.replies;
 }
 
 -- for a frame that is no line, which leaves the state as it is and has no text: where `Heard` holds of the frames after it
@@ -67,20 +67,20 @@ heard_silence s u t text seen rest texts same none h are = record {
 }
 
 -- where `Heard` holds of frames, it holds of other frames that have the same lines
-silent_frame : (s u t : State) (seen more : List Frame) (texts : List (List ℕ)) → lines_of more ≡ lines_of seen → Heard s t seen texts → Heard s t more texts
-silent_frame s u t seen more texts same h = record {
+heard_same_lines : (s t : State) (seen more : List Frame) (texts : List (List ℕ)) → lines_of more ≡ lines_of seen → Heard s t seen texts → Heard s t more texts
+heard_same_lines s t seen more texts same h = record {
   replies = h.replies;
   hears = subst (λ (heard : List (List ℕ)). Hears s heard t h.replies) (sym same) h.hears;
   texts_are = h.texts_are;
 }
 
 -- frames that an instrument answered in order are lines that it heard, and the texts are their replies
-heard : (s t : State) (seen : List Frame) (texts : List (List ℕ)) → AnswersInOrder State AnswersFrame s seen t texts → Heard s t seen texts
-heard s t [] texts h = record { replies = []; hears = (h.0, refl); texts_are = h.1 }
-heard s t (Line line ∷ later) texts h = heard_line s h.0 t line.items h.3.0 h.1 later h.2 texts h.3.1 h.3.2 (heard h.0 t later h.2 h.4) h.5
-heard s t (Cleared ∷ later) texts h = silent_frame s t t later (Cleared ∷ later) texts refl (heard_silence s h.0 t h.1 later h.2 texts h.3.0 h.3.1 (heard h.0 t later h.2 h.4) h.5)
-heard s t (Overlong ∷ later) texts h = silent_frame s t t later (Overlong ∷ later) texts refl (heard_silence s h.0 t h.1 later h.2 texts h.3.0 h.3.1 (heard h.0 t later h.2 h.4) h.5)
-heard s t (More ∷ later) texts h = silent_frame s t t later (More ∷ later) texts refl (heard_silence s h.0 t h.1 later h.2 texts h.3.0 h.3.1 (heard h.0 t later h.2 h.4) h.5)
+heard_frames : (s t : State) (seen : List Frame) (texts : List (List ℕ)) → AnswersInOrder State AnswersFrame s seen t texts → Heard s t seen texts
+heard_frames s t [] texts h = record { replies = []; hears = (h.0, refl); texts_are = h.1 }
+heard_frames s t (Line line ∷ later) texts h = heard_line s h.0 t line.items h.3.0 h.1 later h.2 texts h.3.1 h.3.2 (heard_frames h.0 t later h.2 h.4) h.5
+heard_frames s t (Cleared ∷ later) texts h = heard_same_lines s t later (Cleared ∷ later) texts refl (heard_silence s h.0 t h.1 later h.2 texts h.3.0 h.3.1 (heard_frames h.0 t later h.2 h.4) h.5)
+heard_frames s t (Overlong ∷ later) texts h = heard_same_lines s t later (Overlong ∷ later) texts refl (heard_silence s h.0 t h.1 later h.2 texts h.3.0 h.3.1 (heard_frames h.0 t later h.2 h.4) h.5)
+heard_frames s t (More ∷ later) texts h = heard_same_lines s t later (More ∷ later) texts refl (heard_silence s h.0 t h.1 later h.2 texts h.3.0 h.3.1 (heard_frames h.0 t later h.2 h.4) h.5)
 
 -- replies with their CR LF, one after the other, are the replies as they are written
 written_as : (replies : List (List ℕ)) → all_of (map with_end replies) ≡ replies_text replies
@@ -90,7 +90,7 @@ written_as (reply ∷ later) = ap (λ (bytes : List ℕ). with_end reply ++ byte
 -- frames that were all answered are lines that were all served
 all_serves : (s t : State) (seen : List Frame) (a b : Option (List ℕ)) (i j : ℕ) → AnswersAll AnswersFrame s t seen a b i j → ServesAll s t (lines_of seen) a b i j
 all_serves s t seen a b i j all =
-    let h = heard s t seen all.texts all.answers in
+    let h = heard_frames s t seen all.texts all.answers in
     record {
       replies = h.replies;
       hears = h.hears;
@@ -98,8 +98,8 @@ all_serves s t seen a b i j all =
       took = Appends-is a b _ _ (ap all_of h.texts_are ∙ written_as h.replies) all.took;
     }
 
--- the frame whose text went out in part is a line with a reply
-record Drawn (s t : State) (frame : Frame) (text : List ℕ) : Type 0 where
+-- the frame is a line with a reply, and the text is that reply with its CR LF
+record RepliedLine (s t : State) (frame : Frame) (text : List ℕ) : Type 0 where
   line : List ℕ
   reply : List ℕ
   is_line : (later : List Frame) → lines_of (frame ∷ later) ≡ line ∷ lines_of later
@@ -107,27 +107,27 @@ record Drawn (s t : State) (frame : Frame) (text : List ℕ) : Type 0 where
   text_is : text ≡ with_end reply
 
 -- a line whose text is sent has a reply, and the text is that with its CR LF
-drawn_line : (s t : State) (line : List ℕ) (reply : Option (List ℕ)) (text : List ℕ) → IsReplied s line t reply
-    → ◌≡◌ {A = Option (List ℕ)} (Some text) (option_map with_end reply) → Drawn s t (Line (record { items = line })) text
-drawn_line s t line None text replied is = let wrong : ⊥ = cc in absurd wrong
-drawn_line s t line (Some reply) text replied is = record { line = line; reply = reply; is_line = λ later. refl; replied = replied; text_is = cc }
+replied_line : (s t : State) (line : List ℕ) (reply : Option (List ℕ)) (text : List ℕ) → IsReplied s line t reply
+    → ◌≡◌ {A = Option (List ℕ)} (Some text) (option_map with_end reply) → RepliedLine s t (Line (record { items = line })) text
+replied_line s t line None text replied is = let wrong : ⊥ = cc in absurd wrong
+replied_line s t line (Some reply) text replied is = record { line = line; reply = reply; is_line = λ later. refl; replied = replied; text_is = cc }
 
 -- `Some text` isn't `None`
-never : (text : List ℕ) → ◌≡◌ {A = Option (List ℕ)} (Some text) None → ⊥
-never text is = cc
+some_is_not_none : (text : List ℕ) → ◌≡◌ {A = Option (List ℕ)} (Some text) None → ⊥
+some_is_not_none text is = cc
 
 -- a frame whose text is sent is a line with a reply
-drawn : (s t : State) (frame : Frame) (text : List ℕ) → AnswersFrame s frame t (Some text) → Drawn s t frame text
-drawn s t (Line line) text h = drawn_line s t line.items h.0 text h.1 h.2
-drawn s t Cleared text h = absurd (never text h.1)
-drawn s t Overlong text h = absurd (never text h.1)
-drawn s t More text h = absurd (never text h.1)
+replied_frame : (s t : State) (frame : Frame) (text : List ℕ) → AnswersFrame s frame t (Some text) → RepliedLine s t frame text
+replied_frame s t (Line line) text h = replied_line s t line.items h.0 text h.1 h.2
+replied_frame s t Cleared text h = absurd (some_is_not_none text h.1)
+replied_frame s t Overlong text h = absurd (some_is_not_none text h.1)
+replied_frame s t More text h = absurd (some_is_not_none text h.1)
 
 -- frames that were answered up to a part of a text are lines that were served up to a part of a reply
 part_serves : (s t : State) (seen : List Frame) (a b : Option (List ℕ)) (i j bytes : ℕ) → AnswersPart AnswersFrame s t seen a b i j bytes → ServesPart s t (lines_of seen) a b i j bytes
 part_serves s t seen a b i j bytes part =
-    let h = heard s part.state part.earlier part.texts part.answers in
-    let d = drawn part.state t part.frame part.text part.draws in
+    let h = heard_frames s part.state part.earlier part.texts part.answers in
+    let d = replied_frame part.state t part.frame part.text part.draws in
     record {
       earlier = lines_of part.earlier;
       line = d.line;

@@ -1,4 +1,4 @@
--- The reply that an instrument keeps: for which id it is found, that no call depends on it, and what is kept after an execution.
+-- The stored reply: for which id it is found, that no call's outcome depends on it, and what is stored after an execution.
 use Rattle.std.proofs.Common.{◌≡◌, ℤ, pos, ◌||◌, Bool, true, false, cond, ℕ, List, Option, Some, None, refl, sym, ap, ◌∙◌, subst, eqb, ◌+◌, ◌-◌, ◌++◌, length, take, drop, arith, length-append}
 use Rattle.std.specs.Prelude.{int_lt, unwrap_or}
 use Rattle.std.proofs.lemmas.List.{take_all}
@@ -12,7 +12,7 @@ use Rattle.gc_catalogue.specs.declared.answer.Answer.{Answer}
 use Rattle.gc_catalogue.specs.declared.answer.Answer.TheVariants.{Nothing}
 use Rattle.gc_catalogue.specs.declared.call.Call.{Call}
 use Rattle.gc_catalogue.specs.declared.call.Call.TheVariants.{NullProc}
-use Rattle.gc_instrument.specs.Execution.{Executed, exec, done, refused, set_if, told, commanded, searched, adjusted, measured, unmeasured}
+use Rattle.gc_instrument.specs.Execution.{Executed, exec, done, refused, set_if, distance_outcome, commanded, searched, adjusted, measured, unmeasured}
 use Rattle.gc_instrument.specs.Laws.{ExecutesApart}
 use Rattle.gc_instrument.specs.Replying.{AppendsCall, AppendsExecuted, repeats, executes, IsAnswered, executed_line, kept_after, kept_line, with_kept, executed_with}
 use Rattle.gc_instrument.specs.Seen.{IsPlainKept}
@@ -20,18 +20,18 @@ use Rattle.gc_instrument.specs.State.{State, KeptReply, IsFittingState, IsFittin
 use Rattle.gc_instrument.specs.Targets.{first_within}
 use Rattle.gc_instrument.specs.declared.target.Target.{Target}
 
--- what `kept_in` keeps of an id and a line has that id
+-- the reply that `kept_in` makes of an id and a line has that id
 pub id_kept : (id : Option ℕ) (line : List ℕ) → id ≡ option_map (λ (k : KeptReply). k.id) (kept_in id line)
 id_kept None line = refl
 id_kept (Some id) line = refl
 
--- without an id no kept line is found
+-- a request without an id finds no stored line
 pub none_asked : (kept : Option KeptReply) (id : Option ℕ) → id ≡ None → None ≡ kept_line kept id
 none_asked None id e = refl
 none_asked (Some k) None e = refl
 none_asked (Some k) (Some n) e = let never : ⊥ = cc in absurd never
 
--- where nothing is kept, no kept line is found
+-- where nothing is stored, no stored line is found
 pub none_kept : (id asked : Option ℕ) (line : List ℕ) → id ≡ None → None ≡ kept_line (kept_in id line) asked
 none_kept None asked line e = refl
 none_kept (Some n) asked line e = let never : ⊥ = cc in absurd never
@@ -40,73 +40,74 @@ none_kept (Some n) asked line e = let never : ⊥ = cc in absurd never
 by_test : (b : Bool) (o p : Option (List ℕ)) (c : Bool) → b ≡ c → cond c o p ≡ cond b o p
 by_test b o p c e = ap (λ x. cond x o p) (sym e)
 
--- where the id asked for is the kept one, the kept line is found
+-- where the id asked for is the stored one, the stored line is found
 pub same_kept : (id asked : Option ℕ) (k n : ℕ) (line : List ℕ) → id ≡ Some k → asked ≡ Some n → eqb k n ≡ true → Some line ≡ kept_line (kept_in id line) asked
 same_kept id asked k n line e f same =
     subst (λ o. Some line ≡ kept_line (kept_in o line) asked) (sym e) (subst (λ o. Some line ≡ kept_line (Some (record { id = k; line = line })) o) (sym f)
     (by_test (eqb k n) (Some line) None true same))
 
--- where the id asked for isn't the kept one, no kept line is found
+-- where the id asked for isn't the stored one, no stored line is found
 pub other_kept : (id asked : Option ℕ) (k n : ℕ) (line : List ℕ) → id ≡ Some k → asked ≡ Some n → eqb k n ≡ false → None ≡ kept_line (kept_in id line) asked
 other_kept id asked k n line e f other =
     subst (λ o. None ≡ kept_line (kept_in o line) asked) (sym e) (subst (λ o. None ≡ kept_line (Some (record { id = k; line = line })) o) (sym f) (by_test (eqb k n) (Some line) None false other))
 
--- The outcome of a call doesn't depend on what is kept. Each equation has that outcome on its left, by which the search finds it.
+-- The outcome of a call doesn't depend on the stored reply. Each equation has that outcome on its left, by which the search finds it.
 
--- setting a value doesn't depend on what is kept
+-- setting a value doesn't depend on the stored reply
 set_apart : (b : Bool) (s t : State) (kept : Option KeptReply) → executed_with kept (set_if b s t) ≡ set_if b (with_kept kept s) (with_kept kept t)
 set_apart true s t kept = refl
 set_apart false s t kept = refl
 
--- answering with a distance doesn't depend on what is kept
-told_apart : (s : State) (kept : Option KeptReply) (answer_with : Decimal → Answer) (d : Option Decimal) → executed_with kept (told s answer_with d) ≡ told (with_kept kept s) answer_with d
-told_apart s kept answer_with None = refl
-told_apart s kept answer_with (Some d) = refl
+-- answering with a distance doesn't depend on the stored reply
+distance_apart : (s : State) (kept : Option KeptReply) (answer_with : Decimal → Answer) (d : Option Decimal)
+    → executed_with kept (distance_outcome s answer_with d) ≡ distance_outcome (with_kept kept s) answer_with d
+distance_apart s kept answer_with None = refl
+distance_apart s kept answer_with (Some d) = refl
 
 -- the outcomes of a measuring command by which of its tests holds
-abbrev rows : State → Bool → Bool → Bool → Executed
-rows t a b c = cond a (done t Nothing) (cond b (done (measured t) Nothing) (cond c (done (unmeasured t) Nothing) (refused t 2)))
+abbrev commanded_by_tests : State → Bool → Bool → Bool → Executed
+commanded_by_tests t a b c = cond a (done t Nothing) (cond b (done (measured t) Nothing) (cond c (done (unmeasured t) Nothing) (refused t 2)))
 
--- measuring as commanded doesn't depend on what is kept
+-- carrying out a measuring command doesn't depend on the stored reply
 commanded_apart : (s : State) (kept : Option KeptReply) (command : ℤ) → executed_with kept (commanded s command) ≡ commanded (with_kept kept s) command
 commanded_apart s kept command = by_tests (int_eq command (pos 0)) (int_eq command (pos 1)) (int_eq command (pos 3)) where
-  -- whichever outcome the three tests of the command choose, it doesn't depend on what is kept
-  by_tests : (a b c : Bool) → executed_with kept (rows s a b c) ≡ rows (with_kept kept s) a b c
+  -- whichever outcome the three tests of the command choose, it doesn't depend on the stored reply
+  by_tests : (a b c : Bool) → executed_with kept (commanded_by_tests s a b c) ≡ commanded_by_tests (with_kept kept s) a b c
   by_tests true b c = refl
   by_tests false true c = refl
   by_tests false false true = refl
   by_tests false false false = refl
 
--- pointing at a target that was met doesn't depend on what is kept
+-- pointing at the target that a search found, or finding none, doesn't depend on the stored reply
 adjusted_apart : (s : State) (kept : Option KeptReply) (t : Option Target) → executed_with kept (adjusted s t) ≡ adjusted (with_kept kept s) t
 adjusted_apart s kept None = refl
 adjusted_apart s kept (Some t) = refl
 
--- looking for a target doesn't depend on what is kept
+-- a search within areas doesn't depend on the stored reply
 searched_apart : (s : State) (kept : Option KeptReply) (area_hz area_v : Decimal) → executed_with kept (searched s area_hz area_v) ≡ searched (with_kept kept s) area_hz area_v
 searched_apart s kept area_hz area_v = by_test (int_lt area_hz.digits (pos 0) || int_lt area_v.digits (pos 0)) where
-  -- whether an area is below zero (true) or none is, the outcome doesn't depend on what is kept
+  -- whether an area is below zero (true) or none is, the outcome doesn't depend on the stored reply
   by_test : (b : Bool) → executed_with kept (cond b (refused s 2) (adjusted s (first_within s.pointing area_hz area_v s.scene))) ≡ cond b
       (refused (with_kept kept s) 2) (adjusted (with_kept kept s) (first_within s.pointing area_hz area_v s.scene))
   by_test true = refl
   by_test false = adjusted_apart s kept (first_within s.pointing area_hz area_v s.scene)
 
 -- the lemmas of which the search proves each row of the execution table
-ruleset apart_rules = (set_apart, told_apart, commanded_apart, searched_apart)
+ruleset apart_rules = (set_apart, distance_apart, commanded_apart, searched_apart)
 
--- no call's outcome depends on what is kept. A new row is made of the same parts, so it needs nothing here
+-- no call's outcome depends on the stored reply. A new row of the table is made of the same parts, so it needs nothing here
 by_rows : (s : State) (kept : Option KeptReply) (call : Call) → executed_with kept (exec s call) ≡ exec (with_kept kept s) call
 unfolding exec
 by_rows s kept NullProc = refl
 by_rows s kept call = search apart_rules
 
--- what carrying out a call gives doesn't depend on the reply that is kept, and leaves that reply as it is
+-- the outcome of a call doesn't depend on the stored reply, and leaves that reply as it is
 pub executes_apart : ExecutesApart
 executes_apart s kept call = sym (by_rows s kept call)
 
--- What is kept of an execution.
+-- What is stored of an execution.
 
--- carrying out a call leaves what is kept
+-- carrying out a call leaves the stored reply as it is
 kept_stays : (s : State) (call : Call) → (exec s call).state.kept ≡ s.kept
 kept_stays s call = ap (λ (x : Executed). x.state.kept) (executes_apart s s.kept call)
 
@@ -122,16 +123,12 @@ appended_bytes_at old new text start is first =
 pub appended_bytes : (old new all text : List ℕ) (start : ℕ) → all ≡ new → new ≡ old ++ text → start ≡ length old → take (length all - start) (drop start all) ≡ text
 appended_bytes old new all text start same is first = ap (λ xs. take (length xs - start) (drop start xs)) same ∙ appended_bytes_at old new text start is first
 
--- the reply's id is the request's, where there is one
-number_is : (id : Option ℕ) (n number : ℕ) → id ≡ Some n → number ≡ unwrap_or id 0 → number ≡ n
-number_is id n number e same = same ∙ ap (λ o. unwrap_or o 0) e
-
--- where a state's values lie in their types, they still do with another line kept, if that is a reply with the id kept with it
+-- a state that fits (`IsFittingState`) does so with another stored reply, if that fits, too
 pub fits_kept : (s : State) (kept : Option KeptReply) → IsFittingState s → IsFittingKept kept → IsFittingState (with_kept kept s)
 fits_kept s kept h k = record { precision = h.precision; serial = h.serial; name = h.name; date = h.date; prism = h.prism; kept = k }
 
--- where a state's values lie in their types, and its kept line has neither CR nor LF, both are still so once the reply to a
--- request is kept with the request's id
+-- where a state fits, and its stored line has neither CR nor LF, both are still so once the reply to a request is stored, if the request
+-- has an id
 pub sound_keeping : (s : State) (id : Option ℕ) (kept : Option KeptReply) (number : ℕ) (line : List ℕ) (fields : ReplyFields) → IsFittingState s
     → IsPlainKept s.kept → kept ≡ kept_after s.kept id line → number ≡ unwrap_or id 0
     → IsReply line fields → fields.id ≡ Some number → IsPlain line → IsFittingState (with_kept kept s) × IsPlainKept kept
@@ -142,7 +139,7 @@ sound_keeping s (Some n) kept number line fields h plain is same reply own one =
   subst IsPlainKept (sym is) one,
 )
 
--- carrying out a call whose id isn't the kept one, and keeping the reply, is what `AppendsCall` says of that call
+-- carrying out a call whose id isn't the stored one, and storing the reply, is what `AppendsCall` says of that call
 pub kept_anew : (before after : State) (id : Option ℕ) (number : ℕ) (call : Call) (old new line : List ℕ) (kept : Option KeptReply) → number ≡ unwrap_or id 0 → kept_line before.kept id ≡ None
     → (h : AppendsExecuted before number call after old new) → line ≡ h.text → kept ≡ kept_after after.kept id line → AppendsCall before id call (with_kept kept after) old new
 kept_anew before after id number call old new line kept same none h line_is kept_is =

@@ -21,15 +21,15 @@ put_in s t [] later ps none h = h
 put_in s t (line ∷ foreign) later ps none h = (s, None, ps, silent none.0 refl refl, put_in s t foreign later ps none.1 h, refl)
 
 -- a line that is no request gets no reply, and changes nothing
-stays : (s u : State) (line : List ℕ) (reply : Option (List ℕ)) → ((q : RequestFields) → ¬ IsRequest line q) → IsReplied s line u reply → (u ≡ s) × (reply ≡ None)
-stays s u line reply none (silent never same quiet) = (same, quiet)
-stays s u line reply none (answers q is text does told) = absurd (none q is)
+no_request_no_reply : (s u : State) (line : List ℕ) (reply : Option (List ℕ)) → ((q : RequestFields) → ¬ IsRequest line q) → IsReplied s line u reply → (u ≡ s) × (reply ≡ None)
+no_request_no_reply s u line reply none (silent never same quiet) = (same, quiet)
+no_request_no_reply s u line reply none (answers q is text does told) = absurd (none q is)
 
 -- without lines that are no requests in front, lines have the same replies, and lead to the same state
 take_out : (s t : State) (foreign later ps : List (List ℕ)) → AreForeign foreign → Hears s (foreign ++ later) t ps → Hears s later t ps
 take_out s t [] later ps none h = h
 take_out s t (line ∷ foreign) later ps none h =
-    let same = stays s h.0 line h.1 none.0 h.3 in
+    let same = no_request_no_reply s h.0 line h.1 none.0 h.3 in
     let rest : Hears h.0 later t h.2 = take_out h.0 t foreign later h.2 none.1 h.4 in
     let all : ps ≡ h.2 = h.5 ∙ ap (λ (reply : Option (List ℕ)). option_to_list reply ++ h.2) same.1 in
     subst (λ (qs : List (List ℕ)). Hears s later t qs) (sym all) (subst (λ (u : State). Hears u later t h.2) same.0 rest)

@@ -14,30 +14,30 @@ use Rattle.gc_instrument.specs.State.{State}
 use Rattle.gc_instrument.specs.Targets.{first_at, first_within}
 use Rattle.gc_instrument.specs.declared.target.Target.{Target}
 
--- what comes of a call: the state after it, the return code and the answer
+-- the outcome of a call: the state after it, the return code and the answer
 pub record Executed : Type 0 where
   pub state : State
   pub rc : ℕ
   pub answer : Answer
 
--- the outcome of a call that was carried out, with code 0
+-- the outcome of a call that succeeded: code 0, with this state and this answer
 abbrev pub done : State → Answer → Executed
 done s a = record { state = s; rc = 0; answer = a }
 
--- the outcome of a call that was refused with this code, and is answered by nothing
+-- the outcome of a call that was refused: this code, with this state and no answer
 abbrev pub refused : State → ℕ → Executed
 refused s code = record { state = s; rc = code; answer = answer.Nothing }
 
--- the outcome of a call that sets values: the new state where these are allowed (true), else the old one and code 2, the manual's "invalid
+-- the outcome of a call that sets values: the new state if these are allowed (true), else the old state and code 2, the manual's "invalid
 -- parameter"
 abbrev pub set_if : Bool → State → State → Executed
 set_if true old new = done new answer.Nothing
 set_if false old new = refused old 2
 
--- the outcome of a call that asks for the distance: code 0 and the answer made of it, or code 1285 alone where there is no distance
-abbrev pub told : State → (Decimal → Answer) → Option Decimal → Executed
-told s answer_with (Some d) = done s (answer_with d)
-told s answer_with None = refused s 1285
+-- the outcome of a call that asks for the distance: code 0 and the answer made of it, or code 1285 alone if there is no distance
+abbrev pub distance_outcome : State → (Decimal → Answer) → Option Decimal → Executed
+distance_outcome s answer_with (Some d) = done s (answer_with d)
+distance_outcome s answer_with None = refused s 1285
 
 -- whether a precision can be this number of places: 0 to 15
 abbrev pub is_precision : ℤ → Bool
@@ -47,13 +47,13 @@ is_precision n = int_le (pos 0) n && int_le n (pos 15)
 abbrev pub is_prism : ℤ → Bool
 is_prism n = int_le (pos 0) n && int_le n (pos 2147483647)
 
--- whether the clock takes this date and time; lengths of months aren't looked at
+-- whether the clock can be set to this date and time: each value is in its range, with 31 days in every month
 abbrev pub is_date : DateTime → Bool
 is_date d =
     int_le (pos 1) d.year && int_le d.year (pos 9999) && nat_le 1 d.month && nat_le d.month 12 && nat_le 1 d.day && nat_le d.day 31
     && nat_le d.hour 23 && nat_le d.minute 59 && nat_le d.second 59
 
--- the state with the distance of the first target exactly where the telescope points, or with none without a target
+-- the state after a measurement: the distance is that of the first target exactly where the telescope points, or none if there is no target
 abbrev pub measured : State → State
 measured s = record s { distance = option_map (λ t. t.distance) (first_at s.pointing s.scene) }
 
@@ -69,26 +69,26 @@ pointed s hz v = record s { pointing = record { hz = hz; v = v }; distance = Non
 abbrev pub turned_over : State → State
 turned_over s = record s { face = turned s.face; distance = None }
 
--- the outcome of measuring as commanded: 0 does nothing, 1 measures, 3 clears the distance, and another command is refused with code 2
+-- the outcome of TMC_DoMeasure with this command: 0 does nothing, 1 measures, 3 clears the distance, and any other is refused with code 2
 abbrev pub commanded : State → ℤ → Executed
 commanded s command =
     if int_eq command (pos 0) then done s answer.Nothing
     else (if int_eq command (pos 1) then done (measured s) answer.Nothing
     else (if int_eq command (pos 3) then done (unmeasured s) answer.Nothing else refused s 2))
 
--- the outcome of looking for a target: code 0, pointing at the target that was met, or code 8710 where none was
+-- the outcome of a search for a target: code 0, pointing at the target that was found, or code 8710 if none was
 abbrev pub adjusted : State → Option Target → Executed
 adjusted s (Some t) = done (pointed s t.hz t.v) answer.Nothing
 adjusted s None = refused s 8710
 
--- the outcome of looking for a target within the areas: code 2 where one of the areas is below zero, and else as `adjusted` has it, by the
--- first target within them
+-- the outcome of a search within the areas: code 2 if one of the areas is below zero, else that of `adjusted` with the first target within
+-- them
 abbrev pub searched : State → Decimal → Decimal → Executed
 searched s area_hz area_v =
     if int_lt area_hz.digits (pos 0) || int_lt area_v.digits (pos 0) then refused s 2
     else adjusted s (first_within s.pointing area_hz area_v s.scene)
 
--- what comes of carrying out the call in this state
+-- the execution table: the outcome of carrying out each call in this state
 unfoldable pub exec : State → Call → Executed
 exec s call.NullProc = done s answer.Nothing
 exec s (call.SetPrecision n) = set_if (is_precision n) s (record s { precision = unsigned_abs n })
@@ -107,20 +107,20 @@ exec s call.GetHeight = done s (answer.Height s.height)
 exec s (call.SetHeight h) = done (record s { height = h }) answer.Nothing
 exec s call.GetFace = done s (answer.Long (face_number s.face))
 exec s (call.GetAngle mode) = done s (answer.Angles s.pointing.hz s.pointing.v)
-exec s (call.SimpleMea wait mode) = told s (λ d. answer.Measured s.pointing.hz s.pointing.v d) s.distance
-exec s call.QuickDist = told (measured s) (λ d. answer.Measured s.pointing.hz s.pointing.v d) (measured s).distance
+exec s (call.SimpleMea wait mode) = distance_outcome s (λ d. answer.Measured s.pointing.hz s.pointing.v d) s.distance
+exec s call.QuickDist = distance_outcome (measured s) (λ d. answer.Measured s.pointing.hz s.pointing.v d) (measured s).distance
 exec s (call.SetPrism n) = set_if (is_prism n) s (record s { prism = n })
 exec s call.GetPrism = done s (answer.Long s.prism)
 exec s (call.MeasDistance mode) =
-    told (measured s) (λ d. answer.MeasuredMode s.pointing.hz s.pointing.v d mode) (measured s).distance
+    distance_outcome (measured s) (λ d. answer.MeasuredMode s.pointing.hz s.pointing.v d mode) (measured s).distance
 exec s (call.Position hz v pos_mode atr_mode dummy) = done (pointed s hz v) answer.Nothing
 exec s (call.ChangeFace pos_mode atr_mode dummy) = done (turned_over s) answer.Nothing
 exec s (call.FineAdjust area_hz area_v dummy) = searched s area_hz area_v
 
--- the outcome is this state, return code and answer
+-- the outcome `x` has the state `after`, this return code and this answer
 abbrev pub Gives : Executed → State → ℕ → Answer → Type 0
-Gives x after code said = x ≡ record { state = after; rc = code; answer = said }
+Gives x after code answered = x ≡ record { state = after; rc = code; answer = answered }
 
--- carrying out the call takes the one state to the other, with this return code and answer
+-- carrying out the call `asked` leads from the state `before` to `after`, with this return code and answer
 abbrev pub Executes : State → Call → State → ℕ → Answer → Type 0
-Executes before asked after code said = Gives (exec before asked) after code said
+Executes before asked after code answered = Gives (exec before asked) after code answered

@@ -7,7 +7,8 @@ use Rattle.gc_lines.specs.Frames.{lines}
 use Rattle.gc_instrument.specs.State.{State}
 use Rattle.gc_instrument.specs.Replying.{IsReplied}
 
--- the lines, one after the other, take the instrument from `before` to `after`, and these are its replies in order
+-- the lines, one after the other, lead the instrument from the state `before` to `after`, and these are its replies in order; lines that
+-- get no reply have none in the list
 abbrev pub Hears : State → List (List ℕ) → State → List (List ℕ) → Type 0
 Hears before [] after replies = (after ≡ before) × (replies ≡ [])
 Hears before (line ∷ later) after replies =
@@ -18,7 +19,7 @@ Hears before (line ∷ later) after replies =
 abbrev pub replies_text : List (List ℕ) → List ℕ
 replies_text replies = flat_map with_end replies
 
--- the bytes are all that is written for the stream, and `after` is the state after its lines
+-- the bytes are all that an instrument in the state `before` writes for the stream, and `after` is its state then
 pub record IsOutput (before : State) (stream : List ℕ) (after : State) (bytes : List ℕ) : Type 0 where
   pub replies : List (List ℕ)
   pub hears : Hears before (lines stream) after replies

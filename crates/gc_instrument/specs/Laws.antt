@@ -8,40 +8,40 @@ use Rattle.gc_catalogue.specs.Texts.{request_line}
 use Rattle.gc_catalogue.specs.declared.call.Call.{Call}
 use Rattle.gc_instrument.specs.Execution.{exec}
 use Rattle.gc_instrument.specs.Hearing.{Hears, IsOutput}
-use Rattle.gc_instrument.specs.Outcomes.{ComesOut}
+use Rattle.gc_instrument.specs.Outcomes.{IsSoundOutcome}
 use Rattle.gc_instrument.specs.Replying.{IsReplied, IsAnswered, handed, kept_line, with_kept, executed_with}
 use Rattle.gc_instrument.specs.State.{State, KeptReply, IsFittingState, restarted}
 
--- what `ComesOut` says holds of every call in every state: what stays, that values lie in their types, and which answer comes
--- with which code
-abbrev pub CallsComeOut : Type 0
-CallsComeOut = (s : State) (call : Call) → ComesOut s call (exec s call)
+-- `IsSoundOutcome` holds of the outcome of every call in every state
+abbrev pub OutcomesAreSound : Type 0
+OutcomesAreSound = (s : State) (call : Call) → IsSoundOutcome s call (exec s call)
 
--- what carrying out a call gives doesn't depend on the reply that is kept, and leaves that reply as it is
+-- the outcome of a call doesn't depend on the stored reply, and leaves that reply as it is
 abbrev pub ExecutesApart : Type 0
 ExecutesApart = (s : State) (kept : Option KeptReply) (call : Call) → exec (with_kept kept s) call ≡ executed_with kept (exec s call)
 
--- restarting twice is restarting once, and a state whose values lie in their ranges before a restart is such a state after it
+-- restarting twice is restarting once, and values that are in range before a restart are in range after it
 pub record Restarts : Type 0 where
   pub twice : (s : State) → restarted (restarted s) ≡ restarted s
   pub fits : (s : State) → IsFittingState s → IsFittingState (restarted s)
 
--- from one state a line leads to one state, and to one reply or to none
+-- a state and a line determine the state after the line, and the reply or that there is none
 abbrev pub OneReply : Type 0
 OneReply = (s t u : State) (line : List ℕ) (p q : Option (List ℕ)) → IsReplied s line t p → IsReplied s line u q → (t ≡ u) × (p ≡ q)
 
--- handing over a call's request line gives the call's reply; where the id isn't the kept one, the reply says what carrying out the call gave
+-- a call's request line gets the reply that `handed` gives (`replied`); if the id isn't the stored one, that reply reads as the outcome of the
+-- call (`answered`)
 pub record ExchangesCalls : Type 0 where
   pub replied : (s : State) (id : ℕ) (call : Call) → id < 8 → IsFitting call → IsReplied s (request_line (Some id) call) (handed s id call).state (Some (handed s id call).reply)
   pub answered : (s : State) (id : ℕ) (call : Call) → IsFittingState s → id < 8 → IsFitting call → kept_line s.kept (Some id) ≡ None → IsAnswered s id call (handed s id call).reply
 
--- `one`: from one state, lines lead to one state and one list of replies. `next`: two lists of lines, one after the other,
--- give the replies to the first and then those to the second, which starts from the state that the first leads to. `whole`:
--- two streams of bytes, one after the other, of which the first is empty or ends in a line feed, give what is written for
--- the first and then what is written for the second
+-- lines are answered one after the other, each from the state that the lines before it led to
 pub record AnswersInTurn : Type 0 where
+  -- a state and lines determine the state after them and their replies
   pub one : (s t u : State) (heard : List (List ℕ)) (ps qs : List (List ℕ)) → Hears s heard t ps → Hears s heard u qs → (t ≡ u) × (ps ≡ qs)
+  -- two lists of lines, one after the other, get the replies to the first and then those to the second
   pub next : (s t u : State) (xs ys : List (List ℕ)) (ps qs : List (List ℕ)) → Hears s xs t ps → Hears t ys u qs → Hears s (xs ++ ys) u (ps ++ qs)
+  -- so do two streams of bytes, if the first is empty or ends in a line feed
   pub whole : (s t u : State) (first next : List ℕ) (xs ys : List ℕ) → rest_of first ≡ [] → IsOutput s first t xs → IsOutput t next u ys → IsOutput s (first ++ next) u (xs ++ ys)
 
 -- a stream is empty or ends in a line feed

@@ -1,4 +1,4 @@
--- What comes of every execution, whatever the call and the state: this project's own.
+-- What holds of the outcome of every execution, whatever the call and the state: this project's own.
 use Rattle.std.specs.Prelude.{◌≡◌, ◌≢◌, ◌<◌}
 use Rattle.gc_catalogue.specs.Answers.{IsAnswerOf, IsFittingAnswer}
 use Rattle.gc_catalogue.specs.Calls.{IsFitting}
@@ -7,14 +7,16 @@ use Rattle.gc_catalogue.specs.declared.call.Call.{Call}
 use Rattle.gc_instrument.specs.Execution.{Executed}
 use Rattle.gc_instrument.specs.State.{State, IsFittingState, opening_of}
 
--- what holds of the outcome x of carrying out the call in the state
-pub record ComesOut (s : State) (call : Call) (x : Executed) : Type 0 where
+-- what holds of the outcome `x` of every call in every state `s`
+pub record IsSoundOutcome (s : State) (call : Call) (x : Executed) : Type 0 where
   -- the serial number, the name and the scene stay
   pub same : opening_of x.state ≡ opening_of s
-  -- the state's values still lie in their types
+  -- the state's values are still in range
   pub fits : IsFittingState s → IsFittingState x.state
+  -- the return code has 16 bits
   pub code : x.rc < 65536
-  -- with 0 comes an answer of the call, and with another code nothing
+  -- the code 0 has an answer of the call, and any other code has none
   pub answers : x.rc ≡ 0 → IsAnswerOf call x.answer
   pub refuses : x.rc ≢ 0 → x.answer ≡ Nothing
+  -- the answer's values are in range
   pub answer_fits : IsFittingState s → IsFitting call → IsFittingAnswer x.answer

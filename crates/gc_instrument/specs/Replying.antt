@@ -1,12 +1,13 @@
 -- The reply to a line: what the instrument does with each line that it gets. The communication codes are the manual's, the rest is this project's own.
-use Rattle.std.specs.Prelude.{◌≡◌, ℕ, List, [], ◌++◌, Bool, true, false, Option, Some, None, if◌then◌else◌, ◌==◌, nat_eq, unwrap_or}
+use Rattle.std.specs.Prelude.{◌≡◌, ◌<◌, ℕ, List, [], ◌++◌, Bool, true, false, Option, Some, None, if◌then◌else◌, ◌==◌, nat_eq, unwrap_or}
+use Rattle.gc_lines.specs.Answering.{AppendsAnswer}
 use Rattle.gc_lines.specs.Lines.{IsPlain}
 use Rattle.gc_lines.specs.Replies.{ReplyFields, IsReply, reply_text}
 use Rattle.gc_lines.specs.Requests.{RequestFields, IsRequest}
 use Rattle.gc_catalogue.specs.Answers.{rounded_answer}
-use Rattle.gc_catalogue.specs.Calls.{IsCall, IsRefusal}
+use Rattle.gc_catalogue.specs.Calls.{IsCall, IsFitting, IsRefusal}
 use Rattle.gc_catalogue.specs.Readings.{IsReading}
-use Rattle.gc_catalogue.specs.Texts.{reply_line}
+use Rattle.gc_catalogue.specs.Texts.{reply_line, request_line}
 use Rattle.gc_catalogue.specs.declared.fault.CallFault.{CallFault}
 use Rattle.gc_catalogue.specs.declared.fault.CallFault.TheVariants.{Unknown, Parameters}
 use Rattle.gc_catalogue.specs.declared.answer.Reading.{Reading}
@@ -15,48 +16,47 @@ use Rattle.gc_catalogue.specs.declared.call.Call.{Call}
 use Rattle.gc_instrument.specs.State.{State, KeptReply}
 use Rattle.gc_instrument.specs.Execution.{Executed, exec}
 
--- the id of the reply: the request's, or 0 (the manual's)
+-- the id of the reply to a request: the request's, or 0 if it has none (the manual's)
 abbrev pub reply_id : RequestFields → ℕ
 reply_id q = unwrap_or q.id 0
 
--- the communication code: 3081 for a procedure that isn't in the catalogue, 3080 for parameters that can't be read
+-- the communication code of a request that names no call: 3081 for a procedure that isn't in the catalogue, 3080 for parameters that can't be read
 abbrev pub com_code : CallFault → ℕ
 com_code Unknown = 3081
 com_code (Parameters _) = 3080
 
--- the reply to a request that names no call
+-- the reply line, with this id, to a request that names no call
 abbrev pub refusal_line : ℕ → CallFault → List ℕ
 refusal_line number fault = reply_text (record { rc_com = com_code fault; id = Some number; rc = 0; params = [] })
 
--- the reply to a call that was carried out: doubles have the precision that is in force after it
+-- the reply line, with this id, to a call with this outcome: doubles are rounded to the precision after the call
 abbrev pub executed_line : ℕ → Executed → List ℕ
 executed_line number x = reply_line number x.rc x.answer x.state.precision
 
--- the kept line, where a line is kept and the request carries its id
+-- the stored line, if the request carries the stored id; else none
 abbrev pub kept_line : Option KeptReply → Option ℕ → Option (List ℕ)
 kept_line None id = None
 kept_line (Some k) None = None
 kept_line (Some k) (Some id) = if nat_eq k.id id then Some k.line else None
 
--- what is kept after an execution: the id and the reply line of its request, where that carried an id, and else what was kept
--- before
+-- the stored reply after an execution: the id and the reply line of the request if it carried an id, else the one stored before
 abbrev pub kept_after : Option KeptReply → Option ℕ → List ℕ → Option KeptReply
 kept_after kept None line = kept
 kept_after kept (Some id) line = Some (record { id = id; line = line })
 
--- the state with this reply kept
+-- the state, but with this stored reply, or none
 abbrev pub with_kept : Option KeptReply → State → State
 with_kept kept s = record s { kept = kept }
 
--- the outcome of a call, with this reply kept
+-- the outcome of a call, but with this stored reply in its state
 abbrev pub executed_with : Option KeptReply → Executed → Executed
 executed_with kept x = record x { state = with_kept kept x.state }
 
 -- what the instrument does with a call, and its reply
 pub data AnswersCall (before : State) (id : Option ℕ) (call : Call) (after : State) (reply : List ℕ) : Type 0 where
-  -- the request carries the kept id: the reply is the kept line, and nothing changes
+  -- the request carries the stored id: the reply is the stored line, and nothing changes
   repeats : kept_line before.kept id ≡ Some reply → after ≡ before → AnswersCall before id call after reply
-  -- else the call is carried out, and its reply is kept where the request carries an id
+  -- else the call is carried out, and its reply is stored if the request carries an id
   executes : kept_line before.kept id ≡ None → after ≡ with_kept (kept_after before.kept id reply) (exec before call).state
       → reply ≡ executed_line (unwrap_or id 0) (exec before call) → AnswersCall before id call after reply
 
@@ -74,44 +74,44 @@ pub data IsReplied (before : State) (line : List ℕ) (after : State) (reply : O
   -- the line is a request
   answers : (q : RequestFields) → IsRequest line q → (text : List ℕ) → AnswersRequest before q after text → reply ≡ Some text → IsReplied before line after reply
 
--- what handing over the request line of a call gives: the state after it, the reply, and whether the call was carried out
+-- what an instrument does with the request line of a call: the state after it, the reply, and whether the call was carried out
 pub record Handed (State : Type 0) : Type 0 where
   pub state : State
   pub reply : List ℕ
   pub executed : Bool
 
--- what handing over a call's request line gives: the line that is kept for its id, and nothing is carried out; or, without one, the reply
--- that carrying out the call gives, which is then kept
+-- what an instrument does with a call's request line: it sends the line that is stored for the id again, and carries out nothing; or, if there
+-- is no such line, it carries out the call and stores the reply
 abbrev pub again_or_new : State → ℕ → Call → Option (List ℕ) → Handed State
 again_or_new s number call (Some line) = record { state = s; reply = line; executed = false }
 again_or_new s number call None =
     let line = executed_line number (exec s call) in
     record { state = with_kept (Some (record { id = number; line = line })) (exec s call).state; reply = line; executed = true }
 
--- what handing over the request line with this id and call gives
+-- what an instrument in this state does with the request line of this call with this id
 unfoldable pub handed : State → ℕ → Call → Handed State
 handed s number call = again_or_new s number call (kept_line s.kept (Some number))
 
--- what the caller reads of an execution: the answer with its doubles rounded to the precision, or the refusal
+-- the reading of a reply to a call with this outcome: the answer with its doubles rounded to the precision, or the refusal
 abbrev pub reading_of : Executed → Reading
 reading_of x = if x.rc == 0 then Value (rounded_answer x.state.precision x.answer) else Refused x.rc
 
--- the line is a reply with this id, which says of the call what carrying it out gave
+-- the line is a reply with this id, whose reading for the call is the outcome of carrying it out
 pub record IsAnswered (before : State) (number : ℕ) (call : Call) (line : List ℕ) : Type 0 where
   pub fields : ReplyFields
   pub is_reply : IsReply line fields
   pub same_id : fields.id ≡ Some number
   pub reading : IsReading call fields (reading_of (exec before call))
 
--- handing over the request line of a call gave this state and this reply, which is one line, as `handed` has them; where the line's id
--- isn't the kept one, the reply says of the call what carrying it out gave
+-- the request line of a call led to the state and the reply of `handed`; the reply is one line, and if the request's id isn't the stored one,
+-- it reads as the outcome of carrying out the call
 pub record IsExchanged (before : State) (number : ℕ) (call : Call) (after : State) (reply : Option (List ℕ)) : Type 0 where
   pub state : after ≡ (handed before number call).state
   pub line : reply ≡ Some (handed before number call).reply
   pub plain : IsPlain (handed before number call).reply
   pub answered : kept_line before.kept (Some number) ≡ None → IsAnswered before number call (handed before number call).reply
 
--- the call was carried out, and its reply, with this id, was appended; the reply says of the call what carrying it out gave
+-- the call was carried out, and its reply, with this id, was appended to `old`; the reply reads as the outcome of carrying out the call
 pub record AppendsExecuted (before : State) (number : ℕ) (call : Call) (after : State) (old new : List ℕ) : Type 0 where
   pub text : List ℕ
   pub appended : new ≡ old ++ text
@@ -120,7 +120,7 @@ pub record AppendsExecuted (before : State) (number : ℕ) (call : Call) (after 
   pub line : text ≡ executed_line number (exec before call)
   pub says : IsAnswered before number call text
 
--- the reply to a call was appended; where the call's id isn't the kept one, the reply says of the call what carrying it out gave
+-- the reply to a call was appended to `old`; if the call's id isn't the stored one, the reply reads as the outcome of carrying out the call
 pub record AppendsCall (before : State) (id : Option ℕ) (call : Call) (after : State) (old new : List ℕ) : Type 0 where
   pub text : List ℕ
   pub appended : new ≡ old ++ text
@@ -128,11 +128,17 @@ pub record AppendsCall (before : State) (id : Option ℕ) (call : Call) (after :
   pub answers : AnswersCall before id call after text
   pub says : kept_line before.kept id ≡ None → IsAnswered before (unwrap_or id 0) call text
 
--- the reply to a request was appended; where the request names a call, and its id isn't the kept one, the reply says of the call what
--- carrying it out gave
+-- the reply to a request was appended to `old`; if the request names a call, and its id isn't the stored one, the reply reads as the outcome
+-- of carrying out the call
 pub record AppendsReply (before : State) (q : RequestFields) (after : State) (old new : List ℕ) : Type 0 where
   pub text : List ℕ
   pub appended : new ≡ old ++ text
   pub answers : AnswersRequest before q after text
   pub plain : (call : Call) → IsCall q.rpc q.params call → IsPlain text
   pub says : (call : Call) → IsCall q.rpc q.params call → kept_line before.kept q.id ≡ None → IsAnswered before (reply_id q) call text
+
+-- if the line is the request line of a call with an id, the reply was appended to `old`, and the states before and after are those of
+-- `IsExchanged`; `told` is whether there is a reply
+abbrev pub AppendsExchange : State → (line : List ℕ) → State → (old new : List ℕ) → (told : Bool) → Type 0
+AppendsExchange before line after old new told = (id : ℕ) (call : Call) → id < 8 → IsFitting call
+    → line ≡ request_line (Some id) call → AppendsAnswer (IsExchanged before id call after) old new told

@@ -4,7 +4,7 @@ use Rattle.gc_lines.specs.Lines.{IsPlain}
 use Rattle.gc_instrument.specs.State.{State, KeptReply, IsFittingState}
 use Rattle.gc_instrument.specs.declared.instrument.Instrument.TheInside.{Inside}
 
--- the state, field by field
+-- the state that an instrument's fields make up
 abbrev pub state_of : Inside → State
 state_of i = record {
   serial = i.serial;
@@ -21,11 +21,11 @@ state_of i = record {
   kept = i.kept;
 }
 
--- a kept line has neither CR nor LF
+-- the stored line, if there is one, has neither CR nor LF
 abbrev pub IsPlainKept : Option KeptReply → Type 0
 IsPlainKept None = ⊤
 IsPlainKept (Some k) = IsPlain k.line
 
--- the instrument's values fit, and its kept line has neither CR nor LF
+-- what is known of every instrument: its values are in range (`IsFittingState`), and its stored line has neither CR nor LF
 abbrev pub IsSound : Inside → Type 0
 IsSound i = IsFittingState (state_of i) × IsPlainKept i.kept

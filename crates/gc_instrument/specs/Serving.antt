@@ -14,46 +14,50 @@ use Rattle.gc_instrument.specs.State.{State}
 use Rattle.gc_instrument.specs.Replying.{IsReplied}
 use Rattle.gc_instrument.specs.Hearing.{Hears, replies_text}
 
--- what an instrument does with a frame: the reply to a line is sent with its CR LF, and what is no line is answered by
--- nothing
+-- what an instrument does with a frame, where `text` is what it sends: the reply to a line with its CR LF, and nothing for a frame that is no
+-- line
 abbrev pub AnswersFrame : State → Frame → State → Option (List ℕ) → Type 0
 AnswersFrame before (Line line) after text = (reply : Option (List ℕ)) × IsReplied before line.items after reply × (text ≡ option_map with_end reply)
 AnswersFrame before Cleared after text = (after ≡ before) × (text ≡ None)
 AnswersFrame before Overlong after text = (after ≡ before) × (text ≡ None)
 AnswersFrame before More after text = (after ≡ before) × (text ≡ None)
 
--- the instrument was handed all of these lines, and all their replies went out whole, into what the sink has taken (`old`, then
--- `new`). `before` replies had gone out earlier, and `count` have with these
+-- the instrument answered all lines `heard`, and their replies were written whole: the sink had taken `old` before and `new` after, `before`
+-- replies had been written earlier, and `count` have been with these
 pub record ServesAll (from to : State) (heard : List (List ℕ)) (old new : Option (List ℕ)) (before count : ℕ) : Type 0 where
   pub replies : List (List ℕ)
   pub hears : Hears from heard to replies
   pub counts : count ≡ before + length replies
   pub took : Appends old new (replies_text replies)
 
--- the instrument was handed these lines up to one whose reply was cut: only the first `bytes` bytes of that reply went out, and
--- no later line was handed over. `before` replies had gone out earlier, and `count` have gone out whole with these
+-- the instrument answered the lines `heard` up to one, `line`, of whose reply only the first `bytes` bytes were written; later lines weren't
+-- handed over. `before` replies had been written earlier, and `count` have been written whole with these
 pub record ServesPart (from to : State) (heard : List (List ℕ)) (old new : Option (List ℕ)) (before count bytes : ℕ) : Type 0 where
+  -- the lines whose replies were written whole, the one whose reply was cut, and those after it
   pub earlier : List (List ℕ)
   pub line : List ℕ
   pub later : List (List ℕ)
   pub order : heard ≡ earlier ++ line ∷ later
+  -- the state after the earlier lines, and their replies
   pub state : State
   pub replies : List (List ℕ)
   pub hears : Hears from earlier state replies
+  -- the reply that was cut
   pub reply : List ℕ
   pub draws : IsReplied state line to (Some reply)
   pub counts : count ≡ before + length replies
   pub not_all : bytes < length (with_end reply)
   pub took : Appends old new (replies_text replies ++ take bytes (with_end reply))
 
--- how many of the lines that were read were served, by the result: all, or at a failed write those up to the one whose reply was cut
+-- which of the lines that were read were answered, by the result of serving: all, or after a failed write those up to the one whose reply
+-- was cut
 abbrev pub Serves : State → State → List (List ℕ) → Option (List ℕ) → Option (List ℕ) → Result Served ServeFault → Type 0
 Serves from to heard old new (Ok served) = ServesAll from to heard old new 0 served.replies
 Serves from to heard old new (Err (Read count)) = ServesAll from to heard old new 0 count
 Serves from to heard old new (Err (Write count bytes)) = ServesPart from to heard old new 0 count bytes
 Serves from to heard old new (Err (TooManyReads count)) = ServesAll from to heard old new 0 count
 
--- serving in at most `most` reads took the instrument from `from` to `to` and the ports from `old` to `new`, and gave this result
+-- serving in at most `most` reads led the instrument from the state `from` to `to` and the ports from `old` to `new`, and had this result
 pub record IsServing (from to : State) (old new : Ports) (most : ℕ) (result : Result Served ServeFault) : Type 0 where
   -- the lines of the bytes that the source gave were handed to the instrument, and the sink took their replies as the result says
   pub serves : (given : List ℕ) × Consumes old.remaining new.remaining given

@@ -14,43 +14,50 @@ use Rattle.gc_instrument.specs.declared.face.Face.TheVariants.{Normal}
 use Rattle.gc_instrument.specs.declared.pointing.Pointing.{Pointing}
 use Rattle.gc_instrument.specs.declared.target.Target.{Target}
 
--- what is kept of a request that was executed: its id, and the line of its reply
+-- the stored reply: the id of a request that was executed, and the line of its reply
 pub record KeptReply : Type 0 where
   pub id : ℕ
   pub line : List ℕ
 
--- this id and this line as what is kept: nothing without an id
+-- the stored reply with this id and this line; none without an id
 abbrev pub kept_in : Option ℕ → List ℕ → Option KeptReply
 kept_in None line = None
 kept_in (Some id) line = Some (record { id = id; line = line })
 
--- what an instrument is, what its calls have set, and what it keeps of the last request that carried an id and was executed
+-- the state of an instrument; lengths are in metres, angles in radians
 pub record State : Type 0 where
+  -- what an instrument is made with
   pub serial : ℤ
   pub name : List ℕ
   pub scene : List Target
+  -- to how many places doubles are rounded in replies
   pub precision : ℕ
   pub station : Station
+  -- the reflector's height
   pub height : Decimal
   pub face : Face
   pub pointing : Pointing
+  -- the slope distance that was measured last, unless it was cleared
   pub distance : Option Decimal
   pub date : DateTime
+  -- the type of the prism
   pub prism : ℤ
+  -- the stored reply: that of the last request that carried an id and was executed
   pub kept : Option KeptReply
 
--- a kept line is a reply with the id of its request
+-- the stored line is a reply with the stored id
 pub record IsFittingReply (k : KeptReply) : Type 0 where
   pub fields : ReplyFields
   pub is_reply : IsReply k.line fields
   pub same_id : fields.id ≡ Some k.id
 
--- what is kept, if anything is, is a reply with the id of its request
+-- `IsFittingReply` holds of the stored reply, if there is one
 abbrev pub IsFittingKept : Option KeptReply → Type 0
 IsFittingKept None = ⊤
 IsFittingKept (Some k) = IsFittingReply k
 
--- what is known of every instrument's state: a precision is at most 15, the other values lie in their types, and what is kept is a reply
+-- what is known of every instrument's state: the precision is at most 15, the other values are in the ranges of their types, and the stored
+-- reply is a reply with the stored id
 pub record IsFittingState (s : State) : Type 0 where
   pub precision : s.precision ≤ 15
   pub serial : FitsLong s.serial
@@ -59,11 +66,11 @@ pub record IsFittingState (s : State) : Type 0 where
   pub prism : FitsLong s.prism
   pub kept : IsFittingKept s.kept
 
--- a station of zeros
+-- the station at the start: all values are 0.0
 abbrev pub origin : Station
 origin = record { e0 = zero; n0 = zero; h0 = zero; hi = zero }
 
--- the direction of zeros
+-- the pointing at the start: both angles are 0.0
 abbrev pub ahead : Pointing
 ahead = record { hz = zero; v = zero }
 
@@ -88,15 +95,15 @@ opening number letters targets = record {
   kept = None;
 }
 
--- the opening state of this very instrument, whatever its calls have set
+-- the state at the start of the instrument with this state's serial number, name and scene
 abbrev pub opening_of : State → State
 opening_of s = opening s.serial s.name s.scene
 
--- the state after a restart: the opening state of the instrument, but with the precision as it was. Nothing is kept
+-- the state after a restart: the instrument's state at the start, but with the precision as it was; no reply is stored
 abbrev pub restarted : State → State
 restarted s = record (opening_of s) { precision = s.precision }
 
--- the three targets of the simulator
+-- the three targets of the simulator; `decimal (pos 25125) 3 refl` is 25.125
 abbrev pub simulator_scene : List Target
 simulator_scene =
     record { hz = decimal (pos 5) 1 refl; v = decimal (pos 15) 1 refl; distance = decimal (pos 25125) 3 refl }

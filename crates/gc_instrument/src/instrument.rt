@@ -1,4 +1,4 @@
-//! The simulated instrument: what it is, how it starts, and what it shows.
+//! The simulated instrument: its parts, how it starts, and the values that its owner can read.
 
 ghost use Rattle.std.specs.Prelude.{◌≡◌, ◌<◌, ◌≤◌, ◌↔◌, length, IfOk, IsErr};
 ghost use Rattle.gc_instrument.specs.State.{IsFittingState, opening, restarted, simulator_opening};
@@ -21,7 +21,7 @@ use std::error::Error;
 use std::fmt;
 use std::marker::Model;
 
-/// The precision of a new instrument.
+/// The precision of a new instrument: the number of places to which doubles are rounded in replies.
 const OPENING_PRECISION: u8 = 15;
 
 /// A scene has more than 32 targets.
@@ -79,7 +79,7 @@ impl Instrument {
 
     /// An instrument with this serial number, name and scene, in the opening state: precision 15,
     /// all values 0.0, the normal face, no distance, the date 1996-07-25 16:19:47, and prism type 0
-    /// (this project's own). It keeps no reply. A scene of more than 32 targets is refused.
+    /// (this project's own). It has no stored reply. A scene of more than 32 targets is refused.
     pub fn new(serial: i32, name: Text, scene: &[Target]) -> Result<Instrument, SceneFull>
         ensures opening { IfOk result (λ i. i ≡ opening serial name scene.now) }
         ensures fits { IfOk result (λ i. IsFittingState i) }
@@ -100,8 +100,8 @@ impl Instrument {
         })
     }
 
-    /// Brings back the opening state, but leaves the precision as it is, and forgets the reply that was
-    /// kept. The serial number, the name and the scene stay.
+    /// Brings back the opening state, but leaves the precision as it is. The stored reply is discarded;
+    /// the serial number, the name and the scene stay.
     pub fn restart(&mut self)
         ensures state { self.new ≡ restarted self.old }
         ensures fits { IsFittingState self.new }
@@ -158,8 +158,8 @@ impl Instrument {
         self.settings.pointing
     }
 
-    /// The slope distance that was measured last, in metres, where neither a call nor a restart has
-    /// cleared it since then.
+    /// The slope distance that was measured last, in metres. `None`: none was measured, or a call or a
+    /// restart has cleared it.
     pub fn distance(&self) -> Option<Decimal>
         ensures { result ≡ self.now.distance }
     {
@@ -167,22 +167,21 @@ impl Instrument {
     }
 
     /// The id of the last request that carried one and was executed since the instrument was made or
-    /// restarted. A request with this id is answered by the reply that is kept.
+    /// restarted. A request with this id is answered by the stored reply. `None`: there was no such request.
     pub fn kept_id(&self) -> Option<u8>
         ensures { result ≡ option_map (λ k. k.id) self.now.kept }
     {
         self.kept.id()
     }
 
-    /// The date and time that were set last, and 1996-07-25 16:19:47 where none were since the instrument was made or restarted.
-    /// No clock runs.
+    /// The date and time that were set last since the instrument was made or restarted, or else 1996-07-25 16:19:47. No clock runs.
     pub fn date(&self) -> DateTime
         ensures { result ≡ self.now.date }
     {
         self.settings.date
     }
 
-    /// The prism type that was set last, and 0 where none was since the instrument was made or restarted.
+    /// The prism type that was set last since the instrument was made or restarted, or else 0.
     pub fn prism(&self) -> i32
         ensures { result ≡ self.now.prism }
     {

@@ -1,6 +1,7 @@
 //! A simulated instrument: its state, what each call does to it, and its replies to lines.
 #![tactic(auto)]
 
+mod codes;
 mod face;
 mod instrument;
 pub mod laws;
@@ -10,6 +11,7 @@ mod serving;
 mod simulator;
 mod target;
 
+pub use codes::{INVALID_PARAMETER, NO_DISTANCE, NO_TARGET, UNKNOWN_PROCEDURE, WRONG_PARAMETERS};
 pub use face::Face;
 pub use gc_lines::{ServeFault, Served};
 pub use instrument::{Instrument, SceneFull};

@@ -1,4 +1,4 @@
-//! Which target of a scene the instrument meets: always the first that fits.
+//! Which target of a scene the instrument measures or finds: the first in the scene's order.
 
 ghost use Rattle.std.specs.Prelude.{◌≡◌, find};
 ghost use Rattle.gc_instrument.specs.Targets.{is_at, is_within_areas, first_at, first_within};
@@ -14,7 +14,7 @@ fn is_at(pointing: &Pointing, target: &Target) -> bool
     target.hz == pointing.hz && target.v == pointing.v
 }
 
-// Whether the target lies within the areas round where the telescope points.
+// Whether both angles of the target differ from the telescope's by at most these areas, in radians.
 fn is_within_areas(
     pointing: &Pointing,
     area_hz: &Decimal,
@@ -26,14 +26,16 @@ fn is_within_areas(
     target.hz.within(&pointing.hz, area_hz) && target.v.within(&pointing.v, area_v)
 }
 
-/// The first target of a scene that lies exactly where the telescope points, if one does.
+/// The first target of a scene that lies exactly where the telescope points. `None`: no target does.
+#[inline(always)]
 pub fn first_at(pointing: &Pointing, scene: &[Target]) -> Option<Target>
     ensures { result ≡ first_at pointing.now scene.now }
 {
     scene.iter().copied().find(|target| is_at(pointing, target))
 }
 
-/// The first target of a scene within the areas round where the telescope points, if there is one.
+/// The first target of a scene whose angles differ from the telescope's by at most these areas, in radians. `None`: there is none.
+#[inline(always)]
 pub fn first_within(
     pointing: &Pointing,
     area_hz: &Decimal,

@@ -2,8 +2,8 @@
 
 use gc_values::Decimal;
 
-/// The horizontal direction and the vertical angle of the telescope, in radians. They aren't brought
-/// into a circle.
+/// The horizontal direction and the vertical angle of the telescope, in radians. They aren't
+/// reduced to one turn.
 #[derive(Clone, Copy, Debug, PartialEq, Eq)]
 pub struct Pointing {
     pub hz: Decimal,

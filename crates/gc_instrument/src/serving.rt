@@ -6,8 +6,8 @@ ghost use Rattle.gc_instrument.specs.Serving.{IsServing};
 use crate::instrument::Instrument;
 use gc_lines::{Answers, Lent, Outgoing, ServeFault, Served, Sink, Source, answer_frames, append};
 
-// An instrument answers a line by its reply and CR LF, where the line is a request, and every other frame by nothing. What is
-// returned is whether there is a reply.
+// An instrument answers a line that is a request by its reply and CR LF, and every other frame by nothing. `answer` returns whether
+// there is a reply.
 impl Answers for Instrument {
     ghost use Rattle.gc_instrument.specs.Serving.{AnswersFrame};
 
@@ -30,8 +30,8 @@ impl Answers for Instrument {
 /// Serves the requests of a source with an instrument until its end, in at most `max_reads` reads
 /// of at most 256 bytes, and writes the replies into a sink, each with its CR LF.
 ///
-/// Bytes at the end of the input without a line feed after them are dropped. At the return the instrument has got all lines
-/// that were read, or, after a failed write, those up to the line whose reply was being written. Serving takes no memory.
+/// Bytes at the end of the input without a line feed after them are discarded. At the return the instrument has got all lines
+/// that were read, or, after a failed write, those up to the line whose reply was being written. Serving allocates no memory.
 ///
 /// It returns [`Served`] exactly where the last read was the end. Over ports that hadn't failed
 /// before, it fails with `Read` (42) exactly where the source failed, with `Write` (43) exactly

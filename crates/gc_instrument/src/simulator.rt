@@ -1,4 +1,4 @@
-//! The simulator's own name and scene.
+//! The serial number, the name and the scene of the simulator.
 
 ghost use Rattle.std.specs.Prelude.{◌≡◌, codes};
 ghost use Rattle.gc_instrument.specs.State.{simulator_scene};
@@ -9,18 +9,18 @@ use gc_values::{Decimal, Text};
 /// The simulator's serial number.
 pub const SERIAL: i32 = 123456;
 
-/// The simulator's name.
+/// The simulator's name, `GEOCOM SIM`.
 pub fn name() -> Text
     ensures { result ≡ codes "GEOCOM SIM" }
 {
-    // No byte of this name is refused, and they are few.
+    // Every byte of this name is allowed, and they are few enough.
     match Text::new(b"GEOCOM SIM") {
         Ok(name) => name,
         Err(_) => unreachable!(),
     }
 }
 
-/// The three targets of the simulator.
+/// The three targets of the simulator. `Decimal::literal(25_125, 3)` is 25.125.
 pub fn scene() -> [Target; 3]
     ensures { result ≡ simulator_scene }
 {

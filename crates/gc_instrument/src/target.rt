@@ -1,4 +1,4 @@
-//! The targets of a scene.
+//! A target of a scene.
 
 ghost use Rattle.std.specs.Prelude.{◌≡◌};
 
@@ -18,7 +18,7 @@ impl Default for Target {
 
     ghost is_default = { λ t. t ≡ nowhere };
 
-    /// A target of zeros, which is in the unused places of a scene.
+    /// A target of zeros: the value in the unused places of a scene.
     fn default() -> Target {
         Target {
             hz: Decimal::zero(),

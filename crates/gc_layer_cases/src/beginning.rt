@@ -1,25 +1,26 @@
-//! Rows of a beginning, one null procedure after the other. A row is `do WORD WHAT -> CAME`. What comes of it is written to
-//! `came`, a text that is then compared with CAME. `what` is WHAT as it is, and `bytes` are the bytes for which it stands.
+//! Rows of a synchronization by null procedures, one after the other, as `Beginning` of gc_client plays it. A row is `do
+//! WORD WHAT -> CAME`. What comes of it is written to `came`, a text that is then compared with CAME. `what` is WHAT as it
+//! is, and `bytes` are the bytes for which it stands.
 
 use gc_cases::{Rows, Told};
 use gc_client::Beginning;
 use std::alloc::Global;
 
-/// A beginning in progress.
+/// A synchronization in progress.
 #[derive(Drop)]
 pub struct Beginnings {
     beginning: Beginning,
 }
 
 impl Beginnings {
-    /// A beginning of which no null procedure is answered.
+    /// A synchronization of which no null procedure is answered.
     pub fn new() -> Beginnings {
         Beginnings {
             beginning: Beginning::new(),
         }
     }
 
-    // Reports the line of the null procedure that is asked for.
+    // Reports the line of the first null procedure that isn't answered, or `nothing` if all are.
     fn ask(&self, came: &mut Told) {
         match self.beginning.ask() {
             Some(line) => came.bytes(line.as_slice()),
@@ -33,7 +34,7 @@ impl Beginnings {
         came.display(&self.beginning.has_begun());
     }
 
-    // Goes on in a new beginning that has as many null procedures answered.
+    // Goes on in a new synchronization that has as many null procedures answered.
     fn resume(&mut self) {
         self.beginning = Beginning::resume(self.beginning.answered());
     }

@@ -65,7 +65,7 @@ fn reading_of(words: &str) -> Option<Reading> {
     }
 }
 
-// Reports the reading of two words, as `reading_of` has it.
+// Reports the reading of a reply, the second word, for the call of a request, the first one.
 fn tell_reading(words: &str, came: &mut Told) {
     match reading_of(words) {
         Some(reading) => came.debug(&reading),

@@ -13,7 +13,7 @@ use gc_client::{Client, Hearing, Outcome, Ring, Settlement, Slots, WINDOW, Windo
 use gc_lines::Line;
 use std::alloc::Global;
 
-// A client, the call that it sends, and what is used again from row to row.
+// What plays these rows: a client; the call that it sends; and the line and the list of settlements into which all rows write.
 #[derive(Drop)]
 struct Played<W: Window<Asked = Call>> {
     client: Client<W>,
@@ -42,7 +42,7 @@ fn play_over<W: Window<Asked = Call>>(alloc: Global, case: &Case<'_>, window: W,
     play_rows(alloc, case, &mut played, wrong);
 }
 
-// How many requests may wait: two where the case says so, else seven.
+// How many requests may wait for their replies: two if the case says so, otherwise seven.
 fn width_of(case: &Case<'_>) -> u8
     ensures least { 1 ≤ result }
     ensures most { result ≤ WINDOW }
@@ -73,7 +73,7 @@ impl<W: Window<Asked = Call>> Played<W> {
         }
     }
 
-    // Reads the call that is sent from now on.
+    // Takes the call of this request's line as the one that is sent from now on. Reports only that the line has no call.
     fn take_call(&mut self, line: &[u8], came: &mut Told) {
         match call_of(line) {
             Some(call) => self.call = call,
@@ -81,7 +81,8 @@ impl<W: Window<Asked = Call>> Played<W> {
         }
     }
 
-    // Sends to the target of the first word, to be answered before the moment of the second one, and reports the line.
+    // Sends the call to the target of the first word, to be answered before the moment of the second one. Reports the line, or that it was
+    // refused. A word that is no number stands for 0.
     fn send(&mut self, words: &str, came: &mut Told) {
         let (target, deadline) = cut_word(words);
         let target = u32::try_from(number_or(target, 0)).unwrap_or(0);
@@ -111,7 +112,7 @@ impl<W: Window<Asked = Call>> Played<W> {
     }
 }
 
-// Reports settlements: each with its target, and an answer with its reading and its line.
+// Reports settlements: each with its target, and how its request ended.
 fn tell_all(settled: &[Settlement<Call>], came: &mut Told) {
     for settlement in settled {
         came.display(&settlement.target);
@@ -119,7 +120,7 @@ fn tell_all(settled: &[Settlement<Call>], came: &mut Told) {
     }
 }
 
-// Reports how a request ended.
+// Reports how a request ended: late, lost, or answered, with the reading and the line of the answer.
 fn tell_outcome(outcome: &Outcome, came: &mut Told) {
     match outcome {
         Outcome::Answered(reading, line) => tell_answer(reading, line, came),

@@ -1,4 +1,4 @@
-//! An instrument over any reader and writer, as `docs/SIMULATOR.md` shows it.
+//! An instrument over any reader and writer: the example that `docs/SIMULATOR.md` names, and a row that plays it.
 
 use gc_cases::Told;
 use gc_instrument::{Instrument, Served, Target, serve};
@@ -7,8 +7,8 @@ use gc_values::{Decimal, Text};
 use std::alloc::Global;
 use std::io::{Read, Write};
 
-// Serves an instrument with a scene of its own over any reader and writer. `None`: it couldn't be made, or serving ended
-// with a fault.
+// Serves an instrument with one target over any reader and writer, until the end of the input. Returns how many replies were written;
+// `None`: the instrument couldn't be made, or serving ended with a fault.
 fn serve_bench<R: Read + Drop, W: Write + Drop>(input: R, output: W) -> Option<Served> {
     let name = Text::new(b"BENCH").ok()?;
     let prism = Target {
@@ -22,7 +22,7 @@ fn serve_bench<R: Read + Drop, W: Write + Drop>(input: R, output: W) -> Option<S
     serve(&mut bench, &mut source, &mut sink, u32::MAX).ok()
 }
 
-/// Serves these bytes, and reports how many replies were written, and the output.
+/// Serves the requests in `input`, and reports what `serve_bench` returned, and the output.
 pub fn tell_embedded(alloc: Global, input: &[u8], came: &mut Told) {
     let mut output = Vec::new(alloc);
     came.debug(&serve_bench(input, &mut output));

@@ -11,9 +11,10 @@ use std::alloc::{AllocError, Global};
 // The head: a new file gets it first, and an old one begins with it.
 const HEAD: &[u8] = b"run,sent\n";
 
-/// The file, once it is open.
+/// What plays these rows: the file that was opened last.
 #[derive(Drop)]
 pub struct Files {
+    // `None`: no file is open.
     rows: Option<RowsFile<MemoryFile>>,
 }
 
@@ -43,7 +44,7 @@ impl Files {
         }
     }
 
-    // Opens this file, and reports what opening it gave.
+    // Opens this file, and reports what opening it gave. If that is refused, the file that was open before stays.
     fn open_file(&mut self, file: MemoryFile, is_synced: bool, came: &mut Told) {
         match open_rows(file, HEAD, HEAD, is_synced) {
             Ok(rows) => {
@@ -72,7 +73,7 @@ impl Files {
         self.open_file(fresh, true, came);
     }
 
-    // Plays a row on the file that is open.
+    // Plays a row on the file that is open, or reports that none is.
     fn use_open(&mut self, word: &str, bytes: &[u8], came: &mut Told) {
         match &mut self.rows {
             Some(rows) => use_rows(rows, word, bytes, came),
@@ -95,7 +96,8 @@ impl Rows for Files {
     }
 }
 
-// A file that has room for as many bytes as the first word says, and holds the bytes of the rest. `Err`: memory ran out.
+// A file that has room for as many bytes as the first word says, up to 1000 (0 for more, or for no number), and holds the bytes of the
+// rest. `Err`: memory ran out.
 fn file_of(alloc: Global, words: &str) -> Result<MemoryFile, AllocError> {
     let (room, held) = cut_word(words);
     let held = bytes_of(alloc, held)?;
@@ -103,7 +105,7 @@ fn file_of(alloc: Global, words: &str) -> Result<MemoryFile, AllocError> {
     MemoryFile::new(alloc, held.as_slice(), room).ok_or(AllocError)
 }
 
-// Reports how many lines were copied.
+// Reports how many lines were copied, or that copying failed.
 fn tell_copy(copied: Result<u64, PortFailed>, came: &mut Told) {
     match copied {
         Ok(lines) => came.counted(&lines, " lines copied, "),
@@ -127,7 +129,7 @@ fn tell_refused(why: Refused, file: &MemoryFile, came: &mut Told) {
 // Syncs what was written, writes, or reports what the file holds, as the word says.
 fn use_rows(rows: &mut RowsFile<MemoryFile>, word: &str, bytes: &[u8], came: &mut Told) {
     match word {
-        "keep" => keep(rows, came),
+        "keep" => sync_rows(rows, came),
         "write" => write_to(rows, bytes, came),
         "holds" => came.bytes(rows.file().bytes()),
         _ => came.text("an unknown word"),
@@ -135,11 +137,11 @@ fn use_rows(rows: &mut RowsFile<MemoryFile>, word: &str, bytes: &[u8], came: &mu
 }
 
 // Syncs what was written, and reports whether that succeeded.
-fn keep(rows: &mut RowsFile<MemoryFile>, came: &mut Told) {
+fn sync_rows(rows: &mut RowsFile<MemoryFile>, came: &mut Told) {
     came.either(rows.sync().is_ok(), "kept", "failed");
 }
 
-// Writes these bytes, if there are any, and reports how many were taken.
+// Writes these bytes, and reports how many were taken, that writing failed, or that there were no bytes to write.
 fn write_to(rows: &mut RowsFile<MemoryFile>, bytes: &[u8], came: &mut Told) {
     if bytes.is_empty() {
         return came.text("nothing to write");

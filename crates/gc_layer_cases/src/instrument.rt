@@ -27,7 +27,8 @@ impl Instruments {
         }
     }
 
-    // Adds a target to the scene, by its direction, its vertical angle and its distance.
+    // Adds a target to the scene, by the words for its direction, its vertical angle and its distance. Reports only if it can't: a word is
+    // no decimal, or memory ran out.
     fn add_target(&mut self, words: &str, came: &mut Told) {
         match target_of(words) {
             Some(target) if self.scene.push(target).is_ok() => {}
@@ -35,7 +36,8 @@ impl Instruments {
         }
     }
 
-    // Makes an instrument with the scene, by its serial number and its name, and reports that it was made, or the fault.
+    // Makes an instrument with the scene, by the words for its serial number and its name, and reports that it was made, or the fault. If
+    // it can't be made, the one before stays.
     fn make(&mut self, words: &str, came: &mut Told) {
         let (serial, name) = cut_word(words);
         let (Ok(serial), Ok(name)) = (read_long(serial.as_bytes()), Text::new(name.as_bytes()))
@@ -51,7 +53,7 @@ impl Instruments {
         }
     }
 
-    // Executes the call of a request's line, and reports the return code and the answer.
+    // Executes the call of a request's line, and reports the return code and the answer, or that the line has no call.
     fn execute(&mut self, line: &[u8], came: &mut Told) {
         let Some(call) = call_of(line) else {
             return came.text("no call");
@@ -61,7 +63,7 @@ impl Instruments {
         came.debug(&answer);
     }
 
-    // Plays a row of one word.
+    // Plays a row of one word: restarts the instrument, or reports a part of its state.
     fn play_word(&mut self, word: &str, came: &mut Told) {
         match word {
             "restart" => self.instrument.restart(),
@@ -117,7 +119,7 @@ fn target_of(words: &str) -> Option<Target> {
     }
 }
 
-/// Hands in a line, and reports the reply and the id that is kept then.
+/// Hands in a line, and reports the reply and the id whose reply the instrument has stored then.
 pub fn hand_in(instrument: &mut Instrument, bytes: &[u8], came: &mut Told) {
     tell_reply(instrument, bytes, came);
     match instrument.kept_id() {

@@ -31,15 +31,15 @@ impl Rows for Lines {
         match word {
             "request" => request_again(bytes, came),
             "reply" => reply_again(bytes, came),
-            "header" => header(what, came),
-            "piece" => piece(&mut self.assembler, bytes, came),
+            "header" => tell_header(what, came),
+            "piece" => hand_in_piece(&mut self.assembler, bytes, came),
             "start" => came.display(&self.assembler.at_start()),
             _ => came.text("an unknown word"),
         }
     }
 }
 
-// Reports the line that was written, or the fault.
+// Reports the line that was written, or the fault of writing it.
 fn tell_written(written: Result<Line, LineFault>, came: &mut Told) {
     match written {
         Ok(line) => came.bytes(line.as_slice()),
@@ -47,7 +47,7 @@ fn tell_written(written: Result<Line, LineFault>, came: &mut Told) {
     }
 }
 
-// Reports a request that was read, written again; or the fault.
+// Reads a request, and reports its line, written again; the fault; or that its parameters aren't plain.
 fn request_again(line: &[u8], came: &mut Told) {
     match read_request(line) {
         Ok(request) if is_plain(request.params) => tell_written(write_request(&request), came),
@@ -56,7 +56,7 @@ fn request_again(line: &[u8], came: &mut Told) {
     }
 }
 
-// Reports a reply that was read, written again; or the fault.
+// Reads a reply, and reports its line, written again; the fault; or that its parameters aren't plain.
 fn reply_again(line: &[u8], came: &mut Told) {
     match read_reply(line) {
         Ok(reply) if is_plain(reply.params) => tell_written(write_reply(&reply), came),
@@ -70,15 +70,16 @@ fn number(word: &str) -> Option<u16> {
     u16::try_from(number_or(word, u64::MAX)).ok()
 }
 
-// Reports the header of a request, by its number, or of a reply, by its communication code, its id and its return code.
-fn header(words: &str, came: &mut Told) {
+// Reports the header of a request, if there is one word, its procedure number; or of a reply, if there are three, its communication code,
+// its id and its return code.
+fn tell_header(words: &str, came: &mut Told) {
     match header_of(words) {
         Some(line) => came.bytes(line.as_slice()),
         None => came.text("no header"),
     }
 }
 
-// The header that `header` reports. `None`: a word is no number of 16 bits, or the id is above 7.
+// The header that `tell_header` reports. `None`: a word is no number of 16 bits, or the id is above 7.
 fn header_of(words: &str) -> Option<Line> {
     let (first, rest) = cut_word(words);
     let first = number(first)?;
@@ -96,8 +97,8 @@ fn header_of(words: &str) -> Option<Line> {
     Some(line)
 }
 
-// Reports how many bytes of a piece the assembler used, and the frame that they gave.
-fn piece(assembler: &mut Assembler, piece: &[u8], came: &mut Told) {
+// Hands a piece to the assembler, and reports how many of its bytes the assembler used, and the frame that they gave.
+fn hand_in_piece(assembler: &mut Assembler, piece: &[u8], came: &mut Told) {
     let mut cut = Line::new();
     let (used, lent) = assembler.next(piece, &mut cut);
     came.counted(&used, " ");

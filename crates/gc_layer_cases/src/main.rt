@@ -35,14 +35,15 @@ struct Layer {
 }
 
 impl Player for Layer {
-    // Plays a case of the layer. It never fails.
+    // Plays a case of the layer. There is never an error.
     fn play(&self, rt: &HostRuntime, case: &Case<'_>, wrong: &mut Told) -> io::Result<()> {
         play_case(self.name, rt.alloc(), case, wrong);
         Ok(())
     }
 }
 
-// Plays a case of this layer. What went wrong is appended to `wrong`.
+// Plays a case of this layer; any name without a player of its own stands for `files`. What came otherwise than the case expects is
+// appended to `wrong`.
 fn play_case(layer: &str, alloc: Global, case: &Case<'_>, wrong: &mut Told) {
     match layer {
         "lines" => play_rows(alloc, case, &mut Lines::new(), wrong),
@@ -57,7 +58,7 @@ fn play_case(layer: &str, alloc: Global, case: &Case<'_>, wrong: &mut Told) {
     }
 }
 
-// Plays all cases. The exit code is 1 where one went wrong.
+// Plays the cases of all layers. The status is 1 if a case came to something else than it expects.
 fn main(rt: HostRuntime) -> io::Result<ExitCode> {
     let mut are_right = true;
     for name in [

@@ -117,7 +117,8 @@ impl Stations {
         }
     }
 
-    // Asks for a measurement of a target, to be answered before the deadline after it.
+    // Asks for a measurement of the target that the first word says, to be answered before the moment of the second one. A word that is no
+    // number stands for 0. Reports only if nothing was sent (seven wait), or memory ran out.
     fn ask(&mut self, words: &str, came: &mut Told) {
         let (target, deadline) = cut_word(words);
         let target = u32::try_from(number_or(target, 0)).unwrap_or(0);
@@ -136,13 +137,14 @@ impl Stations {
         }
     }
 
-    // Hands the station the bytes that follow a moment, as those that its read gave at that moment.
+    // Hands the station what a read gave at the moment `now`: what is in `bytes` after that word. `Err`: memory ran out.
     fn hear(&mut self, now: &str, bytes: &[u8], told: &mut String) -> Result<(), AllocError> {
         let read = bytes_behind(now, bytes);
         self.station.hear(read, number_or(now, 0), told)
     }
 
-    // Plays a row at which the station reports how requests ended: `hear` with a moment and bytes, or `begin_anew`.
+    // Plays a row at which the station reports how requests ended, into `told`: `hear` with a moment and bytes, or `begin_anew`. `Err`:
+    // memory ran out.
     fn tell(
         &mut self,
         word: &str,

@@ -62,8 +62,8 @@ impl Rows for Ports {
     }
 }
 
-// Reads the bytes of the third word through a port, read ahead or not. The first word says how many the reader gives a read at
-// most, and the second at which read it fails, counted from 0.
+// Reads the bytes of the third word through a port, which reads ahead if `is_ahead`, and reports what `read_all` does. The first word says
+// how many bytes the reader gives a read at most, and the second at which read it fails, counted from 0.
 fn read_through(is_ahead: bool, words: &str, came: &mut Told) {
     let (most, rest) = cut_word(words);
     let (fails_at, left) = cut_word(rest);
@@ -107,14 +107,15 @@ fn read_one<S: Source>(source: &mut S, came: &mut Told) {
     }
 }
 
-// Writes three bytes four times, into a writer with room for as many as the word says, up to 16.
+// Writes three bytes four times, into a writer with room for as many bytes as `room` says, at most 16. Reports what `write_all` does.
 fn write_through(room: &str, came: &mut Told) {
     let mut bytes = [0u8; 16];
     let room = usize::try_from(number_or(room, 0)).unwrap_or(0).min(16);
     write_all(&mut ToWriter::new(&mut bytes[..room]), came);
 }
 
-// Writes three bytes four times, by the trait's bound alone, and reports how many were taken.
+// Writes three bytes four times, by the trait's bound alone, and reports of each time how many were taken, or `failed`, and, by `!`,
+// whether the sink has failed.
 fn write_all<K: Sink>(sink: &mut K, came: &mut Told) {
     for _ in 0..4 {
         match sink.write(b"abc") {
@@ -125,14 +126,14 @@ fn write_all<K: Sink>(sink: &mut K, came: &mut Told) {
     }
 }
 
-// Writes a line three times into 16 bytes, and reports what they then hold.
+// Writes a line three times into `room`, reports how that went (`write_thrice`), and what `room` holds then.
 fn write_lines(room: &mut [u8; 16], came: &mut Told) {
     let line = begin_request(0, Some(1));
     write_thrice(&mut ToWriter::new(&mut room[..]), &line, came);
     came.bytes(room.as_slice());
 }
 
-// Writes a line three times, and reports of each time whether it went out whole.
+// Writes a line three times, and reports of each time that it went out whole, or how many bytes of it did.
 fn write_thrice<K: Sink>(sink: &mut K, line: &Line, came: &mut Told) {
     for _ in 0..3 {
         match write_line(sink, line) {

@@ -1,4 +1,4 @@
-//! A request handed in twice: the second one draws the kept reply, and nothing is executed.
+//! A request handed in twice: the second time the instrument sends the reply that it has stored, and executes nothing.
 
 use crate::calls::call_of;
 use crate::instrument::hand_in;
@@ -25,15 +25,15 @@ fn set_all(instrument: &mut Instrument) {
     }
 }
 
-// Carries out the call of a request's line.
+// Carries out the call of a request's line, if it has one.
 fn execute(instrument: &mut Instrument, line: &[u8]) {
     if let Some(call) = call_of(line) {
         let _ = instrument.execute(&call);
     }
 }
 
-/// Hands a request to a new simulator, sets all, and hands the same request in again. Reports both replies with the ids that
-/// are kept, and the distance, which has to be as it was set.
+/// Hands a request to a new simulator, carries out the calls of `ALL_SET`, and hands the same request in again. Reports both
+/// replies, each with the id whose reply is stored then, and the distance, which has to be that of the second target.
 pub fn ask_twice(request: &[u8], came: &mut Told) {
     let mut instrument = Instrument::simulator();
     hand_in(&mut instrument, request, came);

@@ -17,7 +17,7 @@ use std::fmt;
 pub struct Values;
 
 impl Rows for Values {
-    // Plays a row: the word says what is read or done, and the rest of the row is an item, or numbers.
+    // Plays a row: the word says what is read or done, and the rest of the row is an item (`item`), or numbers (`what`).
     fn play(&mut self, _alloc: Global, word: &str, what: &str, item: &[u8], came: &mut Told) {
         match word {
             "split" => split_list(item, came),
@@ -26,7 +26,7 @@ impl Rows for Values {
             "compare" => compare(what, came),
             "round" => round(what, came),
             "within" => within(what, came),
-            "whole" => whole(what, came),
+            "whole" => read_whole_word(what, came),
             "long" => tell_read(read_long(item), came),
             _ => play_item(word, item, came),
         }
@@ -40,7 +40,7 @@ fn play_item(word: &str, item: &[u8], came: &mut Told) {
         "bool" => tell_read(read_bool(item), came),
         "text" => tell_text(read_text(item), came),
         "string" => tell_text(Text::new(item), came),
-        _ => typed(word, item, came),
+        _ => read_as_named(word, item, came),
     }
 }
 
@@ -82,7 +82,8 @@ fn two_decimals(words: &str) -> Option<(Decimal, Decimal)> {
     }
 }
 
-// Makes a decimal of digits and a scale, and reports both as the decimal keeps them, and its text.
+// Makes a decimal of two words, its digits and its scale, and reports both as the decimal has them, and its text; or the fault. Digits that
+// are no number stand for 0.
 fn new_decimal(words: &str, came: &mut Told) {
     let (digits, scale) = cut_word(words);
     let digits = i128::from(read_long(digits.as_bytes()).unwrap_or(0));
@@ -104,7 +105,7 @@ fn small_number(word: &str) -> u8 {
     u8::try_from(number_or(word, 255)).unwrap_or(255)
 }
 
-// Reports how the decimals of two words compare.
+// Reports how the decimals of two words compare, or that a word is no decimal.
 fn compare(words: &str, came: &mut Told) {
     match two_decimals(words) {
         Some((first, second)) => came.debug(&first.cmp(&second)),
@@ -128,7 +129,7 @@ fn round_to(decimal: &Decimal, places: u8, came: &mut Told)
     came.bytes(decimal.round(places).write().as_slice());
 }
 
-// Reports whether the decimal of the first word differs from that of the second by at most that of the third.
+// Reports whether the decimal of the first word differs from that of the second by at most that of the third; or that a word is no decimal.
 fn within(words: &str, came: &mut Told) {
     let (value, rest) = cut_word(words);
     match (Decimal::read(value.as_bytes()), two_decimals(rest)) {
@@ -138,7 +139,7 @@ fn within(words: &str, came: &mut Told) {
 }
 
 // Reads the second word as a whole number of at most the first word, and reports the number or the fault.
-fn whole(words: &str, came: &mut Told) {
+fn read_whole_word(words: &str, came: &mut Told) {
     let (most, item) = cut_word(words);
     tell_read(read_whole(item.as_bytes(), number_or(most, 0)), came);
 }
@@ -146,19 +147,19 @@ fn whole(words: &str, came: &mut Told) {
 // Reports the string that was read, or the fault.
 fn tell_text(read: Result<Text, ValueFault>, came: &mut Told) {
     match read {
-        Ok(text) => tell_bytes(&text, came),
+        Ok(text) => tell_string_bytes(&text, came),
         Err(fault) => came.debug(&fault),
     }
 }
 
 // Reports how many bytes a string has, these bytes, and whether it equals the empty one.
-fn tell_bytes(text: &Text, came: &mut Told) {
+fn tell_string_bytes(text: &Text, came: &mut Told) {
     came.counted(&text.as_bytes().len(), " bytes ");
     came.bytes(text.as_bytes());
     came.either(*text == Text::empty(), "as the empty one", "");
 }
 
-// The kind of this name.
+// The kind of this name. `None`: no kind has it.
 fn kind_of(word: &str) -> Option<Kind> {
     match word {
         "Double" => Some(Kind::Double),
@@ -171,8 +172,9 @@ fn kind_of(word: &str) -> Option<Kind> {
     }
 }
 
-// Reads an item as a value of the kind that the word names, and reports the text that is written of the value.
-fn typed(word: &str, item: &[u8], came: &mut Told) {
+// Reads an item as a value of the kind that the word names, and reports the text that is written of the value, or the fault; or that no
+// kind has this name.
+fn read_as_named(word: &str, item: &[u8], came: &mut Told) {
     match kind_of(word) {
         Some(kind) => read_as(kind, item, came),
         None => came.text("an unknown word"),

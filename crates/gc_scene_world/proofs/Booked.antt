@@ -7,7 +7,7 @@ use Rattle.gc_world.specs.World.{Numbered}
 use Rattle.gc_world.proofs.Booked.{Has, has_at, IsMade, AllMade}
 use Rattle.gc_world.proofs.Options.{some_is, none_is_not}
 
--- settlement m of these, of which the first is number n, was made for its request where it is answered
+-- where `AllMade` holds of settlements, of which the first is number n, the one at place m among them, number n + m, was made for its request
 made_at : (made : List (Numbered (List ℕ))) (n : ℕ) (settled : List (Settlement Call)) (m : ℕ) (s : Settlement Call) → AllMade made n settled → slice_get settled m ≡ Some s
     → IsMade made (n + m) s.outcome
 made_at made n [] m s h e = absurd (none_is_not s e)

@@ -54,30 +54,32 @@ exchanged s line after old new false id call small fits is empty h =
 
 -- The id of a reply.
 
--- a client reads the id of its request in a line that is kept
+-- the stored line, if there is one, reads as a reply with the stored id
 abbrev pub IsHeard : Option KeptReply → Type 0
 IsHeard None = Unit {0}
 IsHeard (Some k) = heard k.line ≡ Some k.id
 
--- a state in which what is kept reads as a reply with its id
+-- in this state the stored line, if there is one, reads as a reply with the stored id
 abbrev pub KeepsAReply : SceneState → Type 0
 KeepsAReply s = IsHeard s.base.kept
 
--- where the kept line for an id is this one, this line is kept, with that id
+-- where the stored line for an id is this one, this line is stored, with that id
 kept_own : (k : Option KeptReply) (id : ℕ) (line : List ℕ) → kept_line k (Some id) ≡ Some line → k ≡ Some (record { id = id; line = line })
 kept_own None id line e = absurd (none_is_not line e)
 kept_own (Some k) id line e = chosen (eqb k.id id) refl e where
+  -- by whether the stored id is this one
   chosen : (b : Bool) → eqb k.id id ≡ b → cond b (Some k.line) None ≡ Some line → Some k ≡ Some (record { id = id; line = line })
   chosen true t e = ap (λ i. Some (record { id = i; line = k.line })) (eqb-true k.id id t) ∙ ap (λ l. Some (record { id = id; line = l })) (some_is k.line line e)
   chosen false t e = absurd (none_is_not line e)
 
--- where a line is sent again for an id, it is the line that is kept, with that id
+-- where a line is sent again for an id, if the instrument repeats (true), that line is stored, with that id
 again_kept : (b : Bool) (k : Option KeptReply) (id : ℕ) (line : List ℕ) → cond b (kept_line k (Some id)) None ≡ Some line → k ≡ Some (record { id = id; line = line })
 again_kept true k id line e = kept_own k id line e
 again_kept false k id line e = absurd (none_is_not line e)
 
--- where what is kept reads as a reply with its id, the request's reply has the request's id, and what is kept after it reads so, too
-record Does (s : SceneState) (id : ℕ) (h : Handed SceneState) : Type 0 where
+-- where the stored line reads as a reply with the stored id, the request's reply has the request's id, and the line that is stored after the
+-- request reads as a reply with the id that is stored then
+record KeepsIds (s : SceneState) (id : ℕ) (h : Handed SceneState) : Type 0 where
   reads : IsHeard s.base.kept → heard h.reply ≡ Some id
   good : IsHeard s.base.kept → IsHeard h.state.base.kept
 
@@ -85,16 +87,16 @@ record Does (s : SceneState) (id : ℕ) (h : Handed SceneState) : Type 0 where
 line_heard : (id : ℕ) (p : Played) → id < 8 → p.rc < 65536 → heard (line_of id p) ≡ Some id
 line_heard id p small code = ap id_in (reply_back (record { rc_com = 0; id = Some id; rc = p.rc; params = p.params }) (record { rc_com = lit< tt; id = small; rc = code }))
 
--- what is kept after a request reads as a reply with its id
+-- where a line reads as a reply with this id, so does the line that is stored once the request was answered with it, if one is stored
 kept_heard : (b : Bool) (id : ℕ) (line : List ℕ) (k : Option KeptReply) → heard line ≡ Some id → IsHeard (cond b (kept_after k (Some id) line) None)
 kept_heard true id line k h = h
 kept_heard false id line k h = tt
 
--- `Does` holds of a request that is answered by the line sent again (`o`), if there is one, or else by what was played
-played_does : (s : SceneState) (id : ℕ) (p : Played) (o : Option (List ℕ)) → again_for s (Some id) ≡ o → id < 8 → p.rc < 65536 → Does s id (again_or_played s (Some id) p o)
-played_does s id p (Some line) again small code =
+-- `KeepsIds` holds of a request that is answered by the line sent again (`o`), if there is one, or else by what was played
+played_keeps_ids : (s : SceneState) (id : ℕ) (p : Played) (o : Option (List ℕ)) → again_for s (Some id) ≡ o → id < 8 → p.rc < 65536 → KeepsIds s id (again_or_played s (Some id) p o)
+played_keeps_ids s id p (Some line) again small code =
     record { reads = λ good. subst IsHeard (again_kept s.repeats s.base.kept id line again) good; good = λ good. good }
-played_does s id p None again small code =
+played_keeps_ids s id p None again small code =
     let line = line_of id p in
     record { reads = λ good. line_heard id p small code; good = λ good. kept_heard p.state.repeats id line p.state.base.kept (line_heard id p small code) }
 
@@ -114,30 +116,31 @@ unfolding plays
 call_bound s call (Some code) is = is code refl
 call_bound s call None is = (outcome_sound s call).code
 
--- `Does` holds of a request for a call
-call_does : (s : SceneState) (id : ℕ) (call : Call) → id < 8 → Does s id (scene_handed s id call)
+-- `KeepsIds` holds of a request for a call
+call_keeps_ids : (s : SceneState) (id : ℕ) (call : Call) → id < 8 → KeepsIds s id (scene_handed s id call)
 unfolding handed_call
-call_does s id call small =
+call_keeps_ids s id call small =
     let rpc = (call_fields call).number in
-    played_does s id (played_call s rpc call) (again_for s (Some id)) refl small (call_bound (counting rpc s) call (fault_of rpc s.faults) (fault_bound rpc s.faults))
+    played_keeps_ids s id (played_call s rpc call) (again_for s (Some id)) refl small (call_bound (counting rpc s) call (fault_of rpc s.faults) (fault_bound rpc s.faults))
 
--- from states in which what is kept reads as a reply, replies have the ids of their requests
+-- from states in which the stored line reads as a reply with the stored id, replies have the ids of their requests
 pub exchange : IsExchange scene_ends KeepsAReply
 exchange = record {
-  reads = λ s id call good small. (call_does s id call small).reads good;
-  stays_good = λ s id call good small. (call_does s id call small).good good;
+  reads = λ s id call good small. (call_keeps_ids s id call small).reads good;
+  stays_good = λ s id call good small. (call_keeps_ids s id call small).good good;
   restart_good = λ s good. tt;
 }
 
 -- Executions.
 
--- an execution was counted: never where the kept id stayed, though the instrument keeps replies; and where it changed, or the instrument keeps none
+-- the count `old` of executions became `new`: the same where the instrument stores replies and the stored id stayed, and one more where that id
+-- changed, or the instrument stores no replies
 pub record Notes (repeats : Bool) (before after : Option ℕ) (old new : ℕ) : Type 0 where
   pub same : repeats ≡ true → before ≡ after → new ≡ old
   pub another : (before ≡ after → ⊥) → new ≡ old + 1
   pub never : repeats ≡ false → new ≡ old + 1
 
--- the id of what is kept
+-- the stored id, if a reply is stored
 abbrev pub id_of : Option KeptReply → Option ℕ
 id_of k = option_map (λ (r : KeptReply). r.id) k
 
@@ -147,7 +150,7 @@ unfolding plays
 same_repeats s rpc call (Some code) = refl
 same_repeats s rpc call None = refl
 
--- where no line is kept for an id, the id that is kept is another
+-- where no line is stored for an id, that id isn't the stored one
 other_id : (k : Option KeptReply) (id : ℕ) → kept_line k (Some id) ≡ None → id_of k ≡ Some id → ⊥
 other_id None id e is = cc
 other_id (Some k) id e is =
@@ -161,11 +164,13 @@ counted_by : (s : SceneState) (id : ℕ) (p : Played) (o : Option (List ℕ)) (a
     → new ≡ length (cond (again_or_played s (Some id) p o).executed (xs ++ n ∷ []) xs)
 counted_by s id p (Some line) after old new xs n again same is h count = by_repeats s.repeats refl
   where
+    -- by whether the instrument repeats
     by_repeats : (b : Bool) → s.repeats ≡ b → new ≡ length xs
     by_repeats true e = h.same e (ap (λ (t : SceneState). id_of t.base.kept) (sym is)) ∙ count
     by_repeats false e = absurd (none_is_not line (sym (ap (λ b. cond b (kept_line s.base.kept (Some id)) None) e) ∙ again))
 counted_by s id p None after old new xs n again same is h count = by_repeats s.repeats refl ∙ ap (λ k. k + 1) count ∙ sym (length_push xs n)
   where
+    -- by whether the instrument repeats
     by_repeats : (b : Bool) → s.repeats ≡ b → new ≡ old + 1
     by_repeats false e = h.never e
     by_repeats true e =
@@ -174,7 +179,7 @@ counted_by s id p None after old new xs n again same is h count = by_repeats s.r
         ap (λ (t : SceneState). id_of t.base.kept) is ∙ ap (λ b. id_of (cond b (kept_after p.state.base.kept (Some id) (line_of id p)) None)) (same ∙ e) in
         h.another (λ equal. other_id s.base.kept id none (equal ∙ kept))
 
--- where executions are counted as `Notes` says, a request is counted exactly if it was executed
+-- where the count of executions changes as `Notes` says, it grows by one exactly if the request was executed
 pub counted : (s : SceneState) (id : ℕ) (call : Call) (after : SceneState) (old new : ℕ) (xs : List ℕ) (n : ℕ) → after ≡ (scene_handed s id call).state
     → Notes s.repeats (id_of s.base.kept) (id_of after.base.kept) old new → old ≡ length xs → new ≡ length (cond (scene_handed s id call).executed (xs ++ n ∷ []) xs)
 unfolding handed_call

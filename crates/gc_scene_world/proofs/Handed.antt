@@ -11,7 +11,7 @@ use Rattle.gc_scenes.specs.SceneState.{SceneState}
 use Rattle.gc_scene_world.specs.declared.direction.Direction.{Direction}
 use Rattle.gc_scene_world.specs.Lanes.{Flight, further}
 use Rattle.gc_scene_world.specs.SceneRuns.{scene_ends}
-use Rattle.gc_scene_world.specs.SceneStages.{Seen, AreStreamsOf, IsLeft, goes_on, handed, way}
+use Rattle.gc_scene_world.specs.SceneStages.{Seen, AreStreamsOf, IsRemainder, after_event, after_bytes, world_direction}
 use Rattle.gc_world.specs.declared.direction.Direction as world
 use Rattle.gc_world.specs.declared.direction.Direction.TheVariants.{Up, Down}
 use Rattle.gc_world.specs.Clients.{by_ids}
@@ -19,7 +19,7 @@ use Rattle.gc_world.specs.Directions.{deliver, delivery, bytes, texts, lines, go
 use Rattle.gc_world.specs.Sides.{IsPart}
 use Rattle.gc_world.specs.Streams.{Streams, one_more, cut, up_texts, down_texts, remaining}
 use Rattle.gc_world.specs.World.{Request, Numbered, Wire, World, up_delivered, down_delivered, happens, run}
-use Rattle.gc_world.proofs.Directions.{gone_reached, reaches_again, reaches_same, delivered, passing, bytes_pass, to, one_less, not_idle}
+use Rattle.gc_world.proofs.Directions.{gone_reached, reaches_again, reaches_same, delivered, passing, bytes_pass, after_cut, one_less, not_idle}
 use Rattle.gc_world.proofs.Handed.{cut_long, in_front}
 use Rattle.gc_world.proofs.Streaming.{cut_short}
 
@@ -28,7 +28,8 @@ none_in_flight : (gone : ℕ) (lines : List (List ℕ)) → IsPart gone lines �
 none_in_flight gone [] part e = (refl, part)
 none_in_flight gone (line ∷ lines) part e = absurd (omega (arith, part, e))
 
--- a request that is answered moves from those in flight to the executions, if it was executed
+-- once one of `more` + 1 requests in flight was answered, and counted as an execution (b) or not, executions and requests in flight together
+-- haven't grown
 executes : (executed : List ℕ) (k more : ℕ) (b : Bool) → length (cond b (executed ++ k ∷ []) executed) + more ≤ length executed + suc more
 executes executed k more true = omega (arith, length_push executed k)
 executes executed k more false = omega arith
@@ -48,7 +49,7 @@ up_makes w (x ∷ rest) e =
     let m : Numbered (List ℕ) = record { number = x.number; line = (scene_ends.handed w.state x.line.id x.line.call).reply } in
     omega (arith, up, length_push w.made m)
 
--- two wires have the same executions, replies made and requests in flight
+-- the wire `new` has the executions, the replies made and the requests in flight of the wire `old`
 record Stays (old new : Wire SceneState) : Type 0 where
   executed : new.executed ≡ old.executed
   made : new.made ≡ old.made
@@ -59,7 +60,7 @@ down_leaves : (width : ℕ) (w : World (ById Call) SceneState) (q : List (Number
 down_leaves width w [] = record { executed = refl; made = refl; up = refl }
 down_leaves width w (x ∷ rest) = record { executed = refl; made = refl; up = refl }
 
--- neither executions nor replies made, with the requests in flight, grow from one wire to the other
+-- from the wire `old` to the wire `new`, executions and requests in flight together don't grow, nor do replies made and requests in flight
 pub record IsNoMore (old new : Wire SceneState) : Type 0 where
   pub executed : length new.executed + length new.up ≤ length old.executed + length old.up
   pub made : length new.made + length new.up ≤ length old.made + length old.up
@@ -73,7 +74,7 @@ no_more width Down w =
 
 -- a delivery as an event leaves the wire of the delivery as a step
 delivered_wire : (width : ℕ) (d : world.Direction) (v : Streams (ById Call) SceneState)
-    → (goes_on width v (delivery d)).world.wire ≡ (happens scene_ends (by_ids width scene_ends) v.world (deliver d)).wire
+    → (after_event width v (delivery d)).world.wire ≡ (happens scene_ends (by_ids width scene_ends) v.world (deliver d)).wire
 delivered_wire width Up v = refl
 delivered_wire width Down v = refl
 
@@ -84,58 +85,60 @@ module _ (width : ℕ) (d : Direction) (v : Streams (ById Call) SceneState) wher
   record IsNext (n used : ℕ) : Type 0 where
     text : List ℕ
     behind : List (List ℕ)
-    front : texts (way d) v.world.wire ≡ text ∷ behind
-    cut_is : cut (lines (way d) v.world.wire) (gone (way d) v + n) ≡ one_more (cut (map with_end behind) (n - used))
-    tail : behind ≡ texts (way d) (happens scene_ends (by_ids width scene_ends) v.world (deliver (way d))).wire
+    front : texts (world_direction d) v.world.wire ≡ text ∷ behind
+    cut_is : cut (lines (world_direction d) v.world.wire) (gone (world_direction d) v + n) ≡ one_more (cut (map with_end behind) (n - used))
+    tail : behind ≡ texts (world_direction d) (happens scene_ends (by_ids width scene_ends) v.world (deliver (world_direction d))).wire
 
   -- `IsNext` holds where the front line takes what remains of it, which is some bytes and no more than n
-  next : (n used : ℕ) → used ≡ remaining (gone (way d) v) (lines (way d) v.world.wire) → 0 < used → used ≤ n → IsNext n used
+  next : (n used : ℕ) → used ≡ remaining (gone (world_direction d) v) (lines (world_direction d) v.world.wire) → 0 < used → used ≤ n → IsNext n used
   next n used e some le =
-      let f = in_front (gone (way d) v) (texts (way d) v.world.wire) (subst (λ k. 0 < k) e some) in
-      let size : used ≡ length (with_end f.0) - gone (way d) v = e ∙ ap (λ q. remaining (gone (way d) v) (map with_end q)) f.2 in
-      let left : gone (way d) v + n - length (with_end f.0) ≡ n - used = omega (arith, size, some, le) in
+      let f = in_front (gone (world_direction d) v) (texts (world_direction d) v.world.wire) (subst (λ k. 0 < k) e some) in
+      let size : used ≡ length (with_end f.0) - gone (world_direction d) v = e ∙ ap (λ q. remaining (gone (world_direction d) v) (map with_end q)) f.2 in
+      let left : gone (world_direction d) v + n - length (with_end f.0) ≡ n - used = omega (arith, size, some, le) in
       record {
         text = f.0;
         behind = f.1;
         front = f.2;
-        cut_is = ap (λ q. cut (map with_end q) (gone (way d) v + n)) f.2 ∙ cut_long (with_end f.0) (map with_end f.1) (gone (way d) v + n) (omega (arith, size, some, le))
+        cut_is = ap (λ q. cut (map with_end q) (gone (world_direction d) v + n)) f.2 ∙ cut_long (with_end f.0) (map with_end f.1) (gone (world_direction d) v + n) (omega (arith, size, some, le))
             ∙ ap (λ k. one_more (cut (map with_end f.1) k)) left;
-        tail = sym (one_less scene_ends (by_ids width scene_ends) (way d) v.world ∙ ap (drop 1) f.2);
+        tail = sym (one_less scene_ends (by_ids width scene_ends) (world_direction d) v.world ∙ ap (drop 1) f.2);
       }
 
   -- the streams after the delivery of the front line
   abbrev after : Streams (ById Call) SceneState
-  after = reaches (way d) v (happens scene_ends (by_ids width scene_ends) v.world (deliver (way d))) 0
+  after = reaches (world_direction d) v (happens scene_ends (by_ids width scene_ends) v.world (deliver (world_direction d))) 0
 
   -- handing over n bytes is delivering the front line, and then handing over the n - used others
-  next_same : (n used : ℕ) → IsNext n used → handed width d v n ≡ handed width d (goes_on width v (delivery (way d))) (n - used)
+  next_same : (n used : ℕ) → IsNext n used → after_bytes width d v n ≡ after_bytes width d (after_event width v (delivery (world_direction d))) (n - used)
   next_same n used h =
       let rule = by_ids width scene_ends in
       let c = cut (map with_end h.behind) (n - used) in
-      let w = happens scene_ends rule v.world (deliver (way d)) in
-      let none : gone (way d) after ≡ 0 = gone_reached (way d) v w 0 in
-      let more : n - used ≡ gone (way d) after + (n - used) = omega (arith, none) in
-      ap (to scene_ends rule (way d) v) h.cut_is ∙ sym (reaches_again (way d) v w 0 (run scene_ends rule (replicate c.lines (deliver (way d))) w) c.gone)
-      ∙ ap₂ (λ q k. to scene_ends rule (way d) after (cut (map with_end q) k)) h.tail more
-      ∙ ap (λ x. handed width d x (n - used)) (sym (delivered scene_ends rule (way d) v))
+      let w = happens scene_ends rule v.world (deliver (world_direction d)) in
+      let none : gone (world_direction d) after ≡ 0 = gone_reached (world_direction d) v w 0 in
+      let more : n - used ≡ gone (world_direction d) after + (n - used) = omega (arith, none) in
+      ap (after_cut scene_ends rule (world_direction d) v) h.cut_is ∙ sym (reaches_again (world_direction d) v w 0 (run scene_ends rule (replicate c.lines (deliver (world_direction d))) w) c.gone)
+      ∙ ap₂ (λ q k. after_cut scene_ends rule (world_direction d) after (cut (map with_end q) k)) h.tail more
+      ∙ ap (λ x. after_bytes width d x (n - used)) (sym (delivered scene_ends rule (world_direction d) v))
 
   -- the delivery of the front line is no idle event
-  next_idle : (n used : ℕ) → IsNext n used → (goes_on width v (delivery (way d))).world.wire.idle ≡ v.world.wire.idle
+  next_idle : (n used : ℕ) → IsNext n used → (after_event width v (delivery (world_direction d))).world.wire.idle ≡ v.world.wire.idle
   next_idle n used h =
-      let some : length (texts (way d) v.world.wire) ≡ suc (length h.behind) = ap length h.front in
-      ap (λ (w : Wire SceneState). w.idle) (delivered_wire width (way d) v) ∙ not_idle scene_ends (by_ids width scene_ends) (way d) v.world (omega (arith, some))
+      let some : length (texts (world_direction d) v.world.wire) ≡ suc (length h.behind) = ap length h.front in
+      ap (λ (w : Wire SceneState). w.idle) (delivered_wire width (world_direction d) v) ∙ not_idle scene_ends (by_ids width scene_ends) (world_direction d) v.world (omega (arith, some))
 
   -- where no byte is in flight, handing over bytes changes nothing
-  ended : (n : ℕ) → IsPart (gone (way d) v) (lines (way d) v.world.wire) → remaining (gone (way d) v) (lines (way d) v.world.wire) ≡ 0 → handed width d v n ≡ v
-  ended n part e =
-      let none = none_in_flight (gone (way d) v) (lines (way d) v.world.wire) part e in
-      ap (λ q. to scene_ends (by_ids width scene_ends) (way d) v (cut q (gone (way d) v + n))) none.0 ∙ ap (reaches (way d) v v.world) (sym none.1) ∙ reaches_same (way d) v
+  no_bytes_no_change : (n : ℕ) → IsPart (gone (world_direction d) v) (lines (world_direction d) v.world.wire)
+      → remaining (gone (world_direction d) v) (lines (world_direction d) v.world.wire) ≡ 0 → after_bytes width d v n ≡ v
+  no_bytes_no_change n part e =
+      let none = none_in_flight (gone (world_direction d) v) (lines (world_direction d) v.world.wire) part e in
+      ap (λ q. after_cut scene_ends (by_ids width scene_ends) (world_direction d) v (cut q (gone (world_direction d) v + n))) none.0
+      ∙ ap (reaches (world_direction d) v v.world) (sym none.1) ∙ reaches_same (world_direction d) v
 
 -- the streams once some of n bytes were handed over: handing over those left leads where handing over all n leads
 pub record IsReached (width : ℕ) (d : Direction) (s : Seen) (v : Streams (ById Call) SceneState) (n left : ℕ) : Type 0 where
   pub now : Streams (ById Call) SceneState
   pub shows : AreStreamsOf width s now
-  pub same : handed width d now left ≡ handed width d v n
+  pub same : after_bytes width d now left ≡ after_bytes width d v n
   pub idle : now.world.wire.idle ≡ v.world.wire.idle
   pub room : IsNoMore v.world.wire now.world.wire
 
@@ -145,13 +148,13 @@ reached width d s v n h = record { now = v; shows = h; same = refl; idle = refl;
 
 module _ (width : ℕ) (d : Direction) (s : Seen) (v : Streams (ById Call) SceneState) (n left : ℕ) (h : IsReached width d s v n left) where
   -- `IsReached` holds also once one more line was delivered
-  pub reaches_next : (t : Seen) (used : ℕ) → used ≡ remaining (gone (way d) h.now) (lines (way d) h.now.world.wire) → 0 < used → used ≤ left
-      → AreStreamsOf width t (goes_on width h.now (delivery (way d))) → IsReached width d t v n (left - used)
+  pub reaches_next : (t : Seen) (used : ℕ) → used ≡ remaining (gone (world_direction d) h.now) (lines (world_direction d) h.now.world.wire) → 0 < used → used ≤ left
+      → AreStreamsOf width t (after_event width h.now (delivery (world_direction d))) → IsReached width d t v n (left - used)
   reaches_next t used e some le shows =
       let one = next width d h.now left used e some le in
-      let more = subst (IsNoMore h.now.world.wire) (sym (delivered_wire width (way d) h.now)) (no_more width (way d) h.now.world) in
+      let more = subst (IsNoMore h.now.world.wire) (sym (delivered_wire width (world_direction d) h.now)) (no_more width (world_direction d) h.now.world) in
       record {
-        now = goes_on width h.now (delivery (way d));
+        now = after_event width h.now (delivery (world_direction d));
         shows = shows;
         same = sym (next_same width d h.now left used one) ∙ h.same;
         idle = next_idle width d h.now left used one ∙ h.idle;
@@ -159,20 +162,22 @@ module _ (width : ℕ) (d : Direction) (s : Seen) (v : Streams (ById Call) Scene
       }
 
   -- where the bytes that are left complete no line, handing them over leads where all n lead
-  pub reaches_end : (t : Seen) → AreStreamsOf width t (handed width d h.now left) → AreStreamsOf width t (handed width d v n)
+  pub reaches_end : (t : Seen) → AreStreamsOf width t (after_bytes width d h.now left) → AreStreamsOf width t (after_bytes width d v n)
   reaches_end t shows = subst (λ x. AreStreamsOf width t x) h.same shows
 
   -- where no byte is in flight any more, the streams are those that all n bytes lead to
-  pub runs_dry : (r : ℕ) → IsLeft (way d) h.now r → r ≡ 0 → AreStreamsOf width s (handed width d v n)
-  runs_dry r is e = subst (λ x. AreStreamsOf width s x) (sym (ended width d h.now left is.part (sym is.left ∙ e)) ∙ h.same) h.shows
+  pub runs_dry : (r : ℕ) → IsRemainder (world_direction d) h.now r → r ≡ 0 → AreStreamsOf width s (after_bytes width d v n)
+  runs_dry r is e = subst (λ x. AreStreamsOf width s x) (sym (no_bytes_no_change width d h.now left is.part (sym is.left ∙ e)) ∙ h.same) h.shows
 
--- an event of n bytes leads to the streams that `handed` gives, where n isn't 0 and bytes are in flight
-pub in_flight : (width : ℕ) (d : Direction) (v : Streams (ById Call) SceneState) (n r : ℕ) → r ≡ remaining (gone (way d) v) (lines (way d) v.world.wire) → (n ≡ 0 → ⊥) → (r ≡ 0 → ⊥)
-    → goes_on width v (bytes (way d) n) ≡ handed width d v n
-in_flight width d v n r e not none = bytes_pass scene_ends (by_ids width scene_ends) (way d) v n ∙ by_cases n (lines (way d) v.world.wire) not (λ z. none (e ∙ z))
+-- an event of n bytes leads to the streams that `after_bytes` gives, where n isn't 0 and bytes are in flight
+pub in_flight : (width : ℕ) (d : Direction) (v : Streams (ById Call) SceneState) (n r : ℕ)
+    → r ≡ remaining (gone (world_direction d) v) (lines (world_direction d) v.world.wire) → (n ≡ 0 → ⊥) → (r ≡ 0 → ⊥)
+    → after_event width v (bytes (world_direction d) n) ≡ after_bytes width d v n
+in_flight width d v n r e not none = bytes_pass scene_ends (by_ids width scene_ends) (world_direction d) v n ∙ by_cases n (lines (world_direction d) v.world.wire) not (λ z. none (e ∙ z))
   where
-    by_cases : (k : ℕ) (q : List (List ℕ)) → (k ≡ 0 → ⊥) → (remaining (gone (way d) v) q ≡ 0 → ⊥)
-        → passing scene_ends (by_ids width scene_ends) (way d) v q k ≡ to scene_ends (by_ids width scene_ends) (way d) v (cut q (gone (way d) v + k))
+    -- by whether the count of bytes is 0, and whether a line is in flight
+    by_cases : (k : ℕ) (q : List (List ℕ)) → (k ≡ 0 → ⊥) → (remaining (gone (world_direction d) v) q ≡ 0 → ⊥)
+        → passing scene_ends (by_ids width scene_ends) (world_direction d) v q k ≡ after_cut scene_ends (by_ids width scene_ends) (world_direction d) v (cut q (gone (world_direction d) v + k))
     by_cases zero q some more = absurd (some refl)
     by_cases (suc k) [] some more = absurd (more refl)
     by_cases (suc k) (l ∷ ls) some more = refl
@@ -186,7 +191,7 @@ pub begins_up : (width : ℕ) (s : Seen) (v : Streams (ById Call) SceneState) (n
     (reaches Up v (run scene_ends (by_ids width scene_ends) (replicate (cut (lines Up v.world.wire) (v.up_gone + n)).lines (deliver Up)) v.world)
     (cut (lines Up v.world.wire) (v.up_gone + n)).gone)
 begins_up width s v n lane h lt is =
-    subst (λ c. AreStreamsOf width (record s { up = lane }) (to scene_ends (by_ids width scene_ends) Up v c)) (sym (cut_short (lines Up v.world.wire) v.up_gone n lt)) (record {
+    subst (λ c. AreStreamsOf width (record s { up = lane }) (after_cut scene_ends (by_ids width scene_ends) Up v c)) (sym (cut_short (lines Up v.world.wire) v.up_gone n lt)) (record {
       client = h.client;
       next = h.next;
       instrument = h.instrument;
@@ -204,7 +209,7 @@ pub begins_down : (width : ℕ) (s : Seen) (v : Streams (ById Call) SceneState) 
     (reaches Down v (run scene_ends (by_ids width scene_ends) (replicate (cut (lines Down v.world.wire) (v.down_gone + n)).lines (deliver Down)) v.world)
     (cut (lines Down v.world.wire) (v.down_gone + n)).gone)
 begins_down width s v n lane h lt is =
-    subst (λ c. AreStreamsOf width (record s { down = lane }) (to scene_ends (by_ids width scene_ends) Down v c)) (sym (cut_short (lines Down v.world.wire) v.down_gone n lt)) (record {
+    subst (λ c. AreStreamsOf width (record s { down = lane }) (after_cut scene_ends (by_ids width scene_ends) Down v c)) (sym (cut_short (lines Down v.world.wire) v.down_gone n lt)) (record {
       client = h.client;
       next = h.next;
       instrument = h.instrument;

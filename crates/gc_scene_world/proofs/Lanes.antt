@@ -47,7 +47,7 @@ pub part_more : (gone n : ℕ) (texts : List (List ℕ)) → n < remaining gone 
 part_more gone n [] lt = absurd (omega (arith, lt))
 part_more gone n (t ∷ ts) lt = omega (arith, lt)
 
--- what remains of the front line
+-- of the front line its length and two, for CR LF, less what has gone remain
 pub remaining_is : (gone : ℕ) (text : List ℕ) (texts : List (List ℕ)) → length text + 2 - gone ≡ remaining gone (map with_end (text ∷ texts))
 remaining_is gone text texts = omega (arith, end_length text)
 
@@ -78,6 +78,7 @@ module _ {A : Type 0} (f : A → List ℕ) where
       either (is_begun k gone) (record { texts = map f old; gone = gone }) (record { texts = doubled k (map f old); gone = gone })
       (ap {B = Flight} (λ (t : List (List ℕ)). record { texts = t; gone = gone }) (sym same))
     where
+      -- where x and y are equal, x is whichever of them a test chooses
       either : (b : Bool) (x y : Flight) → x ≡ y → x ≡ cond b x y
       either true x y e = refl
       either false x y e = e

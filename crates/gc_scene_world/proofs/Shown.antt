@@ -20,7 +20,7 @@ use Rattle.gc_scene_world.specs.declared.report.Counts.{Counts}
 use Rattle.gc_scene_world.specs.Lanes.{Flight, is_whole, pushed}
 use Rattle.gc_scene_world.specs.SceneReports.{AreCounts}
 use Rattle.gc_scene_world.specs.SceneRuns.{scene_handed, scene_ends}
-use Rattle.gc_scene_world.specs.SceneStages.{Seen, AreStreamsOf, IsAsked, IsLeft, goes_on}
+use Rattle.gc_scene_world.specs.SceneStages.{Seen, AreStreamsOf, IsAsked, IsRemainder, after_event}
 use Rattle.gc_scene_world.proofs.Exchanges.{Notes, id_of, counted, exchanged}
 use Rattle.gc_scene_world.proofs.Lanes.{flight}
 use Rattle.gc_world.specs.declared.direction.Direction.{Direction}
@@ -65,8 +65,8 @@ module _ (width : ℕ) (s : Seen) (v : Streams (ById Call) SceneState) (h : AreS
   with_world w = record { world = w; up_gone = v.up_gone; down_gone = v.down_gone }
 
   -- an event that is not possible is only counted, in the stage as in the streams
-  nothing : AreStreamsOf width (record s { counts = tallied false s.counts }) (with_world (on_wire v.world (idle v.world.wire)))
-  nothing = record {
+  idle_event : AreStreamsOf width (record s { counts = tallied false s.counts }) (with_world (on_wire v.world (idle v.world.wire)))
+  idle_event = record {
     client = h.client;
     next = h.next;
     instrument = h.instrument;
@@ -89,7 +89,7 @@ module _ (width : ℕ) (s : Seen) (v : Streams (ById Call) SceneState) (h : AreS
 
   -- once a send was refused, the streams after that event are shown
   pub streams_refused : (target : ℕ) (call : Call) (deadline : ℕ) (client : Windowed Call) → sends s.client.width s.client.ids target call deadline ≡ None → client ≡ s.client
-      → AreStreamsOf width (record s { client = client; counts = record s.counts { refused_sends = s.counts.refused_sends + 1 } }) (goes_on width v (event.Send target call deadline))
+      → AreStreamsOf width (record s { client = client; counts = record s.counts { refused_sends = s.counts.refused_sends + 1 } }) (after_event width v (event.Send target call deadline))
   streams_refused target call deadline client none same =
       let ruled : sends width v.world.client target call deadline ≡ None = ap (λ (k : Windowed Call). sends k.width k.ids target call deadline) (sym h.client) ∙ none in
       subst (λ o. AreStreamsOf width (record s { client = client; counts = record s.counts { refused_sends = s.counts.refused_sends + 1 } }) (with_world (requested v.world target call o)))
@@ -108,7 +108,7 @@ module _ (width : ℕ) (s : Seen) (v : Streams (ById Call) SceneState) (h : AreS
   pub streams_sent : (target : ℕ) (call : Call) (deadline : ℕ) (line : List ℕ) (client : Windowed Call) (up : Flight)
       → sends s.client.width s.client.ids target call deadline ≡ Some (record { id = s.client.ids.next; client = client.ids }) → client.width ≡ s.client.width
       → line ≡ request_line (Some s.client.ids.next) call → IsFitting call → up ≡ pushed s.up line
-      → AreStreamsOf width (record s { client = client; up = up; counts = record s.counts { sent = s.counts.sent + 1 } }) (goes_on width v (event.Send target call deadline))
+      → AreStreamsOf width (record s { client = client; up = up; counts = record s.counts { sent = s.counts.sent + 1 } }) (after_event width v (event.Send target call deadline))
   streams_sent target call deadline line client up sends_is wide line_is fits up_is =
       let x : Sending (ById Call) = record { id = s.client.ids.next; client = client.ids } in
       let request : Numbered Request = record { number = length v.world.wire.sent; line = record { id = s.client.ids.next; call = call } } in
@@ -136,7 +136,7 @@ module _ (width : ℕ) (s : Seen) (v : Streams (ById Call) SceneState) (h : AreS
   -- Deliveries.
 
   -- once a delivery upward found no line, the streams after that event are shown
-  pub streams_up_none : (up : Flight) → s.up.texts ≡ [] → up.texts ≡ [] → up.gone ≡ 0 → AreStreamsOf width (record s { up = up; counts = tallied false s.counts }) (goes_on width v event.UpDeliver)
+  pub streams_up_none : (up : Flight) → s.up.texts ≡ [] → up.texts ≡ [] → up.gone ≡ 0 → AreStreamsOf width (record s { up = up; counts = tallied false s.counts }) (after_event width v event.UpDeliver)
   streams_up_none up none empty start =
       let none_up = no_up none in
       subst (λ q. AreStreamsOf width (record s { up = up; counts = tallied false s.counts })
@@ -156,9 +156,11 @@ module _ (width : ℕ) (s : Seen) (v : Streams (ById Call) SceneState) (h : AreS
       → s.up.texts ≡ request ∷ up.texts → up.gone ≡ 0 → old ≡ []
       → AppendsAnswer (IsPlayed s.instrument request instrument) old reply b → Notes s.instrument.repeats (id_of s.instrument.base.kept) (id_of instrument.base.kept) s.counts.executed executed
       → down ≡ pushed s.down reply
-      → AreStreamsOf width (record s { instrument = instrument; up = up; down = down; counts = record s.counts { executed = executed; made = s.counts.made + 1 } }) (goes_on width v event.UpDeliver)
+      → AreStreamsOf width (record s { instrument = instrument; up = up; down = down; counts = record s.counts { executed = executed; made = s.counts.made + 1 } })
+      (after_event width v event.UpDeliver)
   streams_up_deliver request up instrument old reply b executed down e start empty played notes down_is = by_front v.world.wire.up refl
     where
+      -- by whether a line is in flight
       by_front : (q : List (Numbered Request)) → v.world.wire.up ≡ q
           → AreStreamsOf width (record s { instrument = instrument; up = up; down = down; counts = record s.counts { executed = executed; made = s.counts.made + 1 } })
           (record { world = on_wire v.world (up_delivered scene_ends v.world.wire q); up_gone = 0; down_gone = v.down_gone })
@@ -193,7 +195,7 @@ module _ (width : ℕ) (s : Seen) (v : Streams (ById Call) SceneState) (h : AreS
 
   -- once a delivery downward found no line, the streams after that event are shown
   pub streams_down_none : (down : Flight) → s.down.texts ≡ [] → down.texts ≡ [] → down.gone ≡ 0
-      → AreStreamsOf width (record s { down = down; counts = tallied false s.counts }) (goes_on width v event.DownDeliver)
+      → AreStreamsOf width (record s { down = down; counts = tallied false s.counts }) (after_event width v event.DownDeliver)
   streams_down_none down none empty start =
       let none_down = no_down none in
       subst (λ q. AreStreamsOf width (record s { down = down; counts = tallied false s.counts })
@@ -211,9 +213,10 @@ module _ (width : ℕ) (s : Seen) (v : Streams (ById Call) SceneState) (h : AreS
   -- once the front reply was delivered, and what it settles noted, the streams after that event are shown
   pub streams_down_deliver : (line : List ℕ) (down : Flight) (more settled : List (Settlement Call)) (client : Windowed Call) → s.down.texts ≡ line ∷ down.texts → down.gone ≡ 0
       → AreSettlements more (hears s.client.ids line (heard line)).settlements → client ≡ record s.client { ids = (hears s.client.ids line (heard line)).client } → settled ≡ s.settled ++ more
-      → AreStreamsOf width (record s { client = client; down = down; settled = settled }) (goes_on width v event.DownDeliver)
+      → AreStreamsOf width (record s { client = client; down = down; settled = settled }) (after_event width v event.DownDeliver)
   streams_down_deliver line down more settled client e start more_are client_is settled_is = by_front v.world.wire.down refl
     where
+      -- by whether a line is in flight
       by_front : (q : List (Numbered (List ℕ))) → v.world.wire.down ≡ q → AreStreamsOf width (record s { client = client; down = down; settled = settled })
           (record { world = down_delivered (by_ids width scene_ends) v.world q; up_gone = v.up_gone; down_gone = 0 })
       by_front [] q_is = let wrong : [] ≡ line ∷ down.texts = ap (map (λ x. x.line)) (sym q_is) ∙ sym (ap (λ (f : Flight). f.texts) h.down) ∙ e in cc
@@ -239,12 +242,12 @@ module _ (width : ℕ) (s : Seen) (v : Streams (ById Call) SceneState) (h : AreS
   -- Losses and repeats.
 
   -- the upward lane is as long as the world's queue
-  same_up : length s.up.texts ≡ length v.world.wire.up
-  same_up = ap (λ (f : Flight). length f.texts) h.up ∙ length-map v.world.wire.up bytes_of
+  pub up_length : length s.up.texts ≡ length v.world.wire.up
+  up_length = ap (λ (f : Flight). length f.texts) h.up ∙ length-map v.world.wire.up bytes_of
 
   -- the downward lane is as long as the world's queue
-  same_down : length s.down.texts ≡ length v.world.wire.down
-  same_down = ap (λ (f : Flight). length f.texts) h.down ∙ length-map v.world.wire.down (λ x. x.line)
+  down_length : length s.down.texts ≡ length v.world.wire.down
+  down_length = ap (λ (f : Flight). length f.texts) h.down ∙ length-map v.world.wire.down (λ x. x.line)
 
   -- once the upward lane has these texts, if the step is possible (b), or else the event was counted, the streams after the step are shown
   up_changed : (k : ℕ) (texts : List (List ℕ)) (us : List (Numbered Request)) (step : Step) (b : Bool) (up : Flight) → b ≡ is_whole k s.up
@@ -253,9 +256,11 @@ module _ (width : ℕ) (s : Seen) (v : Streams (ById Call) SceneState) (h : AreS
       → AreStreamsOf width (record s { up = up; counts = tallied b s.counts }) (with_world (happens scene_ends (by_ids width scene_ends) v.world (at_line k v.up_gone step)))
   up_changed k texts us step b up b_is up_is texts_are past asked step_is = by_begun (is_begun k v.up_gone) refl
     where
+      -- whether line k has begun to go is the same in the stage and in the streams
       same_gone : is_begun k s.up.gone ≡ is_begun k v.up_gone
       same_gone = ap (λ (f : Flight). is_begun k f.gone) h.up
 
+      -- where line k hasn't begun to go: by whether it is in flight
       by_there : (t : Bool) → is_begun k s.up.gone ≡ false → ltb k (length s.up.texts) ≡ t
           → AreStreamsOf width (record s { up = up; counts = tallied b s.counts }) (with_world (on_wire v.world (with_up v.world.wire us t)))
       by_there true whole there =
@@ -284,6 +289,7 @@ module _ (width : ℕ) (s : Seen) (v : Streams (ById Call) SceneState) (h : AreS
             counts = subst (λ c. AreCounts (tallied c s.counts) (idle v.world.wire)) (sym said) (counts_idle s.counts v.world.wire h.counts);
           }
 
+      -- by whether line k has begun to go
       by_begun : (g : Bool) → is_begun k v.up_gone ≡ g
           → AreStreamsOf width (record s { up = up; counts = tallied b s.counts }) (with_world (happens scene_ends (by_ids width scene_ends) v.world (cond g Nothing step)))
       by_begun true e =
@@ -301,7 +307,7 @@ module _ (width : ℕ) (s : Seen) (v : Streams (ById Call) SceneState) (h : AreS
           }
       by_begun false e =
           subst (λ (w : World (ById Call) SceneState). AreStreamsOf width (record s { up = up; counts = tallied b s.counts }) (with_world w)) (sym step_is)
-          (by_there (ltb k (length v.world.wire.up)) (same_gone ∙ e) (ap (ltb k) same_up))
+          (by_there (ltb k (length v.world.wire.up)) (same_gone ∙ e) (ap (ltb k) up_length))
 
   -- once the downward lane has these texts, if the step is possible (b), or else the event was counted, the streams after the step are shown
   down_changed : (k : ℕ) (texts : List (List ℕ)) (ds : List (Numbered (List ℕ))) (step : Step) (b : Bool) (down : Flight) → b ≡ is_whole k s.down
@@ -310,9 +316,11 @@ module _ (width : ℕ) (s : Seen) (v : Streams (ById Call) SceneState) (h : AreS
       → AreStreamsOf width (record s { down = down; counts = tallied b s.counts }) (with_world (happens scene_ends (by_ids width scene_ends) v.world (at_line k v.down_gone step)))
   down_changed k texts ds step b down b_is down_is texts_are past step_is = by_begun (is_begun k v.down_gone) refl
     where
+      -- whether line k has begun to go is the same in the stage and in the streams
       same_gone : is_begun k s.down.gone ≡ is_begun k v.down_gone
       same_gone = ap (λ (f : Flight). is_begun k f.gone) h.down
 
+      -- where line k hasn't begun to go: by whether it is in flight
       by_there : (t : Bool) → is_begun k s.down.gone ≡ false → ltb k (length s.down.texts) ≡ t
           → AreStreamsOf width (record s { down = down; counts = tallied b s.counts }) (with_world (on_wire v.world (with_down v.world.wire ds t)))
       by_there true whole there =
@@ -341,6 +349,7 @@ module _ (width : ℕ) (s : Seen) (v : Streams (ById Call) SceneState) (h : AreS
             counts = subst (λ c. AreCounts (tallied c s.counts) (idle v.world.wire)) (sym said) (counts_idle s.counts v.world.wire h.counts);
           }
 
+      -- by whether line k has begun to go
       by_begun : (g : Bool) → is_begun k v.down_gone ≡ g
           → AreStreamsOf width (record s { down = down; counts = tallied b s.counts }) (with_world (happens scene_ends (by_ids width scene_ends) v.world (cond g Nothing step)))
       by_begun true e =
@@ -358,7 +367,7 @@ module _ (width : ℕ) (s : Seen) (v : Streams (ById Call) SceneState) (h : AreS
           }
       by_begun false e =
           subst (λ (w : World (ById Call) SceneState). AreStreamsOf width (record s { down = down; counts = tallied b s.counts }) (with_world w)) (sym step_is)
-          (by_there (ltb k (length v.world.wire.down)) (same_gone ∙ e) (ap (ltb k) same_down))
+          (by_there (ltb k (length v.world.wire.down)) (same_gone ∙ e) (ap (ltb k) down_length))
 
   -- the texts of the upward lane are those of the world's queue
   up_are : s.up.texts ≡ map bytes_of v.world.wire.up
@@ -371,25 +380,25 @@ module _ (width : ℕ) (s : Seen) (v : Streams (ById Call) SceneState) (h : AreS
   module _ (k : ℕ) (b : Bool) (lane : Flight) where
     -- once line k of the upward lane was lost, if that was possible, the streams after that event are shown
     pub up_lost : b ≡ is_whole k s.up → lane ≡ cond (is_begun k s.up.gone) s.up (record s.up { texts = without k s.up.texts })
-        → AreStreamsOf width (record s { up = lane; counts = tallied b s.counts }) (goes_on width v (event.UpLose k))
+        → AreStreamsOf width (record s { up = lane; counts = tallied b s.counts }) (after_event width v (event.UpLose k))
     up_lost said left = up_changed k (without k s.up.texts) (without k v.world.wire.up) (Up_lose k) b lane said left
         (ap (without k) up_are ∙ without_map bytes_of k v.world.wire.up) (without_past k s.up.texts) (each_without IsAsked k v.world.wire.up h.requests) refl
 
     -- once line k of the upward lane was repeated, if that was possible, the streams after that event are shown
     pub up_repeated : b ≡ is_whole k s.up → lane ≡ cond (is_begun k s.up.gone) s.up (record s.up { texts = doubled k s.up.texts })
-        → AreStreamsOf width (record s { up = lane; counts = tallied b s.counts }) (goes_on width v (event.UpRepeat k))
+        → AreStreamsOf width (record s { up = lane; counts = tallied b s.counts }) (after_event width v (event.UpRepeat k))
     up_repeated said left = up_changed k (doubled k s.up.texts) (doubled k v.world.wire.up) (Up_repeat k) b lane said left
         (ap (doubled k) up_are ∙ doubled_map bytes_of k v.world.wire.up) (doubled_past k s.up.texts) (each_doubled IsAsked k v.world.wire.up h.requests) refl
 
     -- once line k of the downward lane was lost, if that was possible, the streams after that event are shown
     pub down_lost : b ≡ is_whole k s.down → lane ≡ cond (is_begun k s.down.gone) s.down (record s.down { texts = without k s.down.texts })
-        → AreStreamsOf width (record s { down = lane; counts = tallied b s.counts }) (goes_on width v (event.DownLose k))
+        → AreStreamsOf width (record s { down = lane; counts = tallied b s.counts }) (after_event width v (event.DownLose k))
     down_lost said left = down_changed k (without k s.down.texts) (without k v.world.wire.down) (Down_lose k) b lane said left
         (ap (without k) down_are ∙ without_map (λ x. x.line) k v.world.wire.down) (without_past k s.down.texts) refl
 
     -- once line k of the downward lane was repeated, if that was possible, the streams after that event are shown
     pub down_repeated : b ≡ is_whole k s.down → lane ≡ cond (is_begun k s.down.gone) s.down (record s.down { texts = doubled k s.down.texts })
-        → AreStreamsOf width (record s { down = lane; counts = tallied b s.counts }) (goes_on width v (event.DownRepeat k))
+        → AreStreamsOf width (record s { down = lane; counts = tallied b s.counts }) (after_event width v (event.DownRepeat k))
     down_repeated said left = down_changed k (doubled k s.down.texts) (doubled k v.world.wire.down) (Down_repeat k) b lane said left
         (ap (doubled k) down_are ∙ doubled_map (λ x. x.line) k v.world.wire.down) (doubled_past k s.down.texts) refl
 
@@ -397,7 +406,7 @@ module _ (width : ℕ) (s : Seen) (v : Streams (ById Call) SceneState) (h : AreS
 
   -- once the client got a moment, the streams after that event are shown
   pub streams_expire : (now : ℕ) (client : Windowed Call) → client ≡ record s.client { ids = expires s.client.ids now }
-      → AreStreamsOf width (record s { client = client }) (goes_on width v (event.Expire now))
+      → AreStreamsOf width (record s { client = client }) (after_event width v (event.Expire now))
   streams_expire now client client_is = record {
     client = client_is ∙ ap (λ (k : Windowed Call). record k { ids = expires k.ids now }) h.client;
     next = h.next;
@@ -412,7 +421,7 @@ module _ (width : ℕ) (s : Seen) (v : Streams (ById Call) SceneState) (h : AreS
   -- once both ends were restarted, while no line is in flight, the streams after that event are shown
   pub streams_restart_client : (more settled : List (Settlement Call)) (client : Windowed Call) (instrument : SceneState) → s.up.texts ≡ [] → s.down.texts ≡ []
       → AreSettlements more (restarts s.client.ids).settlements → client ≡ record s.client { ids = (restarts s.client.ids).client } → settled ≡ s.settled ++ more
-      → instrument ≡ scene_restarted s.instrument → AreStreamsOf width (record s { client = client; instrument = instrument; settled = settled }) (goes_on width v event.RestartClient)
+      → instrument ≡ scene_restarted s.instrument → AreStreamsOf width (record s { client = client; instrument = instrument; settled = settled }) (after_event width v event.RestartClient)
   streams_restart_client more settled client instrument eu ed more_are client_is settled_is instrument_is =
       let are : AreSettlements more (restarts v.world.client).settlements = subst (λ (k : Windowed Call). AreSettlements more (restarts k.ids).settlements) h.client more_are in
       let after = record s { client = client; instrument = instrument; settled = settled } in
@@ -431,7 +440,7 @@ module _ (width : ℕ) (s : Seen) (v : Streams (ById Call) SceneState) (h : AreS
 
   -- once the instrument was restarted, while no line is in flight, the streams after that event are shown
   pub streams_restart_instrument : (instrument : SceneState) → s.up.texts ≡ [] → s.down.texts ≡ [] → instrument ≡ scene_restarted s.instrument
-      → AreStreamsOf width (record s { instrument = instrument }) (goes_on width v event.RestartInstrument)
+      → AreStreamsOf width (record s { instrument = instrument }) (after_event width v event.RestartInstrument)
   streams_restart_instrument instrument eu ed instrument_is =
       let after = record s { instrument = instrument } in
       subst (λ u. AreStreamsOf width after (with_world (on_wire v.world (instrument_restarted scene_ends v.world.wire u v.world.wire.down)))) (sym (no_up eu))
@@ -447,37 +456,41 @@ module _ (width : ℕ) (s : Seen) (v : Streams (ById Call) SceneState) (h : AreS
       }))
 
   -- while a line is in flight, a restart of the client is only counted
-  pub streams_busy_client : ((s.up.texts ≡ []) × (s.down.texts ≡ []) → ⊥) → AreStreamsOf width (record s { counts = tallied false s.counts }) (goes_on width v event.RestartClient)
+  pub streams_busy_client : ((s.up.texts ≡ []) × (s.down.texts ≡ []) → ⊥) → AreStreamsOf width (record s { counts = tallied false s.counts }) (after_event width v event.RestartClient)
   streams_busy_client busy = by_queues v.world.wire.up v.world.wire.down refl refl
     where
+      -- by whether lines are in flight upward and downward
       by_queues : (us : List (Numbered Request)) (ds : List (Numbered (List ℕ))) → v.world.wire.up ≡ us → v.world.wire.down ≡ ds
           → AreStreamsOf width (record s { counts = tallied false s.counts }) (with_world (client_restarted scene_ends (by_ids width scene_ends) v.world us ds))
       by_queues [] [] eu ed = absurd (busy (up_are ∙ ap (map bytes_of) eu, down_are ∙ ap (map (λ x. x.line)) ed))
-      by_queues [] (y ∷ ds) eu ed = nothing
-      by_queues (x ∷ us) ds eu ed = nothing
+      by_queues [] (y ∷ ds) eu ed = idle_event
+      by_queues (x ∷ us) ds eu ed = idle_event
 
   -- while a line is in flight, a restart of the instrument is only counted
-  pub streams_busy_instrument : ((s.up.texts ≡ []) × (s.down.texts ≡ []) → ⊥) → AreStreamsOf width (record s { counts = tallied false s.counts }) (goes_on width v event.RestartInstrument)
+  pub streams_busy_instrument : ((s.up.texts ≡ []) × (s.down.texts ≡ []) → ⊥) → AreStreamsOf width (record s { counts = tallied false s.counts }) (after_event width v event.RestartInstrument)
   streams_busy_instrument busy = by_queues v.world.wire.up v.world.wire.down refl refl
     where
+      -- by whether lines are in flight upward and downward
       by_queues : (us : List (Numbered Request)) (ds : List (Numbered (List ℕ))) → v.world.wire.up ≡ us → v.world.wire.down ≡ ds
           → AreStreamsOf width (record s { counts = tallied false s.counts }) (with_world (on_wire v.world (instrument_restarted scene_ends v.world.wire us ds)))
       by_queues [] [] eu ed = absurd (busy (up_are ∙ ap (map bytes_of) eu, down_are ∙ ap (map (λ x. x.line)) ed))
-      by_queues [] (y ∷ ds) eu ed = nothing
-      by_queues (x ∷ us) ds eu ed = nothing
+      by_queues [] (y ∷ ds) eu ed = idle_event
+      by_queues (x ∷ us) ds eu ed = idle_event
 
   -- Bytes.
 
   -- an event of 0 bytes, or of bytes while none are in flight, is only counted
-  pub streams_idle_bytes : (d : Direction) (n r : ℕ) → IsLeft d v r → (n ≡ 0) ⊎ (r ≡ 0) → AreStreamsOf width (record s { counts = tallied false s.counts }) (goes_on width v (bytes d n))
+  pub streams_idle_bytes : (d : Direction) (n r : ℕ) → IsRemainder d v r → (n ≡ 0) ⊎ (r ≡ 0) → AreStreamsOf width (record s { counts = tallied false s.counts }) (after_event width v (bytes d n))
   streams_idle_bytes d n r left none =
       subst (λ (x : Streams (ById Call) SceneState). AreStreamsOf width (record s { counts = tallied false s.counts }) x)
-      (sym (bytes_pass scene_ends (by_ids width scene_ends) d v n ∙ by_lines (lines d v.world.wire) n left.left none left.part)) nothing
+      (sym (bytes_pass scene_ends (by_ids width scene_ends) d v n ∙ by_lines (lines d v.world.wire) n left.left none left.part)) idle_event
     where
+      -- an event that is not possible leaves how much of the front lines has gone
       unmoved : (d : Direction) → reaches d v (on_wire v.world (idle v.world.wire)) (gone d v) ≡ with_world (on_wire v.world (idle v.world.wire))
       unmoved Up = refl
       unmoved Down = refl
 
+      -- by whether a line of the direction is in flight, and whether n is 0
       by_lines : (q : List (List ℕ)) (n : ℕ) → r ≡ remaining (gone d v) q → (n ≡ 0) ⊎ (r ≡ 0) → IsPart (gone d v) q
           → passing scene_ends (by_ids width scene_ends) d v q n ≡ with_world (on_wire v.world (idle v.world.wire))
       by_lines [] n e none part = unmoved d
@@ -488,7 +501,3 @@ module _ (width : ℕ) (s : Seen) (v : Streams (ById Call) SceneState) (h : AreS
 -- where P says that no line is in flight, and the test for P gives false, P doesn't hold
 pub is_busy : {P : Type 0} (quiet : Bool) → IsTrue quiet ↔ P → quiet ≡ false → P → ⊥
 is_busy quiet iff not p = let e : quiet ≡ true = iff.1 p in cc
-
--- the upward lane is as long as the world's queue
-pub up_count : (width : ℕ) (s : Seen) (v : Streams (ById Call) SceneState) → AreStreamsOf width s v → length s.up.texts ≡ length v.world.wire.up
-up_count width s v h = ap (λ (f : Flight). length f.texts) h.up ∙ length-map v.world.wire.up bytes_of

@@ -4,7 +4,7 @@ use Rattle.std.proofs.lemmas.List.{take_all, take_more, length-map}
 use Rattle.gc_scenes.specs.SceneState.{SceneState}
 use Rattle.gc_scene_world.specs.Lanes.{Flight}
 use Rattle.gc_scene_world.specs.SceneRuns.{scene_ends, scene_streamed, scene_played}
-use Rattle.gc_scene_world.specs.SceneStages.{Seen, AreStreamsOf, HasRoom, begins, goes_on}
+use Rattle.gc_scene_world.specs.SceneStages.{Seen, AreStreamsOf, HasRoom, streams_at_start, after_event}
 use Rattle.gc_scene_world.proofs.Shown.{bytes_of}
 use Rattle.gc_world.specs.declared.event.Event.{Event}
 use Rattle.gc_world.specs.Clients.{by_ids}
@@ -13,17 +13,17 @@ use Rattle.gc_world.proofs.Flow.{flow_append}
 
 -- the streams after the first i + 1 events are those after the first i, and then event i
 pub played_more : (width : ℕ) (opening : SceneState) (events : List Event) (i : ℕ) (e : Event) → i < length events → e ≡ get_or events i e
-    → scene_streamed width opening (take (i + 1) events) ≡ goes_on width (scene_streamed width opening (take i events)) e
+    → scene_streamed width opening (take (i + 1) events) ≡ after_event width (scene_streamed width opening (take i events)) e
 played_more width opening events i e lt is =
     ap (scene_streamed width opening) (take_more events i e lt ∙ ap (λ x. take i events ++ x ∷ []) (sym is))
-    ∙ flow_append scene_ends (by_ids width scene_ends) (take i events) (e ∷ []) (begins opening)
+    ∙ flow_append scene_ends (by_ids width scene_ends) (take i events) (e ∷ []) (streams_at_start opening)
 
 -- no list of a run is longer than its list of events
 played_within : (width : ℕ) (opening : SceneState) (events : List Event) → IsWithin (length events) (scene_played width opening events).wire
 played_within width opening events =
     let e : 0 + length events ≡ length events = omega arith in
     subst (λ n. IsWithin n (scene_played width opening events).wire) e
-    (within_all scene_ends (by_ids width scene_ends) events (begins opening) 0 (record
+    (within_all scene_ends (by_ids width scene_ends) events (streams_at_start opening) 0 (record
     { sent = omega arith; executed = omega arith; made = omega arith; starts = omega arith; refused = omega arith; idle = omega arith }))
 
 -- after i of so many events as a slice has, the counts have room for one event more

@@ -1,4 +1,4 @@
--- No part of a promise: the lines in flight in one direction, as the code stores them.
+-- The lines in flight in one direction, as the code stores them: for contracts of private functions.
 use Rattle.std.specs.Prelude.{ℕ, ◌+◌, Bool, false, List, [], ◌∷◌, ◌++◌, length, if◌then◌else◌, nat_lt}
 use Rattle.gc_world.specs.Streams.{is_begun}
 use Rattle.gc_world.specs.Worlds.{without, doubled}
@@ -12,18 +12,18 @@ pub record Flight : Type 0 where
 abbrev pub is_whole : ℕ → Flight → Bool
 is_whole k f = if is_begun k f.gone then false else nat_lt k (length f.texts)
 
--- the lines in flight once line k was lost, if it can be
+-- the lines in flight without line k, if it can be lost
 abbrev pub losing : ℕ → Flight → Flight
 losing k f = if is_begun k f.gone then f else record f { texts = without k f.texts }
 
--- the lines in flight once line k was repeated, if it can be
+-- the lines in flight with line k twice, if it can be repeated
 abbrev pub repeating : ℕ → Flight → Flight
 repeating k f = if is_begun k f.gone then f else record f { texts = doubled k f.texts }
 
--- the lines in flight once one more was written
+-- the lines in flight with one more at the back
 abbrev pub pushed : Flight → List ℕ → Flight
 pushed f text = record f { texts = f.texts ++ text ∷ [] }
 
--- the lines in flight once n more bytes of the front line have gone
+-- the lines in flight, with n more bytes of the front line gone
 abbrev pub further : Flight → ℕ → Flight
 further f n = record f { gone = f.gone + n }

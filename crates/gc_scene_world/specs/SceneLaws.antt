@@ -20,13 +20,13 @@ SettlesInOrder =
 abbrev pub RunsAgree : Type 0
 RunsAgree = (width : ℕ) → width ≤ WINDOW → (opening : SceneState) (events : List Event) → (scene_played width opening events).wire ≡ scene_by_numbers width opening events
 
--- where settlement m is answered, its line is among those that the instrument made for request m
+-- if settlement m is an answer, its line is among those that the instrument made for request m
 abbrev pub BooksItsOwn : Type 0
 BooksItsOwn =
     (width : ℕ) → width ≤ WINDOW → (opening : SceneState) (events : List Event) (m : ℕ) (s : Settlement Call) (line : List ℕ) →
     slice_get (scene_played width opening events).wire.settled m ≡ Some s → s.outcome ≡ Answered line →
     (j : ℕ) × (slice_get (scene_played width opening events).wire.made j ≡ Some (record { number = m; line = line }))
 
--- the wire that each list of events leaves keeps the order of the line, as `IsOrderly` has it
+-- after each list of events the lines in flight are in the order of the requests (`IsOrderly`)
 abbrev pub KeepsOrder : Type 0
 KeepsOrder = (width : ℕ) → width ≤ WINDOW → (opening : SceneState) (events : List Event) → IsOrderly width (scene_played width opening events).wire

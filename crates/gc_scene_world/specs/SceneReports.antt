@@ -1,4 +1,4 @@
--- What the report of a run on the instrument of a scene is. This project's own.
+-- What the report of a run on the instrument of a scene says: this project's own.
 use Rattle.std.specs.Prelude.{◌≡◌, length}
 use Rattle.gc_client.specs.Settlements.{AreSettlements}
 use Rattle.gc_scenes.specs.SceneState.{SceneState}

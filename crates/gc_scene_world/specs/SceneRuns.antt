@@ -12,7 +12,7 @@ use Rattle.gc_world.specs.Clients.{streams_by_ids, streams_by_numbers}
 use Rattle.gc_world.specs.Streams.{Streams}
 use Rattle.gc_world.specs.World.{Ends, Wire, World}
 
--- what handing over the request line with this id and call gives
+-- what the instrument does with the request line of this call with this id
 abbrev pub scene_handed : SceneState → ℕ → Call → Handed SceneState
 scene_handed s id call = handed_call s (call_fields call).number (Some id) call
 
@@ -29,6 +29,6 @@ scene_streamed width opening events = streams_by_ids width scene_ends events (sc
 abbrev pub scene_played : ℕ → SceneState → List Event → World (ById Call) SceneState
 scene_played width opening events = (scene_streamed width opening events).world
 
--- the wire that the run by numbers of these events leaves: what comes of them if every reply carries its request's number
+-- the wire that the run by numbers of these events leaves: the run in which the client is told each reply's request
 abbrev pub scene_by_numbers : ℕ → SceneState → List Event → Wire SceneState
 scene_by_numbers width opening events = (streams_by_numbers width scene_ends events (scene_restarted opening)).world.wire

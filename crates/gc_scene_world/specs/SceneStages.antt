@@ -1,5 +1,5 @@
--- No part of a promise: what a stage shows of the streams of a run. A stage is what the code keeps while it plays events: the client, the
--- instrument, the lines in flight in both directions, what was settled, and counts.
+-- How a stage corresponds to the streams of a run: for contracts of private functions. A stage is the code's state while it plays events: the
+-- client, the instrument, the lines in flight in both directions, the settlements, and counts.
 use Rattle.std.specs.Prelude.{◌≡◌, ℕ, ◌+◌, ◌<◌, ◌^◌, List, length, replicate}
 use Rattle.gc_catalogue.specs.Calls.{IsFitting}
 use Rattle.gc_catalogue.specs.declared.call.Call.{Call}
@@ -25,12 +25,12 @@ use Rattle.gc_world.specs.Sides.{IsPart}
 use Rattle.gc_world.specs.Streams.{Streams, untouched, up_texts, down_texts, cut, remaining, flows}
 use Rattle.gc_world.specs.World.{Request, Numbered, run}
 
--- the direction as the world speaks of it
-abbrev pub way : Direction → world.Direction
-way Up = «world's».Up
-way Down = «world's».Down
+-- the direction as `gc_world` has it
+abbrev pub world_direction : Direction → world.Direction
+world_direction Up = «world's».Up
+world_direction Down = «world's».Down
 
--- the parts of a stage that show the streams
+-- the parts of a stage of which contracts speak
 pub record Seen : Type 0 where
   pub client : Windowed Call
   pub instrument : SceneState
@@ -39,29 +39,29 @@ pub record Seen : Type 0 where
   pub settled : List (Settlement Call)
   pub counts : Counts
 
--- these parts of a stage
+-- the parts of this stage
 abbrev pub seen : Stage → Seen
 seen s = record { client = s.client; instrument = s.instrument; up = s.up; down = s.down; settled = s.settled.items; counts = s.counts }
 
 -- the streams before the first event: the instrument is restarted from this state, and nothing is in flight
-abbrev pub begins : SceneState → Streams (ById Call) SceneState
-begins opening = untouched (ids_open (scene_restarted opening))
+abbrev pub streams_at_start : SceneState → Streams (ById Call) SceneState
+streams_at_start opening = untouched (ids_open (scene_restarted opening))
 
 -- the streams after one event of the run by ids, with a window of this width
-abbrev pub goes_on : ℕ → Streams (ById Call) SceneState → Event → Streams (ById Call) SceneState
-goes_on width v e = flows scene_ends (by_ids width scene_ends) v e
+abbrev pub after_event : ℕ → Streams (ById Call) SceneState → Event → Streams (ById Call) SceneState
+after_event width v e = flows scene_ends (by_ids width scene_ends) v e
 
 -- the streams after the next n bytes of a direction
-abbrev pub handed : ℕ → Direction → Streams (ById Call) SceneState → ℕ → Streams (ById Call) SceneState
-handed width d v n =
-    let c = cut (lines (way d) v.world.wire) (gone (way d) v + n) in
-    reaches (way d) v (run scene_ends (by_ids width scene_ends) (replicate c.lines (deliver (way d))) v.world) c.gone
+abbrev pub after_bytes : ℕ → Direction → Streams (ById Call) SceneState → ℕ → Streams (ById Call) SceneState
+after_bytes width d v n =
+    let c = cut (lines (world_direction d) v.world.wire) (gone (world_direction d) v + n) in
+    reaches (world_direction d) v (run scene_ends (by_ids width scene_ends) (replicate c.lines (deliver (world_direction d))) v.world) c.gone
 
--- a client may have written the request: its id is a digit below 8, and its call's numbers lie in their types
+-- a client may have written the request: its id is below 8, and the numbers of its call are in the ranges of their types
 abbrev pub IsAsked : Numbered Request → Type 0
 IsAsked x = (x.line.id < IDS) × IsFitting x.line.call
 
--- the parts of a stage are those of these streams
+-- the parts of a stage, whose client's window has this width, correspond to these streams
 pub record AreStreamsOf (width : ℕ) (s : Seen) (v : Streams (ById Call) SceneState) : Type 0 where
   pub client : s.client ≡ record { width = width; ids = v.world.client }
   pub next : v.world.client.next < IDS
@@ -72,27 +72,44 @@ pub record AreStreamsOf (width : ℕ) (s : Seen) (v : Streams (ById Call) SceneS
   pub settled : AreSettlements s.settled v.world.wire.settled
   pub counts : AreCounts s.counts v.world.wire
 
--- a stage whose client's window is this wide shows these streams
+-- the stage, whose client's window has this width, corresponds to these streams
 abbrev pub Shows : ℕ → Stage → Streams (ById Call) SceneState → Type 0
 Shows width s v = AreStreamsOf width (seen s) v
 
--- the stage shows some streams
+-- the stage corresponds to some streams
 abbrev pub IsShown : Stage → Type 0
 IsShown s = (width : ℕ) × (v : Streams (ById Call) SceneState) × Shows width s v
 
--- whatever streams the stage s shows, the stage t, whose client's window is as wide, shows the streams after this event
+-- for all streams that the stage s shows, the stage t shows the streams after this event
 abbrev pub Follows : Stage → Event → Stage → Type 0
-Follows s e t = (width : ℕ) (v : Streams (ById Call) SceneState) → Shows width s v → Shows width t (goes_on width v e)
+Follows s e t = (width : ℕ) (v : Streams (ById Call) SceneState) → Shows width s v → Shows width t (after_event width v e)
 
--- so many bytes of the front line of a direction are still to go, and not all have gone
-pub record IsLeft (d : world.Direction) (v : Streams (ById Call) SceneState) (n : ℕ) : Type 0 where
+-- `n` bytes of the front line of a direction have still to go, and 0 if there is none; of a line in flight not all bytes have gone
+pub record IsRemainder (d : world.Direction) (v : Streams (ById Call) SceneState) (n : ℕ) : Type 0 where
   pub left : n ≡ remaining (gone d v) (lines d v.world.wire)
   pub part : IsPart (gone d v) (lines d v.world.wire)
 
--- the counts have room for one event more; a request in flight counts as an execution and as a reply
+-- no count overflows at the next event; each request in flight may become an execution and a reply
 pub record HasRoom (s : Seen) : Type 0 where
   pub sent : s.counts.sent + 1 < 2 ^ 64
   pub executed : s.counts.executed + length s.up.texts < 2 ^ 64
   pub made : s.counts.made + length s.up.texts < 2 ^ 64
   pub refused : s.counts.refused_sends + 1 < 2 ^ 64
   pub idle : s.counts.idle_events + 1 < 2 ^ 64
+
+-- on whatever streams the stage shows, more than n bytes of the front line of the direction are still to go
+abbrev pub HasMoreThan : Stage → Direction → ℕ → Type 0
+HasMoreThan s d n = (width : ℕ) (v : Streams (ById Call) SceneState) → Shows width s v
+    → n < remaining (gone (world_direction d) v) (lines (world_direction d) v.world.wire)
+
+-- for all streams that the stage s shows, the stage t shows the streams after the next n bytes of the direction
+abbrev pub FollowsBytes : Stage → Direction → ℕ → Stage → Type 0
+FollowsBytes s d n t = (width : ℕ) (v : Streams (ById Call) SceneState) → Shows width s v → Shows width t (after_bytes width d v n)
+
+-- the count of executions doesn't overflow if each request in flight is executed
+abbrev pub HasRoomForExecutions : Counts → Flight → Type 0
+HasRoomForExecutions counts up = counts.executed + length up.texts < 2 ^ 64
+
+-- the count of replies doesn't overflow if each request in flight gets a reply
+abbrev pub HasRoomForReplies : Counts → Flight → Type 0
+HasRoomForReplies counts up = counts.made + length up.texts < 2 ^ 64

@@ -11,10 +11,11 @@ use std::alloc::{AllocError, Global};
 use std::collections::VecDeque;
 use std::marker::Model;
 
-/// The lines in flight in one direction, the one that was written first in front, and how many bytes of that one have gone.
+/// The lines in flight in one direction, the one that was written first in front.
 #[derive(Drop)]
 pub struct Lane {
     lines: VecDeque<Line>,
+    // How many bytes of the front line have gone, CR LF included.
     gone: usize,
 }
 
@@ -33,7 +34,7 @@ impl Model for Lane {
 }
 
 impl Lane {
-    /// A lane with no line in flight.
+    /// Makes a lane with no line in flight.
     pub fn new(alloc: Global) -> Lane
         ensures { result ≡ record { texts = []; gone = 0 } }
     {
@@ -50,7 +51,7 @@ impl Lane {
         self.lines.is_empty()
     }
 
-    /// How many bytes of the front line are still to go, CR LF counted: 0 if no line is in flight.
+    /// How many bytes of the front line have still to go, CR LF included; 0 if no line is in flight.
     pub fn remaining(&self) -> usize
         ensures left { result ≡ remaining self.now.gone (map with_end self.now.texts) }
         ensures part { IsPart self.now.gone (map with_end self.now.texts) }
@@ -70,7 +71,7 @@ impl Lane {
         Ok(())
     }
 
-    /// Takes out the front line, if there is one, because its last byte goes. Nothing has gone of the next one.
+    /// Takes out the front line, since its last byte goes. `None`: no line is in flight.
     pub fn take(&mut self) -> Option<Line>
         ensures texts { MatchOption result ((self.old.texts ≡ []) × (self.new.texts ≡ [])) (λ line. self.old.texts ≡ line.items ∷ self.new.texts) }
         ensures gone { self.new.gone ≡ 0 }
@@ -80,7 +81,7 @@ impl Lane {
         line
     }
 
-    /// The next `n` bytes of the front line go. They don't complete it.
+    /// Lets the next `n` bytes of the front line go. They don't complete the line.
     pub fn go_on(&mut self, n: usize)
         requires { n < remaining self.old.gone (map with_end self.old.texts) }
         ensures { self.new ≡ further self.old n }
@@ -94,9 +95,9 @@ impl Lane {
         self.gone = end - left;
     }
 
-    /// Line k is lost, if it is in flight and its first byte hasn't gone: says whether. Lines are counted from 0, at the front.
+    /// Takes out line k, counted from 0 at the front, if it is in flight and its first byte hasn't gone. It returns whether it did.
     pub fn lose(&mut self, k: usize) -> bool
-        ensures said { result ≡ is_whole k self.old }
+        ensures possible { result ≡ is_whole k self.old }
         ensures left { self.new ≡ losing k self.old }
     {
         if is_begun(k, self.gone) {
@@ -105,10 +106,10 @@ impl Lane {
         self.lines.remove(k).is_some()
     }
 
-    /// Line k comes twice, the second time directly behind itself, if it is in flight and its first byte hasn't gone: says whether.
-    /// Lines are counted from 0, at the front. `Err`: memory was refused.
+    /// Doubles line k, counted from 0 at the front, if it is in flight and its first byte hasn't gone: a copy comes directly after it. It
+    /// returns whether it did. `Err`: memory for the copy was refused.
     pub fn repeat(&mut self, k: usize) -> Result<bool, AllocError>
-        ensures said { IfOk result (λ said. said ≡ is_whole k self.old) }
+        ensures possible { IfOk result (λ done. done ≡ is_whole k self.old) }
         ensures left { OnOk result (self.new ≡ repeating k self.old) }
     {
         if is_begun(k, self.gone) {

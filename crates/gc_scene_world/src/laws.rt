@@ -16,7 +16,7 @@ pub fn runs_agree()
     ensures { RunsAgree }
 {}
 
-/// Each answer that is booked is a line that the instrument made for that very request.
+/// Where a settlement is an answer, its line is a reply that the instrument made for that very request.
 pub fn answers_are_booked()
     ensures { BooksItsOwn }
 {}

@@ -1,5 +1,5 @@
 //! Schedules over the instrument of a scene: a client and that instrument, and a line between them that loses, repeats and delays, event
-//! by event. It is the world of `gc_world` with another instrument at its end.
+//! by event. The definitions are those of `gc_world`, with the instrument of a scene in place of the simulator.
 #![tactic(auto)]
 
 mod direction;

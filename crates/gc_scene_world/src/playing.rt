@@ -11,8 +11,8 @@ use gc_scenes::SceneInstrument;
 use gc_world::Event;
 use std::alloc::{AllocError, Global};
 
-/// Plays the events in order, from a restarted instrument and a new client that lets `width` requests be outstanding, and returns what
-/// they led to: the settlements and the counts of the world's run by ids ([`laws`](crate::laws)).
+/// Plays the events in order, from a restarted instrument and a new client that lets `width` requests be outstanding, and returns the
+/// settlements and the counts of the run by ids ([`laws`](crate::laws)).
 ///
 /// Whatever the scene's rules say: the settlements are one for one and in order for the requests sent; each answer that the client
 /// booked is a line that the instrument made for that very request; and the run is that of a client which is told the request of each
@@ -24,7 +24,7 @@ use std::alloc::{AllocError, Global};
 ///
 /// It has no clock: the moment of each request is that which the instrument has.
 ///
-/// It fails only where memory for a growth was refused; then nothing is returned.
+/// `Err`: memory for a list that had to grow was refused.
 pub fn play_scene(
     alloc: Global,
     instrument: SceneInstrument,

@@ -3,23 +3,23 @@
 use gc_catalogue::Call;
 use gc_client::Settlement;
 
-/// How often each thing happened.
+/// The counts of a run.
 #[derive(Clone, Copy, Debug, PartialEq, Eq)]
 pub struct Counts {
-    /// How many requests were sent, refused ones not among them.
+    /// How many requests were sent, without those whose send was refused.
     pub sent: usize,
     /// How many requests the instrument executed. A request that a rule of the scene answers counts, and so does each repeat of a
-    /// request where the instrument retains no reply.
+    /// request if the instrument stores no replies.
     pub executed: usize,
-    /// How many replies the instrument sent, those to repeats among them.
+    /// How many replies the instrument sent, including those to repeats.
     pub made: usize,
     /// How many sends were refused.
     pub refused_sends: usize,
-    /// How many events were not possible.
+    /// How many events were not possible, and changed nothing else.
     pub idle_events: usize,
 }
 
-/// What a list of events led to.
+/// The report of a run.
 #[derive(Drop)]
 pub struct SceneReport {
     /// The settlements, in order.

@@ -1,13 +1,13 @@
-//! The stage: what the events so far leave, and what the next one does.
+//! The stage: the state of a run after some events, and what the next event does to it.
 
-ghost use Rattle.std.specs.Prelude.{◌≡◌, ◌↔◌, ◌+◌, ◌<◌, ◌≤◌, ◌^◌, ◌++◌, ℕ, [], OnOk, IsTrue, true, false, length};
+ghost use Rattle.std.specs.Prelude.{◌≡◌, ◌↔◌, ◌+◌, ◌<◌, ◌≤◌, ◌^◌, ◌++◌, ℕ, [], OnOk, IsTrue, true, false};
 ghost use Rattle.gc_catalogue.specs.declared.call.Call.{Call};
 ghost use Rattle.gc_client.specs.Rule.{ById};
 ghost use Rattle.gc_scenes.specs.SceneState.{SceneState};
 ghost use Rattle.gc_world.specs.declared.event.Event.{Event};
-ghost use Rattle.gc_world.specs.Directions.{bytes, delivery, gone, lines};
-ghost use Rattle.gc_world.specs.Streams.{Streams, remaining};
-ghost use Rattle.gc_scene_world.specs.SceneStages.{way, begins, seen, handed, Shows, IsShown, IsLeft, Follows, HasRoom};
+ghost use Rattle.gc_world.specs.Directions.{bytes, delivery};
+ghost use Rattle.gc_world.specs.Streams.{Streams};
+ghost use Rattle.gc_scene_world.specs.SceneStages.{world_direction, streams_at_start, seen, Shows, IsShown, IsRemainder, Follows, FollowsBytes, HasMoreThan, HasRoom, HasRoomForExecutions, HasRoomForReplies};
 
 use crate::direction::Direction;
 use crate::lane::Lane;
@@ -20,13 +20,16 @@ use gc_scenes::SceneInstrument;
 use gc_world::Event;
 use std::alloc::{AllocError, Global};
 
-/// What the events so far leave.
+/// The state of a run.
 #[derive(Drop)]
 pub struct Stage {
     pub client: Client<Slots>,
     pub instrument: SceneInstrument,
+    /// The requests in flight.
     pub up: Lane,
+    /// The replies in flight.
     pub down: Lane,
+    /// The settlements so far, in order.
     pub settled: Vec<Settlement<Call>>,
     pub counts: Counts,
 }
@@ -36,7 +39,7 @@ impl Stage {
     pub fn new(alloc: Global, mut instrument: SceneInstrument, width: u8) -> Stage
         requires least { 1 ≤ width }
         requires most { width ≤ WINDOW }
-        ensures { Shows width result (begins instrument) }
+        ensures { Shows width result (streams_at_start instrument) }
     {
         instrument.restart();
         Stage {
@@ -55,7 +58,7 @@ impl Stage {
         }
     }
 
-    /// Lets one event happen. It fails only where memory for a growth was refused.
+    /// Lets one event happen. `Err`: memory for a list that had to grow was refused.
     pub fn happen(&mut self, event: &Event) -> Result<(), AllocError>
         requires room { HasRoom (seen self.old) }
         requires shown { IsShown self.old }
@@ -93,7 +96,8 @@ impl Stage {
         SceneReport { settled, counts }
     }
 
-    // Sends a request: its line goes to the back of the upward lane. A send that is refused is only counted.
+    // Sends a request: its line goes to the back of the upward lane. A send that the client refuses is only counted. `Err`: memory was
+    // refused.
     fn send(&mut self, target: u32, call: &Call, deadline: u64) -> Result<(), AllocError>
         requires sent { self.old.counts.sent + 1 < 2 ^ 64 }
         requires refused { self.old.counts.refused_sends + 1 < 2 ^ 64 }
@@ -109,10 +113,10 @@ impl Stage {
     }
 
     // Hands the front request to the instrument, and puts the reply at the back of the downward lane. If no request is in flight,
-    // the event is only counted.
+    // the event is only counted. `Err`: memory was refused.
     fn up_deliver(&mut self) -> Result<(), AllocError>
-        requires executed { self.old.counts.executed + length self.old.up.texts < 2 ^ 64 }
-        requires made { self.old.counts.made + length self.old.up.texts < 2 ^ 64 }
+        requires executed { HasRoomForExecutions self.old.counts self.old.up }
+        requires made { HasRoomForReplies self.old.counts self.old.up }
         requires idle { self.old.counts.idle_events + 1 < 2 ^ 64 }
         requires shown { IsShown self.old }
         ensures { OnOk result (Follows self.old Event.UpDeliver self.new) }
@@ -124,7 +128,7 @@ impl Stage {
         let mut reply = Line::new();
         let repeats = self.instrument.repeats();
         let before = self.instrument.kept_id();
-        // A client writes requests alone, and each request gets a reply.
+        // The lines of a client are requests, and each request gets a reply.
         let _answered = self.instrument.reply_onto(request.as_slice(), &mut reply);
         let after = self.instrument.kept_id();
         note_execution(&mut self.counts.executed, repeats, before, after);
@@ -132,7 +136,8 @@ impl Stage {
         self.down.push(reply)
     }
 
-    // Hands the front reply to the client, and notes what it settles. If no reply is in flight, the event is only counted.
+    // Hands the front reply to the client, and appends its settlements to those so far. If no reply is in flight, the event is only
+    // counted. `Err`: memory was refused.
     fn down_deliver(&mut self) -> Result<(), AllocError>
         requires idle { self.old.counts.idle_events + 1 < 2 ^ 64 }
         ensures { OnOk result (Follows self.old Event.DownDeliver self.new) }
@@ -189,11 +194,11 @@ impl Stage {
     }
 
     // Hands over the next `n` bytes of a direction: each line that they complete is delivered. If `n` is 0 or no byte is in flight,
-    // the event is only counted.
+    // the event is only counted. `Err`: memory was refused.
     fn bytes(&mut self, direction: Direction, n: usize) -> Result<(), AllocError>
         requires room { HasRoom (seen self.old) }
         requires shown { IsShown self.old }
-        ensures { OnOk result (Follows self.old (bytes (way direction) n) self.new) }
+        ensures { OnOk result (Follows self.old (bytes (world_direction direction) n) self.new) }
     {
         let mut left = n;
         let mut remaining = self.remaining(direction);
@@ -212,13 +217,14 @@ impl Stage {
         Ok(())
     }
 
-    // Hands over what remains of the front line of a direction. If no line is in flight, the event is only counted.
+    // Hands over what remains of the front line of a direction. If no line is in flight, the event is only counted. `Err`: memory was
+    // refused.
     fn deliver(&mut self, direction: Direction) -> Result<(), AllocError>
-        requires executed { self.old.counts.executed + length self.old.up.texts < 2 ^ 64 }
-        requires made { self.old.counts.made + length self.old.up.texts < 2 ^ 64 }
+        requires executed { HasRoomForExecutions self.old.counts self.old.up }
+        requires made { HasRoomForReplies self.old.counts self.old.up }
         requires idle { self.old.counts.idle_events + 1 < 2 ^ 64 }
         requires shown { IsShown self.old }
-        ensures { OnOk result (Follows self.old (delivery (way direction)) self.new) }
+        ensures { OnOk result (Follows self.old (delivery (world_direction direction)) self.new) }
     {
         match direction {
             Direction::Up => self.up_deliver(),
@@ -226,9 +232,9 @@ impl Stage {
         }
     }
 
-    // How many bytes of the front line of a direction are still to go: 0 if no line is in flight.
+    // How many bytes of the front line of a direction have still to go; 0 if no line is in flight.
     fn remaining(&self, direction: Direction) -> usize
-        ensures { (width : ℕ) (v : Streams (ById Call) SceneState) → Shows width self.now v → IsLeft (way direction) v result }
+        ensures { (width : ℕ) (v : Streams (ById Call) SceneState) → Shows width self.now v → IsRemainder (world_direction direction) v result }
     {
         match direction {
             Direction::Up => self.up.remaining(),
@@ -236,12 +242,11 @@ impl Stage {
         }
     }
 
-    // Hands over the next `n` bytes of the front line of a direction. They don't complete it.
+    // Hands over the next `n` bytes of the front line of a direction. They don't complete the line.
     fn begin(&mut self, direction: Direction, n: usize)
         requires shown { IsShown self.old }
-        requires some { (width : ℕ) (v : Streams (ById Call) SceneState) → Shows width self.old v
-            → n < remaining (gone (way direction) v) (lines (way direction) v.world.wire) }
-        ensures { (width : ℕ) (v : Streams (ById Call) SceneState) → Shows width self.old v → Shows width self.new (handed width direction v n) }
+        requires some { HasMoreThan self.old direction n }
+        ensures { FollowsBytes self.old direction n self.new }
     {
         match direction {
             Direction::Up => self.up.go_on(n),
@@ -251,7 +256,7 @@ impl Stage {
 
     // The ends.
 
-    // Hands this moment to the client, which times out each request whose deadline the moment has reached.
+    // Lets the client time out each request whose deadline is at most `now`.
     fn expire(&mut self, now: u64)
         ensures { Follows self.old (Event.Expire now) self.new }
     {
@@ -259,7 +264,7 @@ impl Stage {
     }
 
     // Restarts the client, which settles all outstanding requests as lost, and the instrument. If a line is in flight, the event is
-    // only counted.
+    // only counted. `Err`: memory was refused.
     fn restart_client(&mut self) -> Result<(), AllocError>
         requires { self.old.counts.idle_events + 1 < 2 ^ 64 }
         ensures { OnOk result (Follows self.old Event.RestartClient self.new) }
@@ -292,8 +297,8 @@ impl Stage {
     }
 }
 
-// Counts an execution, if the instrument retains no replies, or its retained id changed from `before` to `after`: an execution changes
-// that id, and a repeat leaves it.
+// Counts an execution, if the instrument stores no replies (`repeats` is false), or the stored id changed from `before` to `after`: an
+// execution changes that id, and a repeat leaves it.
 fn note_execution(executed: &mut usize, repeats: bool, before: Option<u8>, after: Option<u8>)
     requires { executed.old + 1 < 2 ^ 64 }
     ensures same { repeats ≡ true → before ≡ after → executed.new ≡ executed.old }

@@ -1,4 +1,4 @@
--- What holds of each outcome by the ways of real instruments, and that without them it is the execution table's.
+-- What holds of each outcome with ways of real instruments, and that without ways it is that of the execution table.
 use Rattle.std.proofs.Common.{◌≡◌, ◌≢◌, ℕ, ℤ, ◌<◌, ◌&&◌, Bool, true, false, cond, Option, Some, None, refl, sym, ap, ◌∙◌, lit<}
 use Rattle.std.specs.Prelude.{pos}
 use Rattle.std.specs.Ordering.{int_eq}
@@ -8,11 +8,11 @@ use Rattle.gc_catalogue.specs.declared.answer.Answer.TheVariants as answer
 use Rattle.gc_catalogue.specs.declared.call.Call.{Call}
 use Rattle.gc_catalogue.specs.declared.call.Call.TheVariants as call
 use Rattle.gc_catalogue.specs.declared.call.DateTime.{DateTime}
-use Rattle.gc_instrument.specs.Execution.{Executed, exec, done, told, adjusted, pointed, unmeasured}
+use Rattle.gc_instrument.specs.Execution.{Executed, exec, done, distance_outcome, adjusted, pointed, unmeasured}
 use Rattle.gc_instrument.specs.State.{State}
 use Rattle.gc_instrument.specs.declared.target.Target.{Target}
 use Rattle.gc_instrument.proofs.Executions.{exec_outcome}
-use Rattle.gc_scenes.specs.Acting.{acting, acted, dated, is_plain}
+use Rattle.gc_scenes.specs.Acting.{acting, acted, dated, is_unchanged_by_ways}
 use Rattle.gc_scenes.specs.SceneExecution.{outcome, shown, seen_by}
 use Rattle.gc_scenes.specs.SceneState.{SceneState}
 use Rattle.gc_scenes.specs.Machine.{seeing}
@@ -32,34 +32,34 @@ table_sound s asked = let is = exec_outcome s asked in record { code = is.code; 
 done_sound : (s : State) (a : Answer) → IsSound (done s a)
 done_sound s a = record { code = lit< tt; refuses = λ some. absurd (some refl) }
 
--- the outcome of looking for a target is sound
+-- the outcome of a search that found a target, or none, is sound
 adjusted_sound : (s : State) (o : Option Target) → IsSound (adjusted s o)
 adjusted_sound s (Some t) = record { code = lit< tt; refuses = λ some. absurd (some refl) }
 adjusted_sound s None = record { code = lit< tt; refuses = λ some. refl }
 
 -- the outcome of asking for the distance is sound
-told_sound : (s : State) (f : Decimal → Answer) (o : Option Decimal) → IsSound (told s f o)
-told_sound s f (Some d) = record { code = lit< tt; refuses = λ some. absurd (some refl) }
-told_sound s f None = record { code = lit< tt; refuses = λ some. refl }
+distance_sound : (s : State) (f : Decimal → Answer) (o : Option Decimal) → IsSound (distance_outcome s f o)
+distance_sound s f (Some d) = record { code = lit< tt; refuses = λ some. absurd (some refl) }
+distance_sound s f None = record { code = lit< tt; refuses = λ some. refl }
 
 -- the outcome of asking for the date is sound
 dated_sound : (now : Option DateTime) (s : State) → IsSound (dated now s)
 dated_sound (Some d) s = done_sound s (answer.Date d)
 dated_sound None s = done_sound s (answer.Date s.date)
 
--- where two outcomes are sound, either is
+-- where two outcomes are sound, so is the one of them that a test chooses
 either_sound : (b : Bool) (x y : Executed) → IsSound x → IsSound y → IsSound (cond b x y)
 either_sound true x y is other = is
 either_sound false x y is other = other
 
--- each outcome by the ways is sound
+-- each outcome with ways is sound
 acting_sound : (w : Ways) (now : Option DateTime) (s : State) (asked : Call) → IsSound (acting w now s asked)
 acting_sound w now s (call.Position hz v pos_mode atr_mode dummy) =
     either_sound (w.aims && int_eq atr_mode (pos 1)) _ _ (adjusted_sound (pointed s hz v) (nearest (record { hz = hz; v = v }) s.scene)) (table_sound s (call.Position hz v pos_mode atr_mode dummy))
 acting_sound w now s (call.ChangeFace pos_mode atr_mode dummy) =
     either_sound w.faces _ _ (done_sound (pointed s (other_hz s.pointing.hz) (other_v s.pointing.v)) answer.Nothing) (table_sound s (call.ChangeFace pos_mode atr_mode dummy))
 acting_sound w now s (call.SimpleMea wait mode) =
-    either_sound w.takes _ _ (told_sound (unmeasured s) (λ d. answer.Measured s.pointing.hz s.pointing.v d) s.distance) (table_sound s (call.SimpleMea wait mode))
+    either_sound w.takes _ _ (distance_sound (unmeasured s) (λ d. answer.Measured s.pointing.hz s.pointing.v d) s.distance) (table_sound s (call.SimpleMea wait mode))
 acting_sound w now s call.GetDate = dated_sound now s
 acting_sound w now s asked = table_sound s asked
 
@@ -79,7 +79,7 @@ plain_acting s call.GetDate = refl
 plain_acting s asked = refl
 
 -- a call that no way changes has the table's outcome
-pub acting_plain : (w : Ways) (now : Option DateTime) (s : State) (asked : Call) → is_plain asked ≡ true → acting w now s asked ≡ exec s asked
+pub acting_plain : (w : Ways) (now : Option DateTime) (s : State) (asked : Call) → is_unchanged_by_ways asked ≡ true → acting w now s asked ≡ exec s asked
 acting_plain w now s (call.Position hz v pos_mode atr_mode dummy) is = let never : ⊥ = cc in absurd never
 acting_plain w now s (call.ChangeFace pos_mode atr_mode dummy) is = let never : ⊥ = cc in absurd never
 acting_plain w now s (call.SimpleMea wait mode) is = let never : ⊥ = cc in absurd never
@@ -96,9 +96,9 @@ face_row w now s pos_mode atr_mode dummy x is does =
 
 -- with `takes`, the outcome of TMC_GetSimpleMea is that of answering the distance and clearing it
 pub take_row : (w : Ways) (now : Option DateTime) (s : State) (wait mode : ℤ) (x : Executed) → w.takes ≡ true
-    → told (unmeasured s) (λ d. answer.Measured s.pointing.hz s.pointing.v d) s.distance ≡ x → acting w now s (call.SimpleMea wait mode) ≡ x
+    → distance_outcome (unmeasured s) (λ d. answer.Measured s.pointing.hz s.pointing.v d) s.distance ≡ x → acting w now s (call.SimpleMea wait mode) ≡ x
 take_row w now s wait mode x is does =
-    ap (λ (b : Bool). cond b (told (unmeasured s) (λ d. answer.Measured s.pointing.hz s.pointing.v d) s.distance) (exec s (call.SimpleMea wait mode))) is ∙ does
+    ap (λ (b : Bool). cond b (distance_outcome (unmeasured s) (λ d. answer.Measured s.pointing.hz s.pointing.v d) s.distance) (exec s (call.SimpleMea wait mode))) is ∙ does
 
 -- where no clock runs, the outcome of asking for the date is the table's
 pub date_row : (w : Ways) (now : Option DateTime) (s : State) (x : Executed) → now ≡ None → exec s call.GetDate ≡ x → acting w now s call.GetDate ≡ x

@@ -17,7 +17,7 @@ use Rattle.gc_instrument.proofs.Keeping.{executes_apart}
 use Rattle.gc_scenes.specs.Laws.{still, all_still, ruleless, TableIsTheInstance}
 use Rattle.gc_scenes.specs.Machine.{seeing}
 use Rattle.gc_scenes.specs.Rules.{seen, drifted, moved_by, is_clear}
-use Rattle.gc_scenes.specs.SceneExecution.{Played, plays, told_of, outcome, behind_call, look_of, is_measurement}
+use Rattle.gc_scenes.specs.SceneExecution.{Played, plays, played_of, outcome, after_call, look_of, is_measurement}
 use Rattle.gc_scenes.specs.SceneReplying.{silent, answers, AnswersRequest, names_call, names_none, unreadable, Gave, again_or_played, handed_call, handed_raw, holding}
 use Rattle.gc_scenes.specs.Acting.{acting}
 use Rattle.gc_scenes.specs.Ways.{no_ways}
@@ -30,28 +30,28 @@ no_look look true true x y = let low : 1 ≤ look = leb-true 1 look x in let hig
 no_look look true false x y = refl
 no_look look false b x y = refl
 
--- a target that no rule names can be seen in each look
+-- a target that is never hidden can be seen in each look
 clear_still : (look : ℕ) (t : Target) → is_clear look (still t) ≡ true
 clear_still look t = no_look look (nat_le 1 look) (nat_le look 0) refl refl
 
--- all targets that no rule names can be seen
+-- of targets that are never hidden, all are seen in each look
 seen_still : (look : ℕ) (ts : List Target) → seen false look (all_still ts) ≡ ts
 seen_still look [] = refl
 seen_still look (t ∷ ts) =
     ap (λ (b : Bool). cond b (t ∷ seen false look (all_still ts)) (seen false look (all_still ts))) (clear_still look t) ∙ ap (λ (xs : List Target). t ∷ xs) (seen_still look ts)
 
--- a target that no rule names stays
+-- a target that never moves stays as it is, whether it was measured (true) or not
 still_stays : (b : Bool) (t : Target) → cond b (moved_by None (still t)) (still t) ≡ still t
 still_stays true t = refl
 still_stays false t = refl
 
--- targets that no rule names stay
+-- targets that never move stay as they are after a measurement
 drifted_still : (look : ℕ) (there : Pointing) (ts : List Target) → drifted false look there (all_still ts) ≡ all_still ts
 drifted_still look there [] = refl
 drifted_still look there (t ∷ ts) =
     ap (λ (p : Prism). p ∷ drifted false look there (all_still ts)) (still_stays (is_clear look (still t) && is_at there t) t) ∙ ap (λ (ps : List Prism). still t ∷ ps) (drifted_still look there ts)
 
--- the targets behind a call, whether it measures or not
+-- targets that never move stay as they are after a call, whether it measures (true) or not
 behind_still : (b : Bool) (look : ℕ) (there : Pointing) (ts : List Target) → cond b (drifted false look there (all_still ts)) (all_still ts) ≡ all_still ts
 behind_still true look there ts = drifted_still look there ts
 behind_still false look there ts = refl
@@ -61,34 +61,34 @@ abbrev same_outcome : Executed → Executed
 same_outcome x = record { state = x.state; rc = x.rc; answer = x.answer }
 
 module _ (looks moment : ℕ) (s : State) (call : Call) where
-  -- the outcome is that of the table itself
+  -- the outcome of the call in a scene without rules is that of the execution table
   outcome_is : outcome (ruleless looks moment s) call ≡ same_outcome (exec s call)
   outcome_is =
       ap (λ (ts : List Target). same_outcome (acting no_ways None (seeing ts s) call)) (seen_still (look_of false looks call) s.scene) ∙ ap same_outcome (plain_acting s call)
 
-  -- a call leaves what is kept
+  -- a call leaves the stored reply as it is
   kept_stays : (exec s call).state.kept ≡ s.kept
   kept_stays = ap (λ (x : Executed). x.state.kept) (executes_apart s s.kept call)
 
-  -- the state behind a call, with a reply that is kept
-  behind_is : (kept : Option KeptReply) → ruleless (look_of false looks call) moment (with_kept kept (exec s call).state) ≡ holding kept (behind_call (ruleless looks moment s) call (exec s call))
+  -- the state after the call in a scene without rules is, with any stored reply, that of the table after the call
+  behind_is : (kept : Option KeptReply) → ruleless (look_of false looks call) moment (with_kept kept (exec s call).state) ≡ holding kept (after_call (ruleless looks moment s) call (exec s call))
   behind_is kept =
       let x = exec s call in
       let targets : all_still x.state.scene ≡ cond (is_measurement call) (drifted false (look_of false looks call) s.pointing (all_still s.scene)) (all_still s.scene) =
       ap (λ (t : State). all_still t.scene) (exec_outcome s call).same ∙ sym (behind_still (is_measurement call) (look_of false looks call) s.pointing s.scene) in
       ap (λ (ps : List Prism). record (ruleless (look_of false looks call) moment (with_kept kept x.state)) { prisms = ps }) targets
 
-  -- what comes of the call is made of the table's outcome
-  played : plays (ruleless looks moment s) call ≡ told_of (ruleless looks moment s) call (exec s call)
+  -- what the instrument does with the call is made of the outcome of the table
+  played : plays (ruleless looks moment s) call ≡ played_of (ruleless looks moment s) call (exec s call)
   unfolding plays
-  played = ap (told_of (ruleless looks moment s) call) outcome_is
+  played = ap (played_of (ruleless looks moment s) call) outcome_is
 
-  -- what a request of the call gives that is no repeat
+  -- where the request is no repeat, the table's state after the call and its reply are those of the scene's instrument
   gave_new : (rpc : ℕ) (id : Option ℕ) (after : State) (reply : List ℕ) → kept_line s.kept id ≡ None → after ≡ with_kept (kept_after s.kept id reply) (exec s call).state
       → reply ≡ executed_line (unwrap_or id 0) (exec s call) → Gave (handed_call (ruleless looks moment s) rpc id call) (ruleless (look_of false looks call) moment after) reply
   unfolding handed_call
   gave_new rpc id after reply none state line =
-      let p = told_of (ruleless looks moment s) call (exec s call) in
+      let p = played_of (ruleless looks moment s) call (exec s call) in
       subst (λ (o : Option (List ℕ)). Gave (again_or_played (ruleless looks moment s) id (plays (ruleless looks moment s) call) o) (ruleless (look_of false looks call) moment after) reply) (sym none)
       (subst (λ (y : Played). Gave (again_or_played (ruleless looks moment s) id y None) (ruleless (look_of false looks call) moment after) reply) (sym played)
       (record {
@@ -99,7 +99,7 @@ module _ (looks moment : ℕ) (s : State) (call : Call) where
         line = line;
       }))
 
-  -- what a repeat gives
+  -- where the request is a repeat, the unchanged state and the stored reply are those of the scene's instrument
   gave_kept : (rpc : ℕ) (id : Option ℕ) (after : State) (reply : List ℕ) → kept_line s.kept id ≡ Some reply → after ≡ s
       → Gave (handed_call (ruleless looks moment s) rpc id call) (ruleless looks moment after) reply
   unfolding handed_call
@@ -107,13 +107,13 @@ module _ (looks moment : ℕ) (s : State) (call : Call) where
       subst (λ (o : Option (List ℕ)). Gave (again_or_played (ruleless looks moment s) id (plays (ruleless looks moment s) call) o) (ruleless looks moment after) reply) (sym some)
       (record { state = ap (ruleless looks moment) same; line = refl })
 
--- an unknown procedure is refused
+-- in a scene without rules a request for an unknown procedure is refused, and changes nothing
 gave_refusal : (looks moment rpc : ℕ) (s after : State) (id : Option ℕ) (reply : List ℕ) → after ≡ s → reply ≡ refusal_line (unwrap_or id 0) Unknown
     → Gave (handed_raw (ruleless looks moment s) rpc id) (ruleless looks moment after) reply
 unfolding handed_raw
 gave_refusal looks moment rpc s after id reply same line = record { state = ap (ruleless looks moment) same; line = line }
 
--- what the instrument of the table does with a request, that of a scene without rules does
+-- what the instrument of the table does with a request, the instrument of a scene without rules does
 request_instance : (s t : State) (q : RequestFields) (reply : List ℕ) (looks moment : ℕ) → table.AnswersRequest s q t reply
     → (more : ℕ) × AnswersRequest (ruleless looks moment s) q (ruleless more moment t) reply
 request_instance s t q reply looks moment (table.refuses Unknown is same line) = (looks, names_none is (gave_refusal looks moment q.rpc s t q.id reply same line))
@@ -122,7 +122,7 @@ request_instance s t q reply looks moment (table.answers_call call is (table.rep
 request_instance s t q reply looks moment (table.answers_call call is (table.executes none state line)) =
     (look_of false looks call, names_call call is (gave_new looks moment s call q.rpc q.id t reply none state line))
 
--- what the instrument of the table does with a line, that of a scene without rules does
+-- what the instrument of the table does with a line, the instrument of a scene without rules does
 pub table_is_the_instance : TableIsTheInstance
 table_is_the_instance s t line reply looks moment (table.silent none same quiet) = (looks, silent none (ap (ruleless looks moment) same) quiet)
 table_is_the_instance s t line reply looks moment (table.answers q is text does told) =

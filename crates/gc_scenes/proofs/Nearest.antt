@@ -7,20 +7,20 @@ use Rattle.gc_instrument.specs.declared.target.Target.{Target}
 use Rattle.gc_scenes.specs.Laws.{IsNearest, IsFarOff, IsAimedAt, NearestIsNearest}
 use Rattle.gc_scenes.specs.Ways.{apart, window, nearer, nearest_of}
 
--- what holds of each target of a list
+-- where Q holds of each target of which P does, and P holds of all of a list, Q holds of all of it
 map_all : (P Q : Target → Type 0) → ((t : Target) → P t → Q t) → (ts : List Target) → AllByRecursion P ts → AllByRecursion Q ts
 map_all P Q f [] all = tt
 map_all P Q f (t ∷ ts) all = (f t all.0, map_all P Q f ts all.1)
 
--- what holds of each target of two lists holds of each of both
+-- what holds of each target of two lists holds of each target of the two in a row
 both_all : (P : Target → Type 0) (ts us : List Target) → AllByRecursion P ts → AllByRecursion P us → AllByRecursion P (ts ++ us)
 both_all P [] us a b = b
 both_all P (t ∷ ts) us a b = (a.0, both_all P ts us a.1 b)
 
 module _ (there : Pointing) where
-  -- where none was found so far, the next target is aimed at if it is within the window
-  first : (done : List Target) (t : Target) (b : Bool) → nat_le (apart there t) window ≡ b → IsFarOff there done → IsAimedAt there (done ++ t ∷ []) (cond b (Some t) None)
-  first done t true is far = record {
+  -- where none of the targets `done` is within the window, the next target is aimed at if it is within it (true), and else none
+  aimed_at_first : (done : List Target) (t : Target) (b : Bool) → nat_le (apart there t) window ≡ b → IsFarOff there done → IsAimedAt there (done ++ t ∷ []) (cond b (Some t) None)
+  aimed_at_first done t true is far = record {
     front = done;
     behind = [];
     among = refl;
@@ -28,11 +28,11 @@ module _ (there : Pointing) where
     earlier = map_all (λ u. window < apart there u) (λ u. apart there t < apart there u) (λ u beyond. omega (arith, beyond, leb-true (apart there t) window is)) done far;
     later = tt;
   }
-  first done t false is far = both_all (λ u. window < apart there u) done (t ∷ []) far (leb-false (apart there t) window is, tt)
+  aimed_at_first done t false is far = both_all (λ u. window < apart there u) done (t ∷ []) far (leb-false (apart there t) window is, tt)
 
-  -- where a target was found so far, the nearer of it and the next one is aimed at
-  further : (done : List Target) (u t : Target) (b : Bool) → nat_le (apart there u) (apart there t) ≡ b → IsNearest there done u → IsAimedAt there (done ++ t ∷ []) (cond b (Some u) (Some t))
-  further done u t true is found = record {
+  -- where `u` is the nearest of the targets `done`, the nearer of `u` and the next target is aimed at
+  aimed_at_nearer : (done : List Target) (u t : Target) (b : Bool) → nat_le (apart there u) (apart there t) ≡ b → IsNearest there done u → IsAimedAt there (done ++ t ∷ []) (cond b (Some u) (Some t))
+  aimed_at_nearer done u t true is found = record {
     front = found.front;
     behind = found.behind ++ t ∷ [];
     among = ap (λ (ts : List Target). ts ++ t ∷ []) found.among ∙ append_assoc found.front (u ∷ found.behind) (t ∷ []);
@@ -40,7 +40,7 @@ module _ (there : Pointing) where
     earlier = found.earlier;
     later = both_all (λ x. apart there u ≤ apart there x) found.behind (t ∷ []) found.later (leb-true (apart there u) (apart there t) is, tt);
   }
-  further done u t false is found =
+  aimed_at_nearer done u t false is found =
       let nearer_than : apart there t < apart there u = leb-false (apart there u) (apart there t) is in
       let front = map_all (λ x. apart there u < apart there x) (λ x. apart there t < apart there x) (λ x more. omega (arith, more, nearer_than)) found.front found.earlier in
       let behind = map_all (λ x. apart there u ≤ apart there x) (λ x. apart there t < apart there x) (λ x more. omega (arith, more, nearer_than)) found.behind found.later in
@@ -54,18 +54,18 @@ module _ (there : Pointing) where
         later = tt;
       }
 
-  -- what was found so far, and the next target: `nearer` gives which is aimed at
-  step : (done : List Target) (o : Option Target) (t : Target) → IsAimedAt there done o → IsAimedAt there (done ++ t ∷ []) (nearer there o t)
-  step done None t far = first done t (nat_le (apart there t) window) refl far
-  step done (Some u) t found = further done u t (nat_le (apart there u) (apart there t)) refl found
+  -- where `o` is aimed at among the targets `done`, `nearer` gives what is aimed at once the next target is added
+  aimed_at_next : (done : List Target) (o : Option Target) (t : Target) → IsAimedAt there done o → IsAimedAt there (done ++ t ∷ []) (nearer there o t)
+  aimed_at_next done None t far = aimed_at_first done t (nat_le (apart there t) window) refl far
+  aimed_at_next done (Some u) t found = aimed_at_nearer done u t (nat_le (apart there u) (apart there t)) refl found
 
-  -- what was found so far, and all further targets: `nearest_of` gives which is aimed at
-  walk : (done : List Target) (o : Option Target) (ts : List Target) → IsAimedAt there done o → IsAimedAt there (done ++ ts) (nearest_of there o ts)
-  walk done o [] is = subst (λ (ds : List Target). IsAimedAt there ds o) (sym (append-nil done)) is
-  walk done o (t ∷ ts) is =
+  -- where `o` is aimed at among the targets `done`, `nearest_of` gives what is aimed at once the targets `ts` are added
+  aimed_at_all : (done : List Target) (o : Option Target) (ts : List Target) → IsAimedAt there done o → IsAimedAt there (done ++ ts) (nearest_of there o ts)
+  aimed_at_all done o [] is = subst (λ (ds : List Target). IsAimedAt there ds o) (sym (append-nil done)) is
+  aimed_at_all done o (t ∷ ts) is =
       subst (λ (ds : List Target). IsAimedAt there ds (nearest_of there (nearer there o t) ts)) (append_assoc done (t ∷ []) ts)
-      (walk (done ++ t ∷ []) (nearer there o t) ts (step done o t is))
+      (aimed_at_all (done ++ t ∷ []) (nearer there o t) ts (aimed_at_next done o t is))
 
--- what is aimed at is the nearest target, or each is too far off
+-- `nearest` gives the nearest target within the window, or none if all are beyond it
 pub nearest_is_nearest : NearestIsNearest
-nearest_is_nearest there targets = walk there [] None targets tt
+nearest_is_nearest there targets = aimed_at_all there [] None targets tt

@@ -19,7 +19,7 @@ use Rattle.gc_instrument.specs.Execution.{Executed}
 use Rattle.gc_instrument.specs.Replying.{refusal_line, reply_id}
 use Rattle.gc_scenes.specs.Appending.{AppendsGave, AppendsPlayed, AppendsReply}
 use Rattle.gc_scenes.specs.Rules.{fault_of, answer_of, noisy, noise_after}
-use Rattle.gc_scenes.specs.SceneExecution.{Played, plays, outcome, behind_call, replied_answer, played_call, played_raw, unless_faulted_raw, scripted, counting, faulted}
+use Rattle.gc_scenes.specs.SceneExecution.{Played, plays, outcome, after_call, replied_answer, played_call, played_raw, unless_faulted_raw, scripted, counting, faulted}
 use Rattle.gc_scenes.specs.SceneReplying.{IsPlayed, silent, answers, AnswersRequest, names_call, names_none, unreadable, again_for, again_or_played, handed_call, handed_raw, played_or_refused, holding, kept_behind, line_of}
 use Rattle.gc_scenes.specs.SceneServing.{PlaysFrame}
 use Rattle.gc_scenes.specs.SceneState.{SceneState}
@@ -30,13 +30,13 @@ use Rattle.gc_scenes.proofs.Acted.{outcome_sound}
 
 -- A request that isn't executed, or is.
 
--- where a line is sent again for the id, and is appended, that is what the request gives
+-- where a line is stored for the id, appending that line is what `again_or_played` says of the request
 pub gave_again : (s : SceneState) (id : Option ℕ) (p : Played) (line old new : List ℕ) → again_for s id ≡ Some line → new ≡ old ++ line
     → AppendsGave (again_or_played s id p (again_for s id)) s old new
 gave_again s id p line old new again appended =
     subst (λ (o : Option (List ℕ)). AppendsGave (again_or_played s id p o) s old new) (sym again) (record { state = refl; appended = appended })
 
--- where no line is sent again for the id, and the request's own reply is appended and kept, that is what the request gives
+-- where no line is stored for the id, appending and storing the request's own reply is what `again_or_played` says of the request
 pub gave_played : (s : SceneState) (id : Option ℕ) (p : Played) (number : ℕ) (played after : SceneState) (line old new : List ℕ) → again_for s id ≡ None
     → number ≡ unwrap_or id 0 → played ≡ p.state → new ≡ old ++ line_of number p → line ≡ line_of number p → after ≡ holding (kept_behind played id line) played
     → AppendsGave (again_or_played s id p (again_for s id)) after old new
@@ -48,15 +48,15 @@ gave_played s id p number played after line old new none is state appended own k
       appended = appended ∙ ap (λ (l : List ℕ). old ++ l) one;
     })
 
--- what `again_or_played` makes of the call is what a request for it gives
+-- what `again_or_played` says of a call is what `handed_call` says of a request for it
 pub gave_call : (s after : SceneState) (rpc : ℕ) (id : Option ℕ) (call : Call) (old new : List ℕ) → AppendsGave (again_or_played s id (played_call s rpc call) (again_for s id)) after old new
     → AppendsGave (handed_call s rpc id call) after old new
 unfolding handed_call
 gave_call s after rpc id call old new h = h
 
--- what comes of a request of a procedure that isn't in the table, by what the scene has for it
+-- A request of a procedure that isn't in the table, by what the scene has for it.
 module _ (s after : SceneState) (rpc : ℕ) (id : Option ℕ) (old new : List ℕ) where
-  -- what `played_or_refused` makes of what comes of the request is what the request gives
+  -- what `played_or_refused` says of `played_raw` of the request is what `handed_raw` says of the request
   by_played : (o : Option Played) → played_raw s rpc ≡ o → AppendsGave (played_or_refused s rpc id o) after old new → AppendsGave (handed_raw s rpc id) after old new
   unfolding handed_raw
   by_played o is h = subst (λ (p : Option Played). AppendsGave (played_or_refused s rpc id p) after old new) (sym is) h
@@ -82,7 +82,7 @@ module _ (s after : SceneState) (rpc : ℕ) (id : Option ℕ) (old new : List �
 
 -- Executing.
 
--- noise makes no answer of none
+-- noise leaves the answer `Nothing` as it is
 noise_of_none : (n : Option Noise) (a : Answer) → a ≡ answer.Nothing → noisy n a ≡ answer.Nothing
 noise_of_none None a is = is
 noise_of_none (Some n) a is = ap (noisy (Some n)) is
@@ -96,7 +96,7 @@ refuses s t call code said told is noise some =
 -- executing a call, adding the noise and appending the reply is what `plays` says of the call
 pub executed : (s t u : SceneState) (call : Call) (number code : ℕ) (said told : Answer) (old new : List ℕ)
     → outcome s call ≡ record { state = (outcome s call).state; rc = code; answer = said }
-    → t ≡ record (behind_call s call (outcome s call)) { noise = s.noise } → told ≡ noisy t.noise said → u ≡ record t { noise = noise_after t.noise said }
+    → t ≡ record (after_call s call (outcome s call)) { noise = s.noise } → told ≡ noisy t.noise said → u ≡ record t { noise = noise_after t.noise said }
     → new ≡ old ++ reply_line number code (replied_answer u.ways.values u.base.pointing call code told) u.base.precision → AppendsPlayed number (plays s call) u old new
 unfolding plays
 executed s t u call number code said told old new is state noise drawn appended =
@@ -104,8 +104,8 @@ executed s t u call number code said told old new is state noise drawn appended 
     let rc : code ≡ x.rc = sym (ap (λ (y : Executed). y.rc) is) in
     let ans : said ≡ x.answer = sym (ap (λ (y : Executed). y.answer) is) in
     let quiet : t.noise ≡ s.noise = ap (λ (y : SceneState). y.noise) state in
-    let after : u ≡ behind_call s call x =
-    drawn ∙ ap (λ (y : SceneState). record y { noise = noise_after y.noise said }) state ∙ ap (λ (a : Answer). record (behind_call s call x) { noise = noise_after s.noise a }) ans in
+    let after : u ≡ after_call s call x =
+    drawn ∙ ap (λ (y : SceneState). record y { noise = noise_after y.noise said }) state ∙ ap (λ (a : Answer). record (after_call s call x) { noise = noise_after s.noise a }) ans in
     let said_is : told ≡ noisy s.noise x.answer = noise ∙ ap (λ (n : Option Noise). noisy n said) quiet ∙ ap (noisy s.noise) ans in
     record {
       state = after;
@@ -116,25 +116,25 @@ executed s t u call number code said told old new is state noise drawn appended 
 
 -- Lines.
 
--- what a request for a call gives is the reply to the request
+-- where the reply that `handed_call` gives was appended, `AppendsReply` holds of the request
 pub call_reply : (before after : SceneState) (q : RequestFields) (call : Call) (old new : List ℕ) → IsCall q.rpc q.params call → AppendsGave (handed_call before q.rpc q.id call) after old new
     → AppendsReply before q after old new
 call_reply before after q call old new is h =
     record { text = (handed_call before q.rpc q.id call).reply; appended = h.appended; answers = names_call call is (record { state = h.state; line = refl }) }
 
--- what a request gives whose procedure isn't in the table is the reply to it
+-- where the reply that `handed_raw` gives was appended, `AppendsReply` holds of the request, whose procedure isn't in the table
 pub raw_reply : (before after : SceneState) (q : RequestFields) (old new : List ℕ) → IsRefusal q.rpc q.params Unknown → AppendsGave (handed_raw before q.rpc q.id) after old new
     → AppendsReply before q after old new
 raw_reply before after q old new is h =
     record { text = (handed_raw before q.rpc q.id).reply; appended = h.appended; answers = names_none is (record { state = h.state; line = refl }) }
 
--- the refusal of parameters that can't be read is the reply to the request
+-- where the refusal of parameters that can't be read was appended, `AppendsReply` holds of the request
 pub unread_reply : (s : SceneState) (q : RequestFields) (e : ValueFault) (number : ℕ) (old new : List ℕ) → IsRefusal q.rpc q.params (Parameters e) → number ≡ reply_id q
     → new ≡ old ++ refusal_line number (Parameters e) → AppendsReply s q s old new
 unread_reply s q e number old new is same appended =
     record { text = refusal_line number (Parameters e); appended = appended; answers = unreadable e is refl (ap (λ n. refusal_line n (Parameters e)) same) }
 
--- the reply to the request that a line is is the reply to the line
+-- where a line reads as this request, what the instrument does with the request is what it does with the line
 pub request_played : (before after : SceneState) (line bytes : List ℕ) (q : RequestFields) (text : List ℕ) → bytes ≡ line → IsRequest bytes q
     → AnswersRequest before q after text → IsPlayed before line after (Some text)
 request_played before after line bytes q text same is made = answers q (subst (λ (x : List ℕ). IsRequest x q) same is) text made refl
@@ -149,7 +149,7 @@ silence_played state line bytes fault view same only =
 pub played_alone : (s t : SceneState) (line new : List ℕ) → AppendsAnswer (IsPlayed s line t) [] new true → IsPlayed s line t (Some new)
 played_alone s t line new h = subst (λ (text : List ℕ). IsPlayed s line t (Some text)) (sym h.2) h.1
 
--- appending a line's reply, and CR LF behind it, is how the instrument answers the frame of that line
+-- appending a line's reply, and CR LF after it, is how the instrument answers the frame of that line
 pub answered_line : (before after : SceneState) (line old between new : List ℕ) → AppendsAnswer (IsPlayed before line after) old between true → new ≡ between ++ 13 ∷ 10 ∷ []
     → AppendsAnswer (PlaysFrame before (Line (record { items = line })) after) old new true
 answered_line before after line old between new h e = (with_end h.0, (Some h.0, h.1, refl), e ∙ ap (λ (xs : List ℕ). xs ++ 13 ∷ 10 ∷ []) h.2 ∙ append_assoc old h.0 (13 ∷ 10 ∷ []))

@@ -1,5 +1,5 @@
 -- What the execution table has for each call that turns the telescope or asks for a distance or a target; and that each other call neither
--- looks at targets, at the distance and at what is kept, nor changes them.
+-- depends on the targets, the distance and the stored reply, nor changes them.
 use Rattle.std.proofs.Common.{◌≡◌, ℤ, Bool, true, false, ℕ, List, Option, refl, sym, ap, ◌∙◌, ◌||◌}
 use Rattle.std.specs.Prelude.{int_lt, pos}
 use Rattle.gc_values.specs.declared.decimal.Decimal.{Decimal}
@@ -7,12 +7,12 @@ use Rattle.gc_catalogue.specs.declared.answer.Answer.{Answer}
 use Rattle.gc_catalogue.specs.declared.answer.Answer.TheVariants.{Nothing, Measured, MeasuredMode}
 use Rattle.gc_catalogue.specs.declared.call.Call.{Call}
 use Rattle.gc_catalogue.specs.declared.call.Call.TheVariants as call
-use Rattle.gc_instrument.specs.Execution.{Executed, exec, done, set_if, told, commanded, measured, pointed, turned_over, searched, adjusted}
+use Rattle.gc_instrument.specs.Execution.{Executed, exec, done, set_if, distance_outcome, commanded, measured, pointed, turned_over, searched, adjusted}
 use Rattle.gc_instrument.specs.State.{State, KeptReply}
 use Rattle.gc_instrument.specs.Targets.{first_within}
 use Rattle.gc_instrument.specs.declared.target.Target.{Target}
 use Rattle.gc_instrument.proofs.Executions.{exec_outcome}
-use Rattle.gc_scenes.specs.Machine.{with_parts, outcome_with_parts, is_other, CarriesOut}
+use Rattle.gc_scenes.specs.Machine.{with_parts, outcome_with_parts, is_passed_on, CarriesOut}
 
 -- what the table has for TMC_DoMeasure
 pub row_command : (s : State) (command mode : ℤ) → exec s (call.DoMeasure command mode) ≡ commanded s command
@@ -20,21 +20,21 @@ unfolding exec
 row_command s command mode = refl
 
 -- what the table has for TMC_GetSimpleMea
-pub row_simple : (s : State) (wait mode : ℤ) → exec s (call.SimpleMea wait mode) ≡ told s (λ d. Measured s.pointing.hz s.pointing.v d) s.distance
+pub row_simple : (s : State) (wait mode : ℤ) → exec s (call.SimpleMea wait mode) ≡ distance_outcome s (λ d. Measured s.pointing.hz s.pointing.v d) s.distance
 unfolding exec
 row_simple s wait mode = refl
 
 -- what the table has for TMC_QuickDist
-pub row_quick : (s : State) → exec s call.QuickDist ≡ told (measured s) (λ d. Measured s.pointing.hz s.pointing.v d) (measured s).distance
+pub row_quick : (s : State) → exec s call.QuickDist ≡ distance_outcome (measured s) (λ d. Measured s.pointing.hz s.pointing.v d) (measured s).distance
 unfolding exec
 row_quick s = refl
 
 -- measuring, and answering as TMC_GetSimpleMea does, is TMC_QuickDist
-pub row_quick_of : (s m : State) (x : Executed) → m ≡ measured s → told m (λ d. Measured m.pointing.hz m.pointing.v d) m.distance ≡ x → exec s call.QuickDist ≡ x
-row_quick_of s m x is does = row_quick s ∙ ap (λ (t : State). told t (λ d. Measured t.pointing.hz t.pointing.v d) t.distance) (sym is) ∙ does
+pub row_quick_of : (s m : State) (x : Executed) → m ≡ measured s → distance_outcome m (λ d. Measured m.pointing.hz m.pointing.v d) m.distance ≡ x → exec s call.QuickDist ≡ x
+row_quick_of s m x is does = row_quick s ∙ ap (λ (t : State). distance_outcome t (λ d. Measured t.pointing.hz t.pointing.v d) t.distance) (sym is) ∙ does
 
 -- what the table has for BAP_MeasDistanceAngle
-pub row_distance : (s : State) (mode : ℤ) → exec s (call.MeasDistance mode) ≡ told (measured s) (λ d. MeasuredMode s.pointing.hz s.pointing.v d mode) (measured s).distance
+pub row_distance : (s : State) (mode : ℤ) → exec s (call.MeasDistance mode) ≡ distance_outcome (measured s) (λ d. MeasuredMode s.pointing.hz s.pointing.v d mode) (measured s).distance
 unfolding exec
 row_distance s mode = refl
 
@@ -53,14 +53,14 @@ pub row_adjust : (s : State) (area_hz area_v : Decimal) (dummy : Bool) → exec 
 unfolding exec
 row_adjust s area_hz area_v dummy = refl
 
--- setting a value is the same over any targets, distance and kept reply
+-- the outcome of setting a value doesn't depend on targets, distance and stored reply
 set_over : (targets : List Target) (d : Option Decimal) (kept : Option KeptReply) (b : Bool) (s t : State)
     → set_if b (with_parts targets d kept s) (with_parts targets d kept t) ≡ outcome_with_parts targets d kept (set_if b s t)
 set_over targets d kept true s t = refl
 set_over targets d kept false s t = refl
 
--- each other call is the same over any targets, distance and kept reply
-pub others : (targets : List Target) (d : Option Decimal) (kept : Option KeptReply) (s : State) (asked : Call) → is_other asked ≡ true
+-- the outcome of a call that is passed on doesn't depend on targets, distance and stored reply
+pub others : (targets : List Target) (d : Option Decimal) (kept : Option KeptReply) (s : State) (asked : Call) → is_passed_on asked ≡ true
     → exec (with_parts targets d kept s) asked ≡ outcome_with_parts targets d kept (exec s asked)
 unfolding exec
 others targets d kept s (call.SetPrecision n) is = set_over targets d kept _ _ _
@@ -75,8 +75,8 @@ others targets d kept s (call.ChangeFace pos_mode atr_mode dummy) is = let never
 others targets d kept s (call.FineAdjust area_hz area_v dummy) is = let never : ⊥ = cc in absurd never
 others targets d kept s asked is = refl
 
--- another call that an instrument without targets carried out is carried out so over any targets
-pub passed : (targets : List Target) (d : Option Decimal) (kept : Option KeptReply) (before after : State) (asked : Call) (code : ℕ) (said : Answer) → is_other asked ≡ true
+-- where an instrument carried out a call that is passed on, `CarriesOut` holds of that call over any targets
+pub passed : (targets : List Target) (d : Option Decimal) (kept : Option KeptReply) (before after : State) (asked : Call) (code : ℕ) (said : Answer) → is_passed_on asked ≡ true
     → exec before asked ≡ record { state = after; rc = code; answer = said }
     → CarriesOut targets (with_parts before.scene d kept before) asked (with_parts after.scene d kept after) code said
 passed targets d kept before after asked code said other does = record {

@@ -10,7 +10,7 @@ use Rattle.gc_scenes.specs.SceneState.{SceneState}
 use Rattle.gc_scenes.specs.Slow.{SlowState, Hears, silent, replies, IsTaken, IsDelay, delay_of, later, scene_then, taken_up}
 use Rattle.gc_scenes.specs.declared.delay.Delay.{Delay}
 
--- the delay of the request that was read is that of the line
+-- the delay of the request that a line reads as is the delay of the line
 pub delay_read : (delays : List Delay) (line : List ℕ) (view : Request → RequestFields) (r : Request) (ms : ℕ)
     → ((q : RequestFields) → IsRequest line q → Gives view (Ok r) (Ok q)) → ms ≡ delay_of (view r).rpc delays → IsDelay delays line ms
 delay_read delays line view r ms only is = λ q reads.
@@ -18,7 +18,7 @@ delay_read delays line view r ms only is = λ q reads.
     let one : q ≡ view r = cc in
     is ∙ ap (λ (x : RequestFields). delay_of x.rpc delays) (sym one)
 
--- a line that isn't read as a request is none
+-- a line that doesn't read as a request is no request, so `IsDelay` holds of it with any delay
 pub delay_unread : (delays : List Delay) (line : List ℕ) (view : Request → RequestFields) (fault : LineFault) (ms : ℕ)
     → ((q : RequestFields) → IsRequest line q → Gives view (Err fault) (Ok q)) → IsDelay delays line ms
 delay_unread delays line view fault ms only = λ q reads. let wrong : ◌≡◌ {A = Result RequestFields LineFault} (Ok q) (Err fault) = only q reads in cc

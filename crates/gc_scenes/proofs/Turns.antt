@@ -1,4 +1,4 @@
--- From one state a line leads to one state and one reply.
+-- A state and a line determine the state after the line and the reply.
 use Rattle.std.proofs.Common.{◌≡◌, List, ℕ, Some, sym, ap, ◌∙◌, subst}
 use Rattle.gc_lines.specs.Requests.{RequestFields}
 use Rattle.gc_lines.proofs.Requests.{one_request}
@@ -12,15 +12,15 @@ use Rattle.gc_scenes.specs.Laws.{OneReply}
 use Rattle.gc_scenes.specs.SceneReplying.{silent, answers, AnswersRequest, names_call, names_none, unreadable, Gave, handed_call, handed_raw}
 use Rattle.gc_scenes.specs.SceneState.{SceneState}
 
--- what a request gives has one state and one reply
+-- states and replies that are those of `h` are equal
 one_given : (h : Handed SceneState) (t u : SceneState) (x y : List ℕ) → Gave h t x → Gave h u y → (t ≡ u) × (x ≡ y)
 one_given h t u x y a b = (a.state ∙ sym b.state, a.line ∙ sym b.line)
 
 -- the fault `Unknown` isn't a fault of parameters
-apart : (e : ValueFault) → ◌≡◌ {A = CallFault} Unknown (Parameters e) → ⊥
-apart e is = cc
+unknown_not_parameters : (e : ValueFault) → ◌≡◌ {A = CallFault} Unknown (Parameters e) → ⊥
+unknown_not_parameters e is = cc
 
--- from one state a request leads to one state and one reply
+-- a state and a request determine the state after the request and the reply
 one_answer : (s t u : SceneState) (q : RequestFields) (x y : List ℕ) → AnswersRequest s q t x → AnswersRequest s q u y → (t ≡ u) × (x ≡ y)
 one_answer s t u q x y (names_call c is does) (names_call d other makes) =
     one_given (handed_call s q.rpc q.id d) t u x y (subst (λ (a : Call). Gave (handed_call s q.rpc q.id a) t x) (one_call q.rpc q.params c d is other) does) makes
@@ -28,13 +28,13 @@ one_answer s t u q x y (names_call c is does) (names_none other makes) = absurd 
 one_answer s t u q x y (names_call c is does) (unreadable e other again told) = absurd (no_refusal q.rpc q.params c (Parameters e) is other)
 one_answer s t u q x y (names_none is does) (names_call c other makes) = absurd (no_refusal q.rpc q.params c Unknown other is)
 one_answer s t u q x y (names_none is does) (names_none other makes) = one_given (handed_raw s q.rpc q.id) t u x y does makes
-one_answer s t u q x y (names_none is does) (unreadable e other again told) = absurd (apart e (one_refusal q.rpc q.params Unknown (Parameters e) is other))
+one_answer s t u q x y (names_none is does) (unreadable e other again told) = absurd (unknown_not_parameters e (one_refusal q.rpc q.params Unknown (Parameters e) is other))
 one_answer s t u q x y (unreadable e is same made) (names_call c other makes) = absurd (no_refusal q.rpc q.params c (Parameters e) other is)
-one_answer s t u q x y (unreadable e is same made) (names_none other makes) = absurd (apart e (one_refusal q.rpc q.params Unknown (Parameters e) other is))
+one_answer s t u q x y (unreadable e is same made) (names_none other makes) = absurd (unknown_not_parameters e (one_refusal q.rpc q.params Unknown (Parameters e) other is))
 one_answer s t u q x y (unreadable e is same made) (unreadable f other again told) =
     (same ∙ sym again, made ∙ ap (λ (g : CallFault). refusal_line (reply_id q) g) (one_refusal q.rpc q.params (Parameters e) (Parameters f) is other) ∙ sym told)
 
--- from one state a line leads to one state, and to one reply or to none
+-- a state and a line determine the state after the line, and the reply or that there is none
 pub one_reply : OneReply
 one_reply s t u line p q (silent none same quiet) (silent never again mute) = (same ∙ sym again, quiet ∙ sym mute)
 one_reply s t u line p q (silent none same quiet) (answers r is text does told) = absurd (none r is)

@@ -6,17 +6,17 @@ use Rattle.gc_scenes.specs.SceneExecution.{Played}
 use Rattle.gc_scenes.specs.SceneReplying.{AnswersRequest, line_of}
 use Rattle.gc_scenes.specs.SceneState.{SceneState}
 
--- the request gave what x says: the state after it is that of x, and the reply of x was appended
+-- the state after a request is that of `x`, and the reply of `x` was appended to `old`
 pub record AppendsGave (x : Handed SceneState) (after : SceneState) (old new : List ℕ) : Type 0 where
   pub state : after ≡ x.state
   pub appended : new ≡ old ++ x.reply
 
--- the request came out as p says: the state after it is that of p, and the line of p with this id was appended
+-- the state after a request is that of `p`, and the reply line of `p` with this id was appended to `old`
 pub record AppendsPlayed (number : ℕ) (p : Played) (after : SceneState) (old new : List ℕ) : Type 0 where
   pub state : after ≡ p.state
   pub appended : new ≡ old ++ line_of number p
 
--- the reply to a request was appended
+-- the reply to the request was appended to `old`, by `AnswersRequest`
 pub record AppendsReply (before : SceneState) (q : RequestFields) (after : SceneState) (old new : List ℕ) : Type 0 where
   pub text : List ℕ
   pub appended : new ≡ old ++ text

@@ -23,7 +23,7 @@ next_day d =
     if nat_le (d.day + 1) (days_in (unsigned_abs d.year) d.month) then record d { day = d.day + 1 }
     else (if nat_le (d.month + 1) 12 then record d { day = 1; month = d.month + 1 } else record d { day = 1; month = 1; year = next_year d.year })
 
--- the date so many days later, at the same time of day
+-- the date this many days later, at the same time of day
 abbrev pub days_on : ℕ → DateTime → DateTime
 days_on zero d = d
 days_on (suc n) d = next_day (days_on n d)
@@ -32,14 +32,14 @@ days_on (suc n) d = next_day (days_on n d)
 abbrev pub second_of : DateTime → ℕ
 second_of d = d.hour * 3600 + d.minute * 60 + d.second
 
--- the same day, so many seconds after midnight
+-- the same day, this many seconds after midnight
 abbrev pub at_second : ℕ → DateTime → DateTime
 at_second s d = record d { hour = s / 3600; minute = s / 60 % 60; second = s % 60 }
 
--- the date and time so many seconds later; a day has 86,400 seconds
+-- the date and time this many seconds later; a day has 86,400 seconds
 abbrev pub later : ℕ → DateTime → DateTime
 later n d = at_second ((second_of d + n) % 86400) (days_on ((second_of d + n) / 86400) d)
 
--- what a clock shows at this moment: the date that it was set to, and the whole seconds since then later
+-- what a clock shows at this moment, in milliseconds: the date that it was set to plus the whole seconds since then
 abbrev pub shown_at : ℕ → Clock → DateTime
 shown_at moment c = later ((moment - c.at) / 1000) c.set

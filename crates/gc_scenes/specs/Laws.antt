@@ -11,16 +11,17 @@ use Rattle.gc_scenes.specs.SceneReplying.{IsPlayed}
 use Rattle.gc_scenes.specs.SceneState.{SceneState}
 use Rattle.gc_scenes.specs.declared.rules.Prism.{Prism}
 
--- a target that no rule names
+-- a target that never moves and is never hidden
 abbrev pub still : Target → Prism
 still t = record { at = t; drift = None; from = 1; to = 0 }
 
--- targets that no rule names
+-- targets that never move and are never hidden
 abbrev pub all_still : List Target → List Prism
 all_still [] = []
 all_still (t ∷ ts) = still t ∷ all_still ts
 
--- an instrument in a scene without rules, in which so many looks were made, at this moment
+-- the state of an instrument in a scene without rules, with the values and the targets of the state `s` of the execution table: so many looks
+-- there were, and this is the moment of the next request
 abbrev pub ruleless : ℕ → ℕ → State → SceneState
 ruleless looks moment s = record {
   base = seeing [] s;
@@ -35,12 +36,12 @@ ruleless looks moment s = record {
   moment = moment;
 }
 
--- the execution table is the instance without rules: what the instrument of the table does with a line, that of a scene without rules does
+-- in a scene without rules the instrument does with a line what the instrument of the execution table does, and replies the same
 abbrev pub TableIsTheInstance : Type 0
 TableIsTheInstance = (before after : State) (line : List ℕ) (reply : Option (List ℕ)) (looks moment : ℕ) → table.IsReplied before line after reply
     → (more : ℕ) × IsPlayed (ruleless looks moment before) line (ruleless more moment after) reply
 
--- from one state, as from one seed, a line leads to one state, and to one reply or to none
+-- a state, which contains the noise's seed, and a line determine the state after the line, and the reply or that there is none
 abbrev pub OneReply : Type 0
 OneReply = (s t u : SceneState) (line : List ℕ) (p q : Option (List ℕ)) → IsPlayed s line t p → IsPlayed s line u q → (t ≡ u) × (p ≡ q)
 
@@ -48,7 +49,7 @@ OneReply = (s t u : SceneState) (line : List ℕ) (p q : Option (List ℕ)) → 
 abbrev pub IsFarOff : Pointing → List Target → Type 0
 IsFarOff there targets = AllByRecursion (λ u. window < apart there u) targets
 
--- this target is one of them and within the window; each earlier one is farther off, and no later one is nearer
+-- `t` is one of these targets and within the window; each target before it is farther off, and none after it is nearer
 pub record IsNearest (there : Pointing) (targets : List Target) (t : Target) : Type 0 where
   pub front : List Target
   pub behind : List Target
@@ -57,11 +58,11 @@ pub record IsNearest (there : Pointing) (targets : List Target) (t : Target) : T
   pub earlier : AllByRecursion (λ u. apart there t < apart there u) front
   pub later : AllByRecursion (λ u. apart there t ≤ apart there u) behind
 
--- this target is aimed at, or none is
+-- this is the target to aim at: the nearest one (`IsNearest`), or none if all are beyond the window
 abbrev pub IsAimedAt : Pointing → List Target → Option Target → Type 0
 IsAimedAt there targets (Some t) = IsNearest there targets t
 IsAimedAt there targets None = IsFarOff there targets
 
--- target recognition aims at the nearest target within the window, the first of several; where it aims at none, each is beyond it
+-- `nearest` gives the nearest target within the window, the first of several that are equally near, or none if all are beyond the window
 abbrev pub NearestIsNearest : Type 0
 NearestIsNearest = (there : Pointing) (targets : List Target) → IsAimedAt there targets (nearest there targets)

@@ -1,29 +1,30 @@
--- The instrument of the table over targets that are handed to it, this project's own.
-use Rattle.std.specs.Prelude.{◌≡◌, ℕ, Bool, true, false, List, Option, Some, None}
+-- The instrument of the execution table over targets that each call is passed: this project's own.
+use Rattle.std.specs.Prelude.{◌≡◌, ℕ, ℤ, Bool, true, false, List, Option, Some, None}
 use Rattle.gc_values.specs.declared.decimal.Decimal.{Decimal}
 use Rattle.gc_catalogue.specs.declared.answer.Answer.{Answer}
+use Rattle.gc_catalogue.specs.declared.answer.Answer.TheVariants.{Measured, MeasuredMode}
 use Rattle.gc_catalogue.specs.declared.call.Call.{Call}
 use Rattle.gc_catalogue.specs.declared.call.Call.TheVariants as call
-use Rattle.gc_instrument.specs.Execution.{Executed, exec}
+use Rattle.gc_instrument.specs.Execution.{Executed, exec, distance_outcome, measured}
 use Rattle.gc_instrument.specs.State.{State, KeptReply}
 use Rattle.gc_instrument.specs.declared.target.Target.{Target}
 use Rattle.gc_scenes.specs.declared.machine.Held.{Held}
 use Rattle.gc_scenes.specs.declared.machine.Machine.TheInside.{Inside}
 
--- the state with these targets, this distance and this kept reply
+-- the state with these targets, this distance and this stored reply
 abbrev pub with_parts : List Target → Option Decimal → Option KeptReply → State → State
 with_parts targets d kept s = record s { scene = targets; distance = d; kept = kept }
 
--- the outcome with these targets, this distance and this kept reply
+-- the outcome whose state has these targets, this distance and this stored reply
 abbrev pub outcome_with_parts : List Target → Option Decimal → Option KeptReply → Executed → Executed
 outcome_with_parts targets d kept x = record x { state = with_parts targets d kept x.state }
 
--- the kept reply, as the table's state has it
+-- the stored reply of a machine, as the state of the execution table has it
 abbrev pub kept_of : Option Held → Option KeptReply
 kept_of None = None
 kept_of (Some h) = Some (record { id = h.id; line = h.line.items })
 
--- the state of a machine: that of its base, with the machine's own distance and kept reply
+-- the state of a machine: that of its base, with the machine's own distance and stored reply
 abbrev pub machine_of : Inside → State
 machine_of i = with_parts i.base.scene i.distance (kept_of i.kept) i.base
 
@@ -31,18 +32,28 @@ machine_of i = with_parts i.base.scene i.distance (kept_of i.kept) i.base
 abbrev pub seeing : List Target → State → State
 seeing targets s = record s { scene = targets }
 
--- whether the call neither turns the telescope, nor asks for a distance or a target
-abbrev pub is_other : Call → Bool
-is_other (call.DoMeasure command mode) = false
-is_other (call.SimpleMea wait mode) = false
-is_other call.QuickDist = false
-is_other (call.MeasDistance mode) = false
-is_other (call.Position hz v pos_mode atr_mode dummy) = false
-is_other (call.ChangeFace pos_mode atr_mode dummy) = false
-is_other (call.FineAdjust area_hz area_v dummy) = false
-is_other asked = true
+-- whether a machine passes the call on to its base: it neither turns the telescope, nor asks for a distance or a target
+abbrev pub is_passed_on : Call → Bool
+is_passed_on (call.DoMeasure command mode) = false
+is_passed_on (call.SimpleMea wait mode) = false
+is_passed_on call.QuickDist = false
+is_passed_on (call.MeasDistance mode) = false
+is_passed_on (call.Position hz v pos_mode atr_mode dummy) = false
+is_passed_on (call.ChangeFace pos_mode atr_mode dummy) = false
+is_passed_on (call.FineAdjust area_hz area_v dummy) = false
+is_passed_on asked = true
 
--- over these targets the table's outcome is this state, this code and this answer; the targets of the state itself stay
-pub record CarriesOut (targets : List Target) (before : State) (asked : Call) (after : State) (code : ℕ) (said : Answer) : Type 0 where
-  pub gives : exec (seeing targets before) asked ≡ record { state = seeing targets after; rc = code; answer = said }
+-- over these targets, the outcome of the call by the execution table is the state `after`, this code and this answer; the targets of the state
+-- itself stay
+pub record CarriesOut (targets : List Target) (before : State) (asked : Call) (after : State) (code : ℕ) (answered : Answer) : Type 0 where
+  pub gives : exec (seeing targets before) asked ≡ record { state = seeing targets after; rc = code; answer = answered }
   pub same : after.scene ≡ before.scene
+
+-- the outcome that answers the angles and the distance of the state s, and leaves the state `after`; without a distance it is a refusal
+abbrev pub simply_measured : (s after : State) → Executed
+simply_measured s after = distance_outcome after (λ d. Measured s.pointing.hz s.pointing.v d) s.distance
+
+-- the outcome of measuring over these targets in the state s: the angles, the distance and the mode; without a distance it is a refusal
+abbrev pub measured_in_mode : List Target → State → ℤ → Executed
+measured_in_mode targets s mode =
+    distance_outcome (measured (seeing targets s)) (λ d. MeasuredMode s.pointing.hz s.pointing.v d mode) (measured (seeing targets s)).distance

@@ -3,7 +3,7 @@ use Rattle.std.specs.Prelude.{ℕ, List, [], Option, Some, None}
 use Rattle.gc_catalogue.specs.RawTexts.{raw_bytes}
 use Rattle.gc_catalogue.specs.declared.raw.RawCall.{RawCall}
 
--- the parameters of this request, as they are; none without a request
+-- the parameters of a scripted reply: those of the request `with` of its procedure, as they are; none without a request
 abbrev pub scripted_params : Option RawCall → List ℕ
 scripted_params None = []
 scripted_params (Some call) = raw_bytes call.params

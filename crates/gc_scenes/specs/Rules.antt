@@ -1,4 +1,4 @@
--- What each rule of a scene does: to targets, to requests and to answers. This project's own.
+-- What each rule of a scene does to targets, to requests and to answers. A look is a measurement or a search. This project's own.
 use Rattle.std.specs.Prelude.{ℕ, ◌+◌, ◌-◌, ◌==◌, ◌&&◌, not, Bool, true, false, List, [], ◌∷◌, Option, Some, None, nat_le, if◌then◌else◌, min}
 use Rattle.gc_values.specs.Decimals.{units}
 use Rattle.gc_catalogue.specs.declared.answer.Answer.{Answer}
@@ -7,7 +7,7 @@ use Rattle.gc_instrument.specs.Targets.{is_at}
 use Rattle.gc_instrument.specs.declared.pointing.Pointing.{Pointing}
 use Rattle.gc_instrument.specs.declared.target.Target.{Target}
 use Rattle.gc_scenes.specs.Shifting.{shifted, next, deviation}
-use Rattle.gc_scenes.specs.Ways.{met}
+use Rattle.gc_scenes.specs.Ways.{target_in_face}
 use Rattle.gc_scenes.specs.declared.rules.Prism.{Prism}
 use Rattle.gc_scenes.specs.declared.rules.Offset.{Offset}
 use Rattle.gc_scenes.specs.declared.rules.Fault.{Fault}
@@ -24,25 +24,25 @@ one_more n = min (n + 1) 4294967295
 abbrev pub is_clear : ℕ → Prism → Bool
 is_clear look p = not (nat_le p.from look && nat_le look p.to)
 
--- the targets that aren't hidden in this look, each in the direction in which the telescope meets it: in face II (true), or its own
+-- the targets that aren't hidden in this look, each with the angles at which the telescope points at it: those of face II if `over`
 abbrev pub seen : Bool → ℕ → List Prism → List Target
 seen over look [] = []
-seen over look (p ∷ ps) = if is_clear look p then met over p.at ∷ seen over look ps else seen over look ps
+seen over look (p ∷ ps) = if is_clear look p then target_in_face over p.at ∷ seen over look ps else seen over look ps
 
--- the target, moved so much
+-- the target moved by this offset
 abbrev pub offset : Offset → Target → Target
 offset o t = record { hz = shifted t.hz (units o.hz); v = shifted t.v (units o.v); distance = shifted t.distance (units o.distance) }
 
--- the target after a measurement of it
+-- the target after a measurement of it: moved by its drift, if it has one
 abbrev pub moved_by : Option Offset → Prism → Prism
 moved_by None p = p
 moved_by (Some o) p = record p { at = offset o p.at }
 
--- the target after a measurement in this look, with the telescope pointing there: it moves if it was measured
+-- the target after a measurement in this look, with the telescope pointing `there`, in face II if `over`: moved, if this target was measured
 abbrev pub moved : Bool → ℕ → Pointing → Prism → Prism
-moved over look there p = if is_clear look p && is_at there (met over p.at) then moved_by p.drift p else p
+moved over look there p = if is_clear look p && is_at there (target_in_face over p.at) then moved_by p.drift p else p
 
--- the targets after a measurement in this look, with the telescope pointing there: those that were measured have moved
+-- the targets after a measurement in this look, with the telescope pointing `there`, in face II if `over`: those that were measured have moved
 abbrev pub drifted : Bool → ℕ → Pointing → List Prism → List Prism
 drifted over look there [] = []
 drifted over look there (p ∷ ps) = moved over look there p ∷ drifted over look there ps
@@ -53,7 +53,7 @@ drifted over look there (p ∷ ps) = moved over look there p ∷ drifted over lo
 abbrev pub is_due : ℕ → Fault → Bool
 is_due rpc f = (f.rpc == rpc) && (nat_le f.after f.met && nat_le (f.met - f.after + 1) f.times)
 
--- the return code of the first fault that answers the next request of this procedure
+-- the return code of the first fault that answers the next request of this procedure, if one does
 abbrev pub fault_of : ℕ → List Fault → Option ℕ
 fault_of rpc [] = None
 fault_of rpc (f ∷ fs) = if is_due rpc f then Some f.rc else fault_of rpc fs
@@ -67,7 +67,7 @@ abbrev pub counted : ℕ → List Fault → List Fault
 counted rpc [] = []
 counted rpc (f ∷ fs) = met_once rpc f ∷ counted rpc fs
 
--- the reply that the scene has for this procedure: the first one
+-- the first reply that the scene has for this procedure, if it has one
 abbrev pub answer_of : ℕ → List Scripted → Option Scripted
 answer_of rpc [] = None
 answer_of rpc (a ∷ rest) = if a.rpc == rpc then Some a else answer_of rpc rest
@@ -92,12 +92,12 @@ is_measured other = false
 abbrev pub spent : Noise → Answer → Noise
 spent n a = if is_measured a then record n { seed = next (next (next n.seed)) } else n
 
--- an answer with the noise, if there is one
+-- an answer with the scene's noise, if it has one
 abbrev pub noisy : Option Noise → Answer → Answer
 noisy None a = a
 noisy (Some n) a = disturbed n a
 
--- the noise, if there is one, after an answer
+-- the scene's noise, if it has one, after an answer
 abbrev pub noise_after : Option Noise → Answer → Option Noise
 noise_after None a = None
 noise_after (Some n) a = Some (spent n a)

@@ -39,28 +39,28 @@ is_search aims (call.FineAdjust area_hz area_v dummy) = true
 is_search aims (call.Position hz v pos_mode atr_mode dummy) = aims && int_eq atr_mode (pos 1)
 is_search aims other = false
 
--- the number of the last look after this call: each measurement and each search is one
+-- the number of looks after this call: measurements and searches are counted
 abbrev pub look_of : Bool → ℕ → Call → ℕ
 look_of aims looks asked = if is_measurement asked then one_more looks else (if is_search aims asked then one_more looks else looks)
 
--- where the telescope points when the call looks for a target: a positioning turns first
+-- where the telescope points when the call looks for a target: at the angles of a positioning, and else `there`
 abbrev pub heading : Pointing → Call → Pointing
 heading there (call.Position hz v pos_mode atr_mode dummy) = record { hz = hz; v = v }
 heading there other = there
 
 -- whether the telescope is in face II when the call looks for a target, on an instrument that has both faces' angles
-abbrev pub over_for : SceneState → Call → Bool
-over_for s asked = is_over s.ways (heading s.base.pointing asked)
+abbrev pub is_over_for : SceneState → Call → Bool
+is_over_for s asked = is_over s.ways (heading s.base.pointing asked)
 
--- the targets that aren't hidden in the look of this call
+-- the targets that aren't hidden in the look of this call, each with the angles at which the telescope points at it
 abbrev pub seen_by : SceneState → Call → List Target
-seen_by s asked = seen (over_for s asked) (look_of s.ways.aims s.looks asked) s.prisms
+seen_by s asked = seen (is_over_for s asked) (look_of s.ways.aims s.looks asked) s.prisms
 
 -- what the instrument's clock shows at the state's moment. `None`: no clock runs
 abbrev pub shown : SceneState → Option DateTime
 shown s = option_map (shown_at s.moment) s.clock
 
--- the outcome of the call, by the instrument's ways, over the targets that aren't hidden in its look
+-- the outcome of the call with the instrument's ways, over the targets that aren't hidden in the look of the call
 abbrev pub outcome : SceneState → Call → Executed
 outcome s asked = acted s.ways (shown s) (seeing (seen_by s asked) s.base) asked
 
@@ -71,17 +71,17 @@ clock_after false moment asked rc c = c
 clock_after true moment (call.SetDate d) rc c = if rc == 0 then Some (record { set = d; at = moment }) else c
 clock_after true moment other rc c = c
 
--- what comes of a request: the state after it, the return code, and the parameters of the reply
+-- what the instrument does with a request that isn't a repeat: the state after it, and the return code and the parameters of the reply
 pub record Played : Type 0 where
   pub state : SceneState
   pub rc : ℕ
   pub params : List ℕ
 
--- the state after a call that has this outcome
-abbrev pub behind_call : SceneState → Call → Executed → SceneState
-behind_call s asked x = record s {
+-- the state after a call with this outcome: targets may have moved, the noise's generator has advanced, a look is counted, a clock may have been set
+abbrev pub after_call : SceneState → Call → Executed → SceneState
+after_call s asked x = record s {
   base = seeing s.base.scene x.state;
-  prisms = if is_measurement asked then drifted (over_for s asked) (look_of s.ways.aims s.looks asked) s.base.pointing s.prisms else s.prisms;
+  prisms = if is_measurement asked then drifted (is_over_for s asked) (look_of s.ways.aims s.looks asked) s.base.pointing s.prisms else s.prisms;
   noise = noise_after s.noise x.answer;
   looks = look_of s.ways.aims s.looks asked;
   clock = clock_after s.ways.clock s.moment asked x.rc s.clock;
@@ -90,29 +90,31 @@ behind_call s asked x = record s {
 -- the answer that the reply to an executed call has: its own; or, if the code is a warning and the instrument has values with warnings
 -- (true), the angles, without noise, and a distance of 0 if the call answers one
 abbrev pub replied_answer : Bool → Pointing → Call → ℕ → Answer → Answer
-replied_answer values there asked rc said = if values && is_warning rc then valued there asked zero else said
+replied_answer values there asked rc answered = if values && is_warning rc then valued there asked zero else answered
 
 -- the parameters of an answer, each double rounded to the places
 abbrev pub params_for : ℕ → Answer → List ℕ
-params_for places said = params_of (answer_fields (rounded_answer places said)).values
+params_for places answered = params_of (answer_fields (rounded_answer places answered)).values
 
--- what comes of a call that has this outcome: its answer with the noise, each double rounded to the precision after the call
-abbrev pub told_of : SceneState → Call → Executed → Played
-told_of s asked x = record {
-  state = behind_call s asked x;
+-- what the instrument does with a call that has this outcome: the reply has its answer with the noise, each double rounded to the precision
+-- after the call
+abbrev pub played_of : SceneState → Call → Executed → Played
+played_of s asked x = record {
+  state = after_call s asked x;
   rc = x.rc;
   params = params_for x.state.precision (replied_answer s.ways.values x.state.pointing asked x.rc (noisy s.noise x.answer));
 }
 
--- what comes of a call that no fault answers
+-- what the instrument does with a call that no fault answers
 unfoldable pub plays : SceneState → Call → Played
-plays s asked = told_of s asked (outcome s asked)
+plays s asked = played_of s asked (outcome s asked)
 
 -- the state after one more request of this procedure: the faults have counted it
 abbrev pub counting : ℕ → SceneState → SceneState
 counting rpc s = record s { faults = counted rpc s.faults }
 
--- the distance that the call would answer: the one that was measured last, or that of the target which it would measure
+-- the distance that the call would answer: for TMC_GetSimpleMea the one that was measured last, for other calls that of the target which they
+-- would measure; none if there is none
 abbrev pub known : SceneState → Call → Option Decimal
 known s (call.SimpleMea wait mode) = s.base.distance
 known s asked = option_map (λ t. t.distance) (first_at s.base.pointing (seen_by s asked))
@@ -122,12 +124,12 @@ known s asked = option_map (λ t. t.distance) (first_at s.base.pointing (seen_by
 abbrev pub distance_beside : SceneState → Call → ℕ → Decimal
 distance_beside s asked code = if has_distance code then unwrap_or (known s asked) zero else zero
 
--- what comes of a request that a fault answers with this code: nothing is executed, and the reply has no values
+-- a request that a fault answers with this code: nothing is executed, and the reply has no values
 abbrev pub faulted : SceneState → ℕ → Played
 faulted s code = record { state = s; rc = code; params = [] }
 
--- what comes of a call that a fault answers with this code: nothing is executed, and the reply has values only if the code is a warning
--- and the instrument has values with warnings
+-- a call that a fault answers with this code: nothing is executed, and the reply has values only if the code is a warning and the instrument
+-- has values with warnings
 abbrev pub warned : SceneState → Call → ℕ → Played
 warned s asked code = record {
   state = s;
@@ -135,26 +137,26 @@ warned s asked code = record {
   params = params_for s.base.precision (if s.ways.values && is_warning code then valued s.base.pointing asked (distance_beside s asked code) else answer.Nothing);
 }
 
--- what comes of a call that a fault answers with this code, or that no fault answers (`None`)
+-- what the instrument does with a call that a fault answers with this code, or that no fault answers (`None`)
 abbrev pub unless_faulted : SceneState → Call → Option ℕ → Played
 unless_faulted s asked (Some code) = warned s asked code
 unless_faulted s asked None = plays s asked
 
--- what comes of a call of this procedure
+-- what the instrument does with a call of the procedure with this number, which isn't a repeat
 abbrev pub played_call : SceneState → ℕ → Call → Played
 played_call s rpc asked = unless_faulted (counting rpc s) asked (fault_of rpc s.faults)
 
--- what comes of a request of a procedure that isn't in the table and for which the scene has this reply, or none
+-- the reply of the scene to a request of a procedure that isn't in the table; none if the scene has none
 abbrev pub scripted : SceneState → Option Scripted → Option Played
 scripted s (Some a) = Some (record { state = s; rc = a.rc; params = scripted_params a.with })
 scripted s None = None
 
--- what comes of a request of a procedure that isn't in the table: a fault answers it with this code, or none does (`None`) and the
--- scene's reply is taken, if it has one
+-- what the instrument does with a request of a procedure that isn't in the table: a fault answers it with this code, or none does (`None`), and
+-- then the scene's reply answers it, if there is one
 abbrev pub unless_faulted_raw : SceneState → ℕ → Option ℕ → Option Played
 unless_faulted_raw s rpc (Some code) = Some (faulted s code)
 unless_faulted_raw s rpc None = scripted s (answer_of rpc s.answers)
 
--- what comes of a request of a procedure that isn't in the table. `None`: the scene has no reply to it
+-- what the instrument does with a request of a procedure that isn't in the table and that isn't a repeat. `None`: nothing answers it
 abbrev pub played_raw : SceneState → ℕ → Option Played
 played_raw s rpc = unless_faulted_raw (counting rpc s) rpc (fault_of rpc s.faults)

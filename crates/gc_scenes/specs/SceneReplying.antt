@@ -4,63 +4,65 @@ use Rattle.gc_lines.specs.Replies.{reply_text}
 use Rattle.gc_lines.specs.Requests.{RequestFields, IsRequest}
 use Rattle.gc_values.specs.declared.fault.ValueFault.{ValueFault}
 use Rattle.gc_catalogue.specs.Calls.{IsCall, IsRefusal}
+use Rattle.gc_catalogue.specs.Texts.{reply_line}
+use Rattle.gc_catalogue.specs.declared.answer.Answer.{Answer}
 use Rattle.gc_catalogue.specs.declared.call.Call.{Call}
 use Rattle.gc_catalogue.specs.declared.fault.CallFault.TheVariants.{Unknown, Parameters}
 use Rattle.gc_instrument.specs.Replying.{Handed, kept_line, kept_after, with_kept, refusal_line, reply_id}
 use Rattle.gc_instrument.specs.State.{KeptReply}
-use Rattle.gc_scenes.specs.SceneExecution.{Played, played_call, played_raw, counting}
+use Rattle.gc_scenes.specs.SceneExecution.{Played, played_call, played_raw, counting, replied_answer}
 use Rattle.gc_scenes.specs.SceneState.{SceneState}
 
--- the line of a reply with this id to a request of which this comes
+-- the reply line with this id, and with the return code and the parameters of `p`
 abbrev pub line_of : ℕ → Played → List ℕ
 line_of number p = reply_text (record { rc_com = 0; id = Some number; rc = p.rc; params = p.params })
 
--- the line that is sent again for this id: the kept one, where the instrument repeats
+-- the stored line that answers a request with this id, if the instrument repeats; none if the request is no repeat
 abbrev pub again_for : SceneState → Option ℕ → Option (List ℕ)
 again_for s id = if s.repeats then kept_line s.base.kept id else None
 
--- what is kept after a request that was dealt with: its id and its reply's line, as in the table; nothing if the instrument doesn't repeat
+-- the stored reply after a request was answered with this line: as in the execution table if the instrument repeats, else none
 abbrev pub kept_behind : SceneState → Option ℕ → List ℕ → Option KeptReply
 kept_behind s id line = if s.repeats then kept_after s.base.kept id line else None
 
--- the state with this reply kept
+-- the state, but with this stored reply, or none
 abbrev pub holding : Option KeptReply → SceneState → SceneState
 holding kept s = record s { base = with_kept kept s.base }
 
--- what a request gives: the line that is sent again for its id, and nothing is executed; or, without such a line, the reply to what comes
--- of it, p, which is then kept
+-- what the instrument does with a request: it sends the stored line again, if there is one for the id, and executes nothing; else it does `p`,
+-- and stores the reply
 abbrev pub again_or_played : SceneState → Option ℕ → Played → Option (List ℕ) → Handed SceneState
 again_or_played s id p (Some line) = record { state = s; reply = line; executed = false }
 again_or_played s id p None =
     let line = line_of (unwrap_or id 0) p in
     record { state = holding (kept_behind p.state id line) p.state; reply = line; executed = true }
 
--- what a request for a call gives
+-- what the instrument does with a request that names this call
 unfoldable pub handed_call : SceneState → ℕ → Option ℕ → Call → Handed SceneState
 handed_call s rpc id call = again_or_played s id (played_call s rpc call) (again_for s id)
 
--- what a request gives whose procedure isn't in the table, by what comes of it, p. `None`: the scene has no reply, so the request is
--- refused, and only the faults count it
+-- what the instrument does with a request whose procedure isn't in the table: a repeat is answered again, and else it does `p`. `None`: nothing
+-- answers it, so it is refused, and only the faults count it
 abbrev pub played_or_refused : SceneState → ℕ → Option ℕ → Option Played → Handed SceneState
 played_or_refused s rpc id (Some p) = again_or_played s id p (again_for s id)
 played_or_refused s rpc id None = record { state = counting rpc s; reply = refusal_line (unwrap_or id 0) Unknown; executed = true }
 
--- what a request gives whose procedure isn't in the table
+-- what the instrument does with a request whose procedure isn't in the table
 unfoldable pub handed_raw : SceneState → ℕ → Option ℕ → Handed SceneState
 handed_raw s rpc id = played_or_refused s rpc id (played_raw s rpc)
 
--- this state and this reply are what the request gave, x
+-- the state after a request and the reply to it are those of `x`
 pub record Gave (x : Handed SceneState) (after : SceneState) (reply : List ℕ) : Type 0 where
   pub state : after ≡ x.state
   pub line : reply ≡ x.reply
 
 -- what the instrument does with a request, and its reply
 pub data AnswersRequest (before : SceneState) (q : RequestFields) (after : SceneState) (reply : List ℕ) : Type 0 where
-  -- it names a call
+  -- the request names a call
   names_call : (call : Call) → IsCall q.rpc q.params call → Gave (handed_call before q.rpc q.id call) after reply → AnswersRequest before q after reply
-  -- its procedure isn't in the table
+  -- the request's procedure isn't in the table
   names_none : IsRefusal q.rpc q.params Unknown → Gave (handed_raw before q.rpc q.id) after reply → AnswersRequest before q after reply
-  -- its parameters can't be read: nothing changes
+  -- the request's parameters can't be read: nothing changes
   unreadable : (e : ValueFault) → IsRefusal q.rpc q.params (Parameters e) → after ≡ before → reply ≡ refusal_line (reply_id q) (Parameters e) → AnswersRequest before q after reply
 
 -- what the instrument does with a line, and its reply, if there is one
@@ -69,3 +71,16 @@ pub data IsPlayed (before : SceneState) (line : List ℕ) (after : SceneState) (
   silent : ((q : RequestFields) → ¬ IsRequest line q) → after ≡ before → reply ≡ None → IsPlayed before line after reply
   -- the line is a request
   answers : (q : RequestFields) → IsRequest line q → (text : List ℕ) → AnswersRequest before q after text → reply ≡ Some text → IsPlayed before line after reply
+
+-- the reply line with this id to an executed call with this code and this answer, by the state after the call
+abbrev pub executed_line : SceneState → ℕ → ℕ → Call → Answer → List ℕ
+executed_line s id rc call answer = reply_line id rc (replied_answer s.ways.values s.base.pointing call rc answer) s.base.precision
+
+-- what the instrument does with a request for this procedure that isn't executed: a repeat is answered again, and else the reply has this code and
+-- these parameters
+abbrev pub handed_unexecuted : SceneState → (rpc : ℕ) → Option ℕ → (rc : ℕ) → List ℕ → Handed SceneState
+handed_unexecuted s rpc id rc params = again_or_played s id (record { state = counting rpc s; rc = rc; params = params }) (again_for s id)
+
+-- the reply line with this id, this return code and these parameters
+abbrev pub line_with : (id rc : ℕ) → List ℕ → List ℕ
+line_with id rc params = reply_text (record { rc_com = 0; id = Some id; rc = rc; params = params })

@@ -2,7 +2,7 @@
 use Rattle.gc_scenes.specs.SceneState.{SceneState}
 use Rattle.gc_scenes.specs.declared.instrument.SceneInstrument.TheInside.{Inside}
 
--- the state, field by field
+-- the state that the fields of a scene's instrument make up
 abbrev pub scene_of : Inside → SceneState
 scene_of i = record {
   base = i.machine;

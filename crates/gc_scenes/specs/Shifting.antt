@@ -6,7 +6,7 @@ use Rattle.gc_values.specs.Zeros.{stripped}
 use Rattle.gc_values.specs.declared.decimal.Decimal.{Decimal}
 use Rattle.gc_scenes.specs.ShiftedFacts.{few, in_range, canonical}
 
--- the decimal of z units where that is in range (true), and else d
+-- the decimal of z units of 10^-24 if these are in range (true), and else `d`
 abbrev pub of_units : (b : Bool) (z : ℤ) → nat_le (unsigned_abs z) (10 ^ 13 * 10 ^ 24) ≡ b → Decimal → Decimal
 of_units true z h d = record {
   digits = signed (is_negative z) (stripped (unsigned_abs z) 24).digits;
@@ -17,15 +17,15 @@ of_units true z h d = record {
 }
 of_units false z h d = d
 
--- the decimal z units further on, exactly; where that is out of a decimal's range it stays as it is
+-- the decimal plus z units of 10^-24, exactly; if the sum is out of a decimal's range, it is the decimal itself
 unfoldable pub shifted : Decimal → ℤ → Decimal
 shifted d z = of_units (nat_le (unsigned_abs (units d +ℤ z)) (10 ^ 13 * 10 ^ 24)) (units d +ℤ z) refl d
 
--- the generator's next number, from 0 to 2^32 - 1
+-- the generator's number after x, from 0 to 2^32 - 1
 abbrev pub next : ℕ → ℕ
 next x = (x * 1664525 + 1013904223) % 4294967296
 
--- the deviation by the generator's number x, in units: its bit 16 is the sign, and the bits from 17 on, modulo 1001, say how many
--- thousandths of the most that there may be
+-- the deviation that the generator's number x gives, in units of 10^-24: bit 16 of x is the sign, and the bits from 17 on, modulo 1001, are
+-- how many thousandths of `most` it has
 abbrev pub deviation : Decimal → ℕ → ℤ
 deviation most x = signed ((x / 65536) % 2 == 1) (unsigned_abs (units most) / 1000 * ((x / 131072) % 1001))

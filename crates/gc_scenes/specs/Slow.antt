@@ -6,69 +6,71 @@ use Rattle.gc_lines.specs.Requests.{RequestFields, IsRequest}
 use Rattle.gc_lines.specs.declared.frame.Frame.{Frame}
 use Rattle.gc_lines.specs.declared.frame.Frame.TheVariants.{Line, Cleared, Overlong, More}
 use Rattle.gc_scenes.specs.SceneReplying.{IsPlayed}
-use Rattle.gc_scenes.specs.SceneState.{SceneState, scene_restarted, at}
+use Rattle.gc_scenes.specs.SceneState.{SceneState, scene_restarted, at_moment}
 use Rattle.gc_scenes.specs.declared.delay.Delay.{Delay}
 
--- how long the reply to a request of this procedure takes: as the last line about it says, and `ms` where none does
+-- how long the reply to a request of this procedure takes, in milliseconds: as the last delay for the procedure says, or `ms` if none is for it
 abbrev pub delay_from : ℕ → ℕ → List Delay → ℕ
 delay_from rpc ms [] = ms
 delay_from rpc ms (d ∷ ds) = delay_from rpc (if d.rpc == rpc then d.ms else ms) ds
 
--- how long the reply to a request of this procedure takes: no time where no line says it
+-- how long the reply to a request of this procedure takes, in milliseconds: 0 if no delay is for the procedure
 abbrev pub delay_of : ℕ → List Delay → ℕ
 delay_of rpc delays = delay_from rpc 0 delays
 
--- this is how long the reply to a line takes, whatever request the line is
+-- if the line is a request, its reply takes `ms` milliseconds
 abbrev pub IsDelay : List Delay → List ℕ → ℕ → Type 0
 IsDelay delays line ms = (q : RequestFields) → IsRequest line q → ms ≡ delay_of q.rpc delays
 
--- a scene's instrument, how long its replies take, whether it drops what comes while one is awaited, and the moment at which the last
--- reply goes out: it is busy until then
+-- the state of a scene's instrument whose replies take time
 pub record SlowState : Type 0 where
   pub scene : SceneState
   pub delays : List Delay
+  -- whether lines that come while the instrument is busy are discarded
   pub drops : Bool
+  -- the moment at which the last reply goes out: the instrument is busy until then
   pub free_from : ℕ
 
 -- the state after a restart of the instrument, which is as busy as before
 abbrev pub slow_restarted : SlowState → SlowState
 slow_restarted s = record s { scene = scene_restarted s.scene }
 
--- a line that comes at this moment is dealt with: the instrument isn't busy then, or drops nothing
+-- a line that comes at this moment isn't discarded: the instrument isn't busy then, or discards no lines
 abbrev pub IsTaken : SlowState → ℕ → Type 0
 IsTaken s at = s.drops ≡ true → s.free_from ≤ at
 
--- the moment at which the instrument takes up a line that came at this one: at once, or once it is free
+-- the moment at which the instrument starts on a line that came at the moment `at`: then, or once it isn't busy any more
 abbrev pub taken_up : SlowState → ℕ → ℕ
 taken_up s at = if nat_lt at s.free_from then s.free_from else at
 
--- the scene's instrument at the moment at which it takes up a line that came at this one
+-- the state of the scene's instrument when it starts on a line that came at the moment `came`
 abbrev pub scene_then : SlowState → ℕ → SceneState
-scene_then s came = at (taken_up s came) s.scene
+scene_then s came = at_moment (taken_up s came) s.scene
 
--- the moment so many milliseconds later
+-- the moment `ms` milliseconds after `at`, at most the last one that 64 bits hold
 abbrev pub later : ℕ → ℕ → ℕ
 later at ms = min (at + ms) 18446744073709551615
 
 -- what the instrument does with a line whose last byte came at the moment `at`, and its reply, if there is one. The reply goes out at
 -- `after.free_from`
 pub data Hears (before : SlowState) (line : List ℕ) (at : ℕ) (after : SlowState) (reply : Option (List ℕ)) : Type 0 where
-  -- it is busy, and drops the line: nothing is executed
+  -- the instrument is busy, and discards the line: nothing is executed
   drops_it : before.drops ≡ true → at < before.free_from → after ≡ before → reply ≡ None → Hears before line at after reply
   -- the line gets no reply: it is no request
   silent : IsTaken before at → (scene : SceneState) → IsPlayed (scene_then before at) line scene None → after ≡ record before { scene = scene } → reply ≡ None
       → Hears before line at after reply
-  -- the line is a request: its reply goes out so much after the line was taken up as its procedure takes
+  -- the line is a request: its reply goes out `ms` milliseconds after the instrument started on it
   replies : IsTaken before at → (scene : SceneState) → (text : List ℕ) → IsPlayed (scene_then before at) line scene (Some text) → (ms : ℕ) → IsDelay before.delays line ms
       → after ≡ record before { scene = scene; free_from = later (taken_up before at) ms } → reply ≡ Some text → Hears before line at after reply
 
--- what it does with a frame that came at this moment: the reply to a line goes out with its CR LF, and what is no line is answered by nothing
+-- what the slow instrument does with a frame that came at the moment `at`, where `text` is what it sends: the reply to a line with its CR LF, and
+-- nothing for a frame that is no line
 abbrev pub HearsFrame : SlowState → Frame → ℕ → SlowState → Option (List ℕ) → Type 0
 HearsFrame before (Line line) at after text = (reply : Option (List ℕ)) × Hears before line.items at after reply × (text ≡ option_map with_end reply)
 HearsFrame before Cleared at after text = (after ≡ before) × (text ≡ None)
 HearsFrame before Overlong at after text = (after ≡ before) × (text ≡ None)
 HearsFrame before More at after text = (after ≡ before) × (text ≡ None)
 
--- what it does with a frame that came at some moment
+-- what the slow instrument does with a frame that came at some moment
 abbrev pub HearsSometime : SlowState → Frame → SlowState → Option (List ℕ) → Type 0
 HearsSometime before frame after text = (at : ℕ) × HearsFrame before frame at after text

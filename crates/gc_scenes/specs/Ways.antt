@@ -1,10 +1,12 @@
 -- The ways of real instruments that a scene's instrument may have, each by itself: this project's own, from memory, and no statement about
--- an instrument. Every number of a direction is a whole one, in units of 10^-24 radians.
+-- an instrument. Angles are whole numbers of units, 10^-24 radians each.
 use Rattle.std.specs.Prelude.{ℕ, ℤ, pos, ◌+◌, ◌-◌, ◌*◌, ◌/◌, ◌%◌, ◌^◌, ◌==◌, ◌&&◌, ◌||◌, ◌+ℤ◌, ◌-ℤ◌, not, Bool, true, false, List, [], ◌∷◌, Option, Some, None, nat_le, int_le, unsigned_abs, if◌then◌else◌, min, max}
-use Rattle.gc_values.specs.Decimals.{units}
+use Rattle.gc_values.specs.Decimals.{rounded, units}
 use Rattle.gc_values.specs.Directions.{half_turn, turn}
 use Rattle.gc_values.specs.Fraction.{signed}
 use Rattle.gc_values.specs.declared.decimal.Decimal.{Decimal}
+use Rattle.gc_values.specs.declared.value.Value.{Value}
+use Rattle.gc_values.specs.declared.value.Value.TheVariants.{Double}
 use Rattle.gc_catalogue.specs.declared.answer.Answer.{Answer}
 use Rattle.gc_catalogue.specs.declared.answer.Answer.TheVariants as answer
 use Rattle.gc_catalogue.specs.declared.call.Call.{Call}
@@ -41,39 +43,39 @@ is_second v = not (int_le (units v) half_turn)
 abbrev pub face_at : Decimal → Face
 face_at v = if is_second v then Turned else Normal
 
--- the horizontal direction h in the other face: h - P where h is at least P, and else h + P
+-- the horizontal direction h in the other face: h - P if h is at least P, and else h + P, where P is half a turn
 abbrev pub other_hz : Decimal → Decimal
 other_hz h = shifted h (signed (int_le half_turn (units h)) 3141592653589793238462643)
 
--- the vertical angle v in the other face: 2P - v
+-- the vertical angle v in the other face: 2P - v, where P is half a turn
 abbrev pub other_v : Decimal → Decimal
 other_v v = shifted v (turn -ℤ (units v +ℤ units v))
 
--- the direction in which the telescope meets the target: that of the other face if it is turned over (true), and else the target's own
-abbrev pub met : Bool → Target → Target
-met true t = record { hz = other_hz t.hz; v = other_v t.v; distance = t.distance }
-met false t = t
+-- the target with the angles at which the telescope points at it: those of the other face in face II (true), and else its own
+abbrev pub target_in_face : Bool → Target → Target
+target_in_face true t = record { hz = other_hz t.hz; v = other_v t.v; distance = t.distance }
+target_in_face false t = t
 
--- whether the telescope is in face II where it points there, on an instrument that has both faces' angles
+-- whether the telescope is in face II if it points `there`, on an instrument that has both faces' angles
 abbrev pub is_over : Ways → Pointing → Bool
 is_over w there = w.faces && is_second there.v
 
 -- Target recognition.
 
--- the angle between two directions with this difference, the shorter way round the circle
+-- the angle between two directions with this difference, the shorter way round the circle, in units: 6283185307179586476925286 are a turn
 abbrev pub on_circle : ℤ → ℕ
 on_circle z = min (unsigned_abs z % 6283185307179586476925286) (6283185307179586476925286 - unsigned_abs z % 6283185307179586476925286)
 
--- how far a target is from where the telescope points: the greater of the differences of the two angles
+-- how far a target is from where the telescope points, in units: the greater of the differences of the two angles
 abbrev pub apart : Pointing → Target → ℕ
 apart there t = max (on_circle (units t.hz -ℤ units there.hz)) (unsigned_abs (units t.v -ℤ units there.v))
 
--- the window of target recognition, each way: 0.0131 radians, three quarters of a degree
+-- the window of target recognition, each way, in units: 0.0131 radians, three quarters of a degree
 abbrev pub window : ℕ
 window = 13100000000000000000000
 
--- the nearer of the target found so far and this one, and of two that are equally near the earlier one; the first target found has to be
--- within the window
+-- the nearer of the target found so far and this one, and of two that are equally near the one found so far; if none was found so far, this one
+-- if it is within the window
 abbrev pub nearer : Pointing → Option Target → Target → Option Target
 nearer there None t = if nat_le (apart there t) window then Some t else None
 nearer there (Some u) t = if nat_le (apart there u) (apart there t) then Some u else Some t
@@ -83,14 +85,14 @@ abbrev pub nearest_of : Pointing → Option Target → List Target → Option Ta
 nearest_of there found [] = found
 nearest_of there found (t ∷ ts) = nearest_of there (nearer there found t) ts
 
--- the nearest target within the window
+-- the nearest target within the window, the first of several that are equally near; none if all are beyond the window
 abbrev pub nearest : Pointing → List Target → Option Target
 nearest there targets = nearest_of there None targets
 
 -- Values of a reply whose return code isn't 0.
 
--- whether this code is a warning, with which a reply may have values: measured without all corrections (1283), or without a guarantee of the accuracy (1284); angles
--- alone (1285), without all corrections (1288), or without a guarantee (1289)
+-- whether this code is a warning, with which a reply may have values: measured without all corrections (1283), or without a guarantee of the
+-- accuracy (1284); angles alone (1285), without all corrections (1288), or without a guarantee (1289)
 abbrev pub is_warning : ℕ → Bool
 is_warning rc = (rc == 1283) || ((rc == 1284) || ((rc == 1285) || ((rc == 1288) || (rc == 1289))))
 
@@ -98,10 +100,18 @@ is_warning rc = (rc == 1283) || ((rc == 1284) || ((rc == 1285) || ((rc == 1288) 
 abbrev pub has_distance : ℕ → Bool
 has_distance rc = (rc == 1283) || (rc == 1284)
 
--- the call's answer with these angles and, if it has a distance, this one; a call that answers no angles has none
+-- the answer of a call that answers angles, with these and, if it has a distance, this one; `Nothing` for any other call
 abbrev pub valued : Pointing → Call → Decimal → Answer
 valued there (call.GetAngle mode) d = answer.Angles there.hz there.v
 valued there (call.SimpleMea wait mode) d = answer.Measured there.hz there.v d
 valued there call.QuickDist d = answer.Measured there.hz there.v d
 valued there (call.MeasDistance mode) d = answer.MeasuredMode there.hz there.v d mode
 valued there other d = answer.Nothing
+
+-- the two angles of a pointing as values of a reply, rounded to the places
+abbrev pub angle_values : Pointing → ℕ → List Value
+angle_values there places = Double (rounded there.hz places) ∷ Double (rounded there.v places) ∷ []
+
+-- the two angles of a pointing and a distance as values of a reply, rounded to the places
+abbrev pub measured_values : Pointing → Decimal → ℕ → List Value
+measured_values there distance places = Double (rounded there.hz places) ∷ Double (rounded there.v places) ∷ Double (rounded distance places) ∷ []

@@ -1,21 +1,21 @@
-//! What the instrument does by its ways of real instruments, where the execution table has something else.
+//! How the instrument carries out calls whose outcome its ways of real instruments change; all others have that of the execution table.
 
 ghost use Rattle.std.specs.Prelude.{◌≡◌, List, true};
-ghost use Rattle.gc_instrument.specs.Execution.{Gives, done, told, adjusted, pointed, unmeasured};
-ghost use Rattle.gc_scenes.specs.Acting.{Acts, ActsFaceless, faced, is_plain};
-ghost use Rattle.gc_scenes.specs.Machine.{seeing};
+ghost use Rattle.gc_instrument.specs.Execution.{Gives, done, adjusted, pointed, unmeasured};
+ghost use Rattle.gc_scenes.specs.Acting.{Acts, ActsFaceless, faced, is_unchanged_by_ways};
+ghost use Rattle.gc_scenes.specs.Machine.{seeing, simply_measured};
 ghost use Rattle.gc_scenes.specs.Ways.{nearest, other_hz, other_v};
 
-use crate::machine::{Machine, NO_DISTANCE, NO_TARGET};
+use crate::machine::Machine;
 use crate::ways::{Ways, is_second, nearest, other_hz, other_v};
 use gc_catalogue::{Answer, Call, DateTime};
-use gc_instrument::{Pointing, Target};
+use gc_instrument::{NO_DISTANCE, NO_TARGET, Pointing, Target};
 use gc_values::Decimal;
 
 impl Machine {
     ghost use Rattle.gc_catalogue.specs.declared.answer.Answer.TheVariants.{Nothing, Measured, Date};
 
-    /// Carries out a call over these targets by these ways, and gives the return code. `now` is what a running clock shows, if one
+    /// Carries out a call over these targets with these ways, and returns the return code. `now` is what a running clock shows, if one
     /// runs. An answer other than `Answer::Nothing` is written into `answer`.
     pub(crate) fn act(
         &mut self,
@@ -35,7 +35,7 @@ impl Machine {
         rc
     }
 
-    // Carries out a call by these ways, but for the face.
+    // Carries out a call with these ways, but leaves out that the face follows the vertical angle.
     fn act_faceless(
         &mut self,
         ways: &Ways,
@@ -69,7 +69,7 @@ impl Machine {
             }
             Call::SimpleMea { .. } => {
                 if ways.takes {
-                    self.take_along(answer)
+                    self.take_distance(answer)
                 } else {
                     self.carry_out(call, targets, answer)
                 }
@@ -81,12 +81,12 @@ impl Machine {
                 }
                 None => self.carry_out(call, targets, answer),
             },
-            _ => self.carry_out_plain(ways, now, call, targets, answer),
+            _ => self.carry_out_unchanged(ways, now, call, targets, answer),
         }
     }
 
-    // Carries out a call that no way changes.
-    fn carry_out_plain(
+    // Carries out a call whose outcome no way changes. `ways` and `now` are for the contract alone.
+    fn carry_out_unchanged(
         &mut self,
         ways: &Ways,
         now: Option<DateTime>,
@@ -94,15 +94,15 @@ impl Machine {
         targets: &[Target],
         answer: &mut Answer,
     ) -> u16
-        requires plain { is_plain call.now ≡ true }
+        requires plain { is_unchanged_by_ways call.now ≡ true }
         requires none { answer.old ≡ Nothing }
         ensures { ActsFaceless ways.now now targets.now self.old call.now self.new result answer.new }
     {
         self.carry_out(call, targets, answer)
     }
 
-    // Turns to these angles, and aims at the nearest of these targets within the window. Where there is none the telescope stays, and
-    // the code is 8710. The distance is cleared.
+    // Turns to these angles, and then to the nearest of these targets within the window of target recognition. If there is none, the
+    // telescope stays at the angles, and the code is 8710. The distance is cleared.
     fn aim(&mut self, hz: &Decimal, v: &Decimal, targets: &[Target]) -> u16
         ensures gives { Gives (adjusted (pointed (seeing targets.now self.old) hz.now v.now) (nearest (record { hz = hz.now; v = v.now }) targets.now))
             (seeing targets.now self.new) result Nothing }
@@ -127,11 +127,10 @@ impl Machine {
         self.position(&other_hz(&there.hz), &other_v(&there.v))
     }
 
-    // Answers the angles and the distance, and clears the distance. Where there is none, the code is 1285, without an answer.
-    fn take_along(&mut self, answer: &mut Answer) -> u16
+    // Answers the angles and the distance, and clears the distance. If there is none, the code is 1285, without an answer.
+    fn take_distance(&mut self, answer: &mut Answer) -> u16
         requires { answer.old ≡ Nothing }
-        ensures gives { (targets : List Target) → Gives (told (unmeasured (seeing targets self.old)) (λ d. Measured self.old.pointing.hz self.old.pointing.v d)
-            self.old.distance) (seeing targets self.new) result answer.new }
+        ensures gives { (targets : List Target) → Gives (simply_measured self.old (unmeasured (seeing targets self.old))) (seeing targets self.new) result answer.new }
         ensures same { self.new.scene ≡ self.old.scene }
     {
         let known = self.distance();
@@ -144,7 +143,7 @@ impl Machine {
         0
     }
 
-    // Sets the telescope's face to that of its vertical angle.
+    // Sets the telescope's face to the one that its vertical angle belongs to.
     fn face_by_angle(&mut self)
         ensures { self.new ≡ faced true self.old }
     {

@@ -1,4 +1,5 @@
-//! Replies that have values although their return code, a warning, isn't 0.
+//! Replies that have values although their return code isn't 0 but a warning. A decimal has at most 40 bytes in a reply, and 41 with its
+//! comma.
 
 ghost use Rattle.std.specs.Prelude.{◌≡◌, ◌<◌, ◌≤◌, ◌+◌, ◌++◌, ◌∷◌, [], length};
 ghost use Rattle.arrayvec.specs.ArrayVec.{array_vec_len};
@@ -6,7 +7,7 @@ ghost use Rattle.gc_values.specs.Decimals.{rounded};
 ghost use Rattle.gc_values.specs.declared.value.Value.TheVariants.{Double};
 ghost use Rattle.gc_catalogue.specs.Lists.{behind_commas};
 ghost use Rattle.gc_catalogue.specs.Texts.{reply_line};
-ghost use Rattle.gc_scenes.specs.Ways.{valued};
+ghost use Rattle.gc_scenes.specs.Ways.{angle_values, measured_values, valued};
 
 use arrayvec::ArrayVec;
 use gc_catalogue::Call;
@@ -14,7 +15,7 @@ use gc_instrument::Pointing;
 use gc_lines::{append, push_reply};
 use gc_values::{Decimal, push_long, push_rounded};
 
-// Appends a decimal behind a comma, rounded to the places.
+// Appends a comma and a decimal, rounded to the places.
 fn push_value<const N: usize>(out: &mut ArrayVec<u8, N>, d: &Decimal, places: u8)
     requires places { places ≤ 15 }
     requires room { array_vec_len out.old + 41 ≤ N }
@@ -25,18 +26,18 @@ fn push_value<const N: usize>(out: &mut ArrayVec<u8, N>, d: &Decimal, places: u8
     push_rounded(out, d, places);
 }
 
-// Appends the angles, each behind a comma.
+// Appends the two angles of a pointing, each after a comma and rounded to the places.
 fn push_angles<const N: usize>(out: &mut ArrayVec<u8, N>, there: &Pointing, places: u8)
     requires places { places ≤ 15 }
     requires room { array_vec_len out.old + 82 ≤ N }
-    ensures items { out.new.items ≡ out.old.items ++ behind_commas (Double (rounded there.now.hz places) ∷ Double (rounded there.now.v places) ∷ []) }
+    ensures items { out.new.items ≡ out.old.items ++ behind_commas (angle_values there.now places) }
     ensures len { array_vec_len out.new ≤ array_vec_len out.old + 82 }
 {
     push_value(out, &there.hz, places);
     push_value(out, &there.v, places);
 }
 
-// Appends the angles and a distance, each behind a comma.
+// Appends the two angles of a pointing and a distance, each after a comma and rounded to the places.
 fn push_measured<const N: usize>(
     out: &mut ArrayVec<u8, N>,
     there: &Pointing,
@@ -45,8 +46,7 @@ fn push_measured<const N: usize>(
 )
     requires places { places ≤ 15 }
     requires room { array_vec_len out.old + 123 ≤ N }
-    ensures items { out.new.items ≡ out.old.items
-        ++ behind_commas (Double (rounded there.now.hz places) ∷ Double (rounded there.now.v places) ∷ Double (rounded distance.now places) ∷ []) }
+    ensures items { out.new.items ≡ out.old.items ++ behind_commas (measured_values there.now distance.now places) }
     ensures len { array_vec_len out.new ≤ array_vec_len out.old + 123 }
 {
     push_angles(out, there, places);

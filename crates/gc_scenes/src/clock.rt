@@ -16,7 +16,8 @@ pub struct Clock {
 }
 
 impl Clock {
-    /// What the clock shows at this moment: the date that it was set to, and the whole seconds since then later.
+    /// What the clock shows at this moment: the date that it was set to, plus the whole seconds since it was set. A moment before that
+    /// counts as the one at which it was set.
     pub(crate) fn shown_at(&self, moment: u64) -> DateTime
         ensures { result ≡ shown_at moment self.now }
     {
@@ -70,7 +71,7 @@ fn next_day(date: DateTime) -> DateTime
     after
 }
 
-// The date so many days later, at the same time of day.
+// The date this many days later, at the same time of day.
 fn days_on(days: u64, date: &DateTime) -> DateTime
     ensures { result ≡ days_on days date.now }
 {
@@ -89,7 +90,7 @@ fn second_of(date: &DateTime) -> u64
     u64::from(date.hour) * 3600 + u64::from(date.minute) * 60 + u64::from(date.second)
 }
 
-// The same day, so many seconds after midnight.
+// The same day, this many seconds after midnight.
 fn at_second(second: u64, date: DateTime) -> DateTime
     requires { second ≤ 86399 }
     ensures { result ≡ at_second second date }
@@ -104,7 +105,7 @@ fn at_second(second: u64, date: DateTime) -> DateTime
     }
 }
 
-// The date and time so many seconds later.
+// The date and time this many seconds later. The bound on the seconds is that of a time in milliseconds in 64 bits.
 fn later(seconds: u64, date: &DateTime) -> DateTime
     requires { seconds ≤ 18446744073709551 }
     ensures { result ≡ later seconds date.now }

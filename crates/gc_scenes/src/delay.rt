@@ -1,6 +1,6 @@
 //! How long the replies to a procedure take.
 
-/// The reply to each request of this procedure goes out so many milliseconds later.
+/// The reply to each request of the procedure `rpc` goes out `ms` milliseconds later.
 #[derive(Clone, Copy, Debug, PartialEq, Eq)]
 pub struct Delay {
     pub rpc: u16,
@@ -8,7 +8,7 @@ pub struct Delay {
 }
 
 impl Default for Delay {
-    /// What fills a place that nothing uses: procedure 0, without a delay.
+    /// The value in the unused places of a list: procedure 0, without a delay.
     fn default() -> Delay {
         Delay { rpc: 0, ms: 0 }
     }

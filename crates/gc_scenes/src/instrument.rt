@@ -1,18 +1,18 @@
-//! The instrument of a scene with rules: what it is, how it starts, and how it executes a call.
+//! The instrument of a scene with rules: its parts, how it starts, and how it executes a call.
 
 ghost use Rattle.std.specs.Prelude.{◌≡◌, ◌<◌, ◌≤◌, ◌++◌, ℕ, List, Bool, [], length, true, false, Option, None};
 ghost use Rattle.std.specs.Option.{option_map};
 ghost use Rattle.gc_instrument.specs.Targets.{first_at};
 ghost use Rattle.gc_instrument.specs.State.{opening};
 ghost use Rattle.gc_scenes.specs.Rules.{seen, drifted, counted, fault_of, answer_of, noisy, noise_after};
-ghost use Rattle.gc_scenes.specs.SceneExecution.{is_measurement, is_search, look_of, heading, over_for, outcome, behind_call, counting, shown, seen_by, clock_after, distance_beside, known};
-ghost use Rattle.gc_scenes.specs.SceneState.{scene_restarted, at};
+ghost use Rattle.gc_scenes.specs.SceneExecution.{is_measurement, is_search, look_of, heading, is_over_for, outcome, after_call, counting, shown, seen_by, clock_after, distance_beside, known};
+ghost use Rattle.gc_scenes.specs.SceneState.{scene_restarted, at_moment};
 ghost use Rattle.gc_catalogue.specs.declared.answer.Answer.TheVariants.{Nothing};
 
 use crate::clock::Clock;
 use crate::machine::Machine;
 use crate::rules::{Fault, Noise, Prism, Scripted};
-use crate::ways::{Ways, has_distance, met};
+use crate::ways::{Ways, has_distance, target_in_face};
 use arrayvec::ArrayVec;
 use gc_catalogue::{Answer, Call, DateTime};
 use gc_instrument::{Pointing, Target, first_at};
@@ -23,15 +23,20 @@ use std::marker::Model;
 #[derive(Debug, Drop)]
 pub struct SceneInstrument {
     pub(crate) machine: Machine,
+    // The scene's targets.
     prisms: ArrayVec<Prism, 32>,
     faults: ArrayVec<Fault, 32>,
+    // The replies to procedures that aren't in the table.
     answers: ArrayVec<Scripted, 16>,
     noise: Option<Noise>,
-    // How many measurements and searches there were.
+    // How many looks there were: a look is a measurement or a search.
     looks: u32,
+    // Whether it stores its last reply for a repeat.
     pub(crate) repeats: bool,
     pub(crate) ways: Ways,
+    // The clock, once it was set, if it runs.
     clock: Option<Clock>,
+    // The moment of the next request, in milliseconds of the program's clock.
     moment: u64,
 }
 
@@ -46,8 +51,8 @@ impl Model for SceneInstrument {
 }
 
 impl SceneInstrument {
-    /// The instrument of these rules, in its opening state. `repeats` says whether it keeps its last reply for a repeat, as the
-    /// simulator does, and `ways` which ways of real instruments it has. Its moment is 0.
+    /// The instrument of a scene with these rules, in its opening state. `repeats` says whether it stores its last reply for a repeat, as
+    /// the simulator does, and `ways` which ways of real instruments it has. The moment of the first request is 0 until it is set.
     pub fn new(
         serial: i32,
         name: Text,
@@ -87,8 +92,8 @@ impl SceneInstrument {
 
     /// Sets the moment of the next request, in milliseconds of the program's clock. What the instrument's own clock shows, if it runs, is
     /// computed from it.
-    pub fn at(&mut self, moment: u64)
-        ensures { self.new ≡ at moment self.old }
+    pub fn set_moment(&mut self, moment: u64)
+        ensures { self.new ≡ at_moment moment self.old }
     {
         self.moment = moment;
     }
@@ -100,42 +105,43 @@ impl SceneInstrument {
         self.ways.clock
     }
 
-    /// Whether the instrument keeps its last reply, and sends it again to a request with its id.
+    /// Whether the instrument stores its last reply, and sends it again to a request with the same id.
     pub fn repeats(&self) -> bool
         ensures { result ≡ self.now.repeats }
     {
         self.repeats
     }
 
-    /// The id of the reply that the instrument keeps. `None`: it keeps none.
+    /// The id of the stored reply. `None`: no reply is stored.
     pub fn kept_id(&self) -> Option<u8>
         ensures { result ≡ option_map (λ k. k.id) self.now.base.kept }
     {
         self.machine.kept_id()
     }
 
-    /// Restarts the instrument, as the simulator is restarted. The scene goes on: its counts, its targets and its noise stay.
+    /// Restarts the instrument, as the simulator is restarted. The scene goes on: its counts, its targets and its noise stay,
+    /// and so does a clock that runs.
     pub fn restart(&mut self)
         ensures { self.new ≡ scene_restarted self.old }
     {
         self.machine.restart();
     }
 
-    /// The return code of the first fault that answers the next request of this procedure.
+    /// The return code of the first fault that answers the next request of this procedure. `None`: no fault answers it.
     pub(crate) fn fault_of(&self, rpc: u16) -> Option<u16>
         ensures code { result ≡ fault_of rpc self.now.faults }
     {
         fault_of(rpc, self.faults.as_slice())
     }
 
-    /// The reply that the scene has for this procedure.
+    /// The first reply that the scene has for this procedure. `None`: it has none.
     pub(crate) fn answer_of(&self, rpc: u16) -> Option<Scripted>
         ensures { result ≡ answer_of rpc self.now.answers }
     {
         answer_of(rpc, self.answers.as_slice())
     }
 
-    /// Counts one more request of this procedure.
+    /// Counts one more request of this procedure, in each fault of that procedure.
     pub(crate) fn count(&mut self, rpc: u16)
         ensures { self.new ≡ counting rpc self.old }
     {
@@ -153,30 +159,30 @@ impl SceneInstrument {
     }
 
     // Whether the telescope is in face II when the call looks for a target, on an instrument that has both faces' angles.
-    fn over_for(&self, call: &Call) -> bool
-        ensures { result ≡ over_for self.now call.now }
+    fn is_over_for(&self, call: &Call) -> bool
+        ensures { result ≡ is_over_for self.now call.now }
     {
         self.ways.is_over(&heading(self.machine.pointing(), call))
     }
 
-    // The targets that aren't hidden in the look of this call.
+    // The targets that aren't hidden in the look of this call, each with the angles at which the telescope points at it.
     fn seen_by(&self, call: &Call) -> ArrayVec<Target, 32>
         ensures { result.items ≡ seen_by self.now call.now }
     {
         let look = look_of(self.ways.aims, self.looks, call);
-        seen(self.over_for(call), look, self.prisms.as_slice())
+        seen(self.is_over_for(call), look, self.prisms.as_slice())
     }
 
-    /// Executes a call that no fault answers, and gives the return code. An answer other than `Answer::Nothing` is written into
+    /// Executes a call that no fault answers, and returns the return code. An answer other than `Answer::Nothing` is written into
     /// `answer`, without the noise.
     pub(crate) fn execute(&mut self, call: &Call, answer: &mut Answer) -> u16
         requires { answer.old ≡ Nothing }
         ensures gives { outcome self.old call.now ≡ record { state = (outcome self.old call.now).state; rc = result; answer = answer.new } }
-        ensures state { self.new ≡ record (behind_call self.old call.now (outcome self.old call.now)) { noise = self.old.noise } }
+        ensures state { self.new ≡ record (after_call self.old call.now (outcome self.old call.now)) { noise = self.old.noise } }
     {
         let look = look_of(self.ways.aims, self.looks, call);
         let there = self.machine.pointing();
-        let over = self.over_for(call);
+        let over = self.is_over_for(call);
         let targets = self.seen_by(call);
         let now = self.shown();
         let rc = self
@@ -190,7 +196,8 @@ impl SceneInstrument {
         rc
     }
 
-    /// The distance in the reply to a call that a fault answers with this code: the known one, if the code has a distance, and else 0.
+    /// The distance in the reply to a call that a fault answers with this code, in metres: that of `known`, if replies with the code have
+    /// a distance and one is known, and else 0.
     pub(crate) fn distance_beside(&self, call: &Call, rc: u16) -> Decimal
         ensures { result ≡ distance_beside self.now call.now rc }
     {
@@ -200,7 +207,8 @@ impl SceneInstrument {
         self.known(call).unwrap_or(Decimal::zero())
     }
 
-    // The distance that the call would answer: the one that was measured last, or that of the target which it would measure.
+    // The distance that the call would answer: for TMC_GetSimpleMea the one that was measured last, for other calls that of the target
+    // which they would measure. `None`: there is none.
     fn known(&self, call: &Call) -> Option<Decimal>
         ensures { result ≡ known self.now call.now }
     {
@@ -210,7 +218,7 @@ impl SceneInstrument {
         }
     }
 
-    // The distance of the target that the call would measure.
+    // The distance of the target that the call would measure. `None`: there is no such target.
     fn met_by(&self, call: &Call) -> Option<Decimal>
         ensures { result ≡ option_map (λ t. t.distance) (first_at self.now.base.pointing (seen_by self.now call.now)) }
     {
@@ -219,9 +227,9 @@ impl SceneInstrument {
         )
     }
 
-    /// Adds the noise, if there is one, to an answer, and advances its generator.
+    /// Adds the scene's noise, if it has one, to an answer, and advances the noise's generator.
     pub(crate) fn disturb(&mut self, answer: &mut Answer)
-        ensures said { answer.new ≡ noisy self.old.noise answer.old }
+        ensures answer { answer.new ≡ noisy self.old.noise answer.old }
         ensures state { self.new ≡ record self.old { noise = noise_after self.old.noise answer.old } }
     {
         if let Some(noise) = self.noise {
@@ -243,7 +251,7 @@ fn is_measurement(call: &Call) -> bool
     }
 }
 
-// Whether the call is a search.
+// Whether the call is a search: AUT_FineAdjust, or, if the instrument `aims`, a positioning with target recognition.
 fn is_search(aims: bool, call: &Call) -> bool
     ensures { result ≡ is_search aims call.now }
 {
@@ -254,7 +262,7 @@ fn is_search(aims: bool, call: &Call) -> bool
     }
 }
 
-// Where the telescope points when the call looks for a target: a positioning turns it first.
+// Where the telescope points when the call looks for a target: at the angles of a positioning, and else `there`.
 fn heading(there: Pointing, call: &Call) -> Pointing
     ensures { result ≡ heading there call.now }
 {
@@ -264,7 +272,8 @@ fn heading(there: Pointing, call: &Call) -> Pointing
     }
 }
 
-// The clock after a call at this moment that had this return code: a date that was set starts it.
+// The clock after a call at this moment that had this return code. If the instrument has a clock that `runs`, a date that was set
+// starts it.
 fn clock_after(runs: bool, moment: u64, call: &Call, rc: u16, clock: Option<Clock>) -> Option<Clock>
     ensures { result ≡ clock_after runs moment call.now rc clock }
 {
@@ -286,7 +295,7 @@ fn clock_after(runs: bool, moment: u64, call: &Call, rc: u16, clock: Option<Cloc
     }
 }
 
-// The number of the last look after this call.
+// The number of looks after this call: measurements and searches are counted.
 fn look_of(aims: bool, looks: u32, call: &Call) -> u32
     ensures { result ≡ look_of aims looks call.now }
 {
@@ -299,7 +308,7 @@ fn look_of(aims: bool, looks: u32, call: &Call) -> u32
     }
 }
 
-// The targets that aren't hidden in this look, each in the direction in which the telescope meets it: in face II if `over`.
+// The targets that aren't hidden in this look, each with the angles at which the telescope points at it: those of face II if `over`.
 fn seen(over: bool, look: u32, prisms: &[Prism]) -> ArrayVec<Target, 32>
     requires { length prisms.now ≤ 32 }
     ensures { result.items ≡ seen over look prisms.now }
@@ -310,12 +319,13 @@ fn seen(over: bool, look: u32, prisms: &[Prism]) -> ArrayVec<Target, 32>
             continue;
         }
         // There is room, since there are at most as many as prisms.
-        let _ = targets.try_push(met(over, &prism.at));
+        let _ = targets.try_push(target_in_face(over, &prism.at));
     }
     targets
 }
 
-// The targets after a measurement in this look: those that were measured have moved.
+// The targets after a measurement in this look, with the telescope pointing `there`, in face II if `over`: those that were measured
+// have moved.
 fn drifted(over: bool, look: u32, there: &Pointing, prisms: &[Prism]) -> ArrayVec<Prism, 32>
     requires { length prisms.now ≤ 32 }
     ensures { result.items ≡ drifted over look there.now prisms.now }
@@ -341,7 +351,7 @@ fn counted(rpc: u16, faults: &[Fault]) -> ArrayVec<Fault, 32>
     all
 }
 
-// The return code of the first fault that answers the next request of this procedure.
+// The return code of the first of these faults that answers the next request of this procedure. `None`: none answers it.
 fn fault_of(rpc: u16, faults: &[Fault]) -> Option<u16>
     ensures { result ≡ fault_of rpc faults.now }
 {
@@ -354,7 +364,7 @@ fn fault_of(rpc: u16, faults: &[Fault]) -> Option<u16>
     None
 }
 
-// The first reply for this procedure.
+// The first of these replies for this procedure. `None`: there is none.
 fn answer_of(rpc: u16, answers: &[Scripted]) -> Option<Scripted>
     ensures { result ≡ answer_of rpc answers.now }
 {

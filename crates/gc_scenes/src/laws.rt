@@ -2,18 +2,18 @@
 
 ghost use Rattle.gc_scenes.specs.Laws.{TableIsTheInstance, OneReply, NearestIsNearest};
 
-/// The execution table is the instance without rules: what the instrument of the table does with a line, and what it replies, is
-/// what the instrument of a scene without rules does.
+/// In a scene without rules the instrument does with a line what the instrument of the execution table does, and replies the same.
 pub fn table_is_the_instance()
     ensures { TableIsTheInstance }
 {}
 
-/// From one state, which has the seed, a line leads to one state, and to one reply or to none.
+/// A state, which contains the noise's seed, and a line determine the state after the line, and the reply or that there is none.
 pub fn one_reply()
     ensures { OneReply }
 {}
 
-/// Target recognition aims at the nearest target within its window, at the first of several, and at none only where each is beyond it.
+/// Target recognition aims at the nearest target within its window, and at the first of several that are equally near. It aims at none
+/// only if all targets are beyond the window.
 pub fn nearest_is_nearest()
     ensures { NearestIsNearest }
 {}

@@ -1,5 +1,5 @@
-//! The instrument of a scene with rules: faults, hidden and moving targets, noise, and replies to other procedures. It is one of
-//! its own, over the execution table of `gc_instrument`, which is what it does without rules.
+//! The instrument of a scene with rules: faults, hidden and moving targets, noise, and replies to procedures that aren't in the table.
+//! It uses the execution table of `gc_instrument`, and in a scene without rules it does what the instrument there does.
 #![tactic(auto)]
 
 mod acting;

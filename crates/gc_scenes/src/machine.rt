@@ -1,41 +1,37 @@
-//! The instrument of the execution table over targets that are handed to it: an instrument without targets of its own, its
-//! distance, and the reply that is kept.
+//! The instrument of the execution table over targets that each call is passed: an instrument without targets, the distance that was
+//! measured last, and the stored reply. Calls that need targets or the distance, or clear it, are carried out here; all others are
+//! passed on to that instrument.
 
 ghost use Rattle.std.specs.Prelude.{◌≡◌, ◌≤◌, List, None, Some, [], true, length, IfSome, if◌then◌else◌};
 ghost use Rattle.std.specs.Option.{option_map};
-ghost use Rattle.gc_instrument.specs.Execution.{exec, Gives, done, told, commanded, measured, unmeasured, pointed, turned_over, searched};
+ghost use Rattle.gc_instrument.specs.Execution.{exec, Gives, done, commanded, measured, unmeasured, pointed, turned_over, searched};
 ghost use Rattle.gc_instrument.specs.declared.face.Face.TheVariants.{Normal, Turned};
 ghost use Rattle.gc_instrument.specs.Replying.{kept_line, kept_after, with_kept};
 ghost use Rattle.gc_instrument.specs.State.{restarted, opening};
 ghost use Rattle.gc_instrument.specs.declared.target.Target.{Target};
-ghost use Rattle.gc_scenes.specs.Machine.{CarriesOut, is_other, seeing};
+ghost use Rattle.gc_scenes.specs.Machine.{CarriesOut, is_passed_on, measured_in_mode, seeing, simply_measured};
 
 use gc_catalogue::{Answer, Call};
-use gc_instrument::{Instrument, Pointing, Target, first_at, first_within};
+use gc_instrument::{
+    INVALID_PARAMETER, Instrument, NO_DISTANCE, NO_TARGET, Pointing, Target, first_at, first_within,
+};
 use gc_lines::Line;
 use gc_values::{Decimal, Text};
 use std::marker::Model;
 
-/// The manual's return code for an invalid parameter.
-const INVALID_PARAMETER: u16 = 2;
-
-/// The return code where angles are known and no distance is.
-pub(crate) const NO_DISTANCE: u16 = 1285;
-
-/// The return code where no target is met.
-pub(crate) const NO_TARGET: u16 = 8710;
-
-/// The id of a request, and the line of its reply.
+/// The stored reply: the id of a request, and the line of its reply.
 #[derive(Debug, Drop)]
 pub(crate) struct Held {
     id: u8,
     line: Line,
 }
 
-/// An instrument without targets of its own, the slope distance that was measured last, in metres, and the reply that is kept.
+/// An instrument whose targets are passed to each call.
 #[derive(Debug, Drop)]
 pub(crate) struct Machine {
+    // All of the state but the targets, the distance and the stored reply. It has no targets.
     base: Instrument,
+    // The slope distance that was measured last, in metres, unless it was cleared.
     distance: Option<Decimal>,
     kept: Option<Held>,
 }
@@ -54,7 +50,7 @@ impl Machine {
     ghost use Rattle.gc_catalogue.specs.declared.call.Call.TheVariants.{DoMeasure, SimpleMea, QuickDist, MeasDistance, FineAdjust};
     ghost use Rattle.gc_catalogue.specs.declared.answer.Answer.TheVariants.{Nothing, Measured, MeasuredMode};
 
-    /// The instrument with this serial number and this name, in the opening state.
+    /// Makes an instrument with this serial number and this name, in the opening state.
     pub(crate) fn new(serial: i32, name: Text) -> Machine
         ensures { result ≡ opening serial name [] }
     {
@@ -68,7 +64,7 @@ impl Machine {
         }
     }
 
-    /// Brings back the opening state but for the precision, and forgets the reply that was kept.
+    /// Brings back the opening state but for the precision, and discards the stored reply.
     pub(crate) fn restart(&mut self)
         ensures { self.new ≡ restarted self.old }
     {
@@ -85,14 +81,14 @@ impl Machine {
         self.base.precision()
     }
 
-    /// Where the telescope points.
+    /// Where the telescope points, in radians.
     pub(crate) fn pointing(&self) -> Pointing
         ensures { result ≡ self.now.pointing }
     {
         self.base.pointing()
     }
 
-    /// The distance that was measured last.
+    /// The slope distance that was measured last, in metres. `None`: none was measured, or it was cleared.
     pub(crate) fn distance(&self) -> Option<Decimal>
         ensures { result ≡ self.now.distance }
     {
@@ -111,8 +107,8 @@ impl Machine {
     pub(crate) fn set_face(&mut self, turned: bool)
         ensures { self.new ≡ record self.old { face = if turned then Turned else Normal } }
     {
-        let (_, said) = self.base.execute(&Call::GetFace);
-        let is_turned = said == Answer::Long(1);
+        let (_, answer) = self.base.execute(&Call::GetFace);
+        let is_turned = answer == Answer::Long(1);
         if is_turned != turned {
             let turn = Call::ChangeFace {
                 pos_mode: 0,
@@ -123,7 +119,7 @@ impl Machine {
         }
     }
 
-    /// The id of the reply that is kept. `None`: none is kept.
+    /// The id of the stored reply. `None`: no reply is stored.
     pub(crate) fn kept_id(&self) -> Option<u8>
         ensures { result ≡ option_map (λ k. k.id) self.now.kept }
     {
@@ -133,7 +129,7 @@ impl Machine {
         }
     }
 
-    /// The line that is kept for this id. `None`: there is no id, or none is kept, or another one is.
+    /// The stored line, if it is stored with this id. `None`: `id` is `None`, nothing is stored, or the stored id is another one.
     pub(crate) fn line_of(&self, id: Option<u8>) -> Option<&[u8]>
         ensures line { option_map (λ r. r.now) result ≡ kept_line self.now.kept id }
         ensures within { IfSome result (λ r. length r.now ≤ 512) }
@@ -151,7 +147,7 @@ impl Machine {
         }
     }
 
-    /// Keeps a request's id and the line of its reply. Where the request carried no id, nothing changes.
+    /// Stores a request's id and the line of its reply. If the request had no id, nothing changes.
     pub(crate) fn keep(&mut self, id: Option<u8>, line: &[u8])
         requires { length line.now ≤ 512 }
         ensures { self.new ≡ with_kept (kept_after self.old.kept id line.now) self.old }
@@ -164,14 +160,14 @@ impl Machine {
         self.kept = Some(Held { id, line: held });
     }
 
-    /// Keeps neither an id nor a line.
+    /// Discards the stored reply.
     pub(crate) fn forget(&mut self)
         ensures { self.new ≡ with_kept None self.old }
     {
         self.kept = None;
     }
 
-    /// Carries out a call over these targets, and gives the return code. An answer other than `Answer::Nothing` is written into
+    /// Carries out a call over these targets, and returns the return code. An answer other than `Answer::Nothing` is written into
     /// `answer`.
     pub(crate) fn carry_out(&mut self, call: &Call, targets: &[Target], answer: &mut Answer) -> u16
         requires { answer.old ≡ Nothing }
@@ -196,13 +192,13 @@ impl Machine {
         }
     }
 
-    // Carries out a call that neither turns the telescope nor asks for a distance or a target.
+    // Carries out, by `base`, a call that neither turns the telescope nor asks for a distance or a target.
     fn pass_on(&mut self, call: &Call, answer: &mut Answer) -> u16
-        requires { is_other call.now ≡ true }
+        requires { is_passed_on call.now ≡ true }
         ensures { (targets : List Target) → CarriesOut targets self.old call.now self.new result answer.new }
     {
-        let (rc, said) = self.base.execute(call);
-        *answer = said;
+        let (rc, given) = self.base.execute(call);
+        *answer = given;
         rc
     }
 
@@ -216,7 +212,7 @@ impl Machine {
         self.distance = first_at(&there, targets).map(|target| target.distance);
     }
 
-    // Measures (1), clears the distance (3), or does nothing (0), as commanded. Another command is refused.
+    // Carries out a command of TMC_DoMeasure: 0 does nothing, 1 measures, 3 clears the distance. Another command is refused.
     fn measure_as(&mut self, command: i32, targets: &[Target]) -> u16
         ensures gives { Gives (commanded (seeing targets.now self.old) command) (seeing targets.now self.new) result Nothing }
         ensures same { self.new.scene ≡ self.old.scene }
@@ -238,8 +234,7 @@ impl Machine {
     // Answers the angles and the distance. Where there is no distance, the code is 1285, without an answer.
     fn simple_measurement(&self, answer: &mut Answer) -> u16
         requires { answer.old ≡ Nothing }
-        ensures { (targets : List Target) → Gives (told (seeing targets self.now) (λ d. Measured self.now.pointing.hz self.now.pointing.v d)
-            self.now.distance) (seeing targets self.now) result answer.new }
+        ensures { (targets : List Target) → Gives (simply_measured self.now (seeing targets self.now)) (seeing targets self.now) result answer.new }
     {
         let Some(distance) = self.distance else {
             return NO_DISTANCE;
@@ -252,8 +247,7 @@ impl Machine {
     // Measures, and answers the angles, the distance and the mode. Where there is no distance, the code is 1285, without an answer.
     fn measured_distance(&mut self, mode: i32, targets: &[Target], answer: &mut Answer) -> u16
         requires { answer.old ≡ Nothing }
-        ensures gives { Gives (told (measured (seeing targets.now self.old)) (λ d. MeasuredMode self.old.pointing.hz self.old.pointing.v d mode)
-            (measured (seeing targets.now self.old)).distance) (seeing targets.now self.new) result answer.new }
+        ensures gives { Gives (measured_in_mode targets.now self.old mode) (seeing targets.now self.new) result answer.new }
         ensures same { self.new.scene ≡ self.old.scene }
     {
         self.measure(targets);
@@ -288,7 +282,7 @@ impl Machine {
         rc
     }
 
-    // Turns the telescope over, which clears the distance. The angles stay.
+    // Changes the face, which clears the distance. The angles stay.
     #[tactic(auto, unfolding(gc_instrument::specs::Execution::exec))]
     fn change_face(&mut self) -> u16
         ensures gives { (targets : List Target) → Gives (done (turned_over (seeing targets self.old)) Nothing) (seeing targets self.new) result Nothing }
@@ -304,8 +298,8 @@ impl Machine {
         rc
     }
 
-    // Turns the telescope to the first of these targets within the areas, which clears the distance. Where there is none, the code
-    // is 8710 and nothing changes. A negative area is refused.
+    // Turns the telescope to the first of these targets whose angles differ from its own by at most these areas, which clears the
+    // distance. If there is none, the code is 8710 and nothing changes. A negative area is refused.
     fn fine_adjust(&mut self, area_hz: &Decimal, area_v: &Decimal, targets: &[Target]) -> u16
         ensures gives { Gives (searched (seeing targets.now self.old) area_hz.now area_v.now) (seeing targets.now self.new) result Nothing }
         ensures same { self.new.scene ≡ self.old.scene }

@@ -5,11 +5,10 @@ ghost use Rattle.std.specs.Option.{ForSome, option_map};
 ghost use Rattle.arrayvec.specs.ArrayVec.{array_vec_len};
 ghost use Rattle.gc_lines.specs.Answering.{AppendsAnswer};
 ghost use Rattle.gc_lines.specs.Requests.{request_seen};
-ghost use Rattle.gc_lines.specs.Replies.{reply_text};
 ghost use Rattle.gc_instrument.specs.Replying.{Handed};
 ghost use Rattle.gc_catalogue.specs.Texts.{reply_line};
-ghost use Rattle.gc_scenes.specs.SceneExecution.{Played, plays, unless_faulted, counting, warned, replied_answer};
-ghost use Rattle.gc_scenes.specs.SceneReplying.{IsPlayed, AnswersRequest, Gave, again_for, handed_call, handed_raw, line_of, kept_behind, holding, again_or_played};
+ghost use Rattle.gc_scenes.specs.SceneExecution.{Played, plays, unless_faulted, warned};
+ghost use Rattle.gc_scenes.specs.SceneReplying.{IsPlayed, AnswersRequest, Gave, again_for, executed_line, handed_call, handed_raw, handed_unexecuted, line_of, line_with, kept_behind, holding};
 ghost use Rattle.gc_scenes.specs.Appending.{AppendsGave, AppendsPlayed, AppendsReply};
 
 use crate::beside::push_valued;
@@ -17,14 +16,9 @@ use crate::instrument::SceneInstrument;
 use crate::ways::is_warning;
 use arrayvec::ArrayVec;
 use gc_catalogue::{Answer, Call, CallFault, decode_call_into, encode_answer_onto};
+use gc_instrument::{UNKNOWN_PROCEDURE, WRONG_PARAMETERS};
 use gc_lines::{Line, Request, append, push_reply, read_request};
 use gc_values::Decimal;
-
-/// The communication code for a procedure that isn't in the catalogue.
-const UNKNOWN_PROCEDURE: u16 = 3081;
-
-/// The communication code for parameters that can't be read.
-const WRONG_PARAMETERS: u16 = 3080;
 
 // The size of the buffer in which a line is put together before it is appended, in bytes.
 const BUFFER: usize = 1024;
@@ -33,9 +27,9 @@ impl SceneInstrument {
     ghost use Rattle.gc_catalogue.specs.declared.call.Call.{Call};
     ghost use Rattle.gc_catalogue.specs.declared.answer.Answer.TheVariants.{Nothing};
 
-    /// The reply to a line, if it is a request. It is that of the simulator, but for what the scene's rules say: a request that a
-    /// fault answers is not executed, a target that is hidden isn't met, and a procedure that isn't in the catalogue is answered
-    /// if the scene has a reply. If the instrument repeats, each of these replies is kept for a repeat, as any other is.
+    /// The reply to a line. `None`: the line is no request. The reply is that of the simulator, but for what the scene's rules say: a
+    /// request that a fault answers is not executed, a hidden target isn't found, and a procedure that isn't in the catalogue is
+    /// answered if the scene has a reply. If the instrument repeats, each of these replies is stored for a repeat, as any other is.
     #[tactic(auto, using(crate::proofs::Playing::played_alone))]
     pub fn on_line(&mut self, line: &Line) -> Option<Line>
         ensures { IsPlayed self.old line.now.items self.new (option_map (λ r. r.items) result) }
@@ -48,7 +42,7 @@ impl SceneInstrument {
         }
     }
 
-    /// Appends the reply to a line to `out`, if the line is a request, and says whether it is one. Else `out` stays as it is.
+    /// Appends the reply to a line to `out`, and returns `true`. If the line is no request, it returns `false`, and `out` is unchanged.
     pub fn reply_onto<const N: usize>(&mut self, line: &[u8], out: &mut ArrayVec<u8, N>) -> bool
         requires { array_vec_len out.old + 512 ≤ N }
         ensures played { AppendsAnswer (IsPlayed self.old line.now self.new) out.old.items out.new.items result }
@@ -80,7 +74,7 @@ impl SceneInstrument {
         }
     }
 
-    // The line that is sent again for this id, where the instrument repeats.
+    // The stored line that answers a request with this id, if the instrument repeats. `None`: the request is no repeat.
     fn again_for(&self, id: Option<u8>) -> Option<&[u8]>
         ensures line { option_map (λ r. r.now) result ≡ again_for self.now id }
         ensures within { IfSome result (λ r. length r.now ≤ 512) }
@@ -92,7 +86,7 @@ impl SceneInstrument {
         }
     }
 
-    // Keeps a reply's line for the request's id if the instrument repeats, and else keeps nothing.
+    // Stores a reply's line with the request's id if the instrument repeats, and else discards what is stored.
     fn keep(&mut self, id: Option<u8>, line: &[u8])
         requires { length line.now ≤ 512 }
         ensures { self.new ≡ holding (kept_behind self.old id line.now) self.old }
@@ -104,7 +98,7 @@ impl SceneInstrument {
         }
     }
 
-    // Appends the reply to a call: the kept one to a repeat, and else a new one, which is kept.
+    // Appends the reply to a call: the stored one to a repeat, and else a new one, which is stored.
     fn answer_call<const N: usize>(
         &mut self,
         rpc: u16,
@@ -128,7 +122,7 @@ impl SceneInstrument {
         self.keep(id, &out[start..]);
     }
 
-    // Appends the reply to a call that isn't a repeat: that of the fault, where there is one, or of executing it.
+    // Appends the reply to a call that isn't a repeat: with the code of the fault, if one answers it, or that of executing the call.
     fn play_onto<const N: usize>(
         &mut self,
         id: u8,
@@ -181,11 +175,12 @@ impl SceneInstrument {
         let mut answer = Answer::Nothing;
         let rc = self.execute(call, &mut answer);
         self.disturb(&mut answer);
-        self.tell_onto(id, rc, call, &answer, out);
+        self.reply_executed_onto(id, rc, call, &answer, out);
     }
 
-    // Appends the reply to an executed call: this code and this answer, or the values that a warning has.
-    fn tell_onto<const N: usize>(
+    // Appends the reply to an executed call: with this code and this answer, or, if the code is a warning and the instrument has values
+    // with warnings, with the angles and a distance of 0.
+    fn reply_executed_onto<const N: usize>(
         &self,
         id: u8,
         rc: u16,
@@ -196,7 +191,7 @@ impl SceneInstrument {
         requires id { id < 8 }
         requires refused { rc ≢ 0 → answer.now ≡ Nothing }
         requires room { array_vec_len out.old + 512 ≤ N }
-        ensures line { out.new.items ≡ out.old.items ++ reply_line id rc (replied_answer self.now.ways.values self.now.base.pointing call.now rc answer.now) self.now.base.precision }
+        ensures line { out.new.items ≡ out.old.items ++ executed_line self.now id rc call.now answer.now }
         ensures bound { length out.new.items ≤ length out.old.items + 512 }
     {
         if self.ways.values && is_warning(rc) {
@@ -208,9 +203,9 @@ impl SceneInstrument {
         }
     }
 
-    // Appends the reply to an executed call with its answer. The line is put together in a buffer of its own, of another size than
-    // that of a served run. So the simulator alone has the code that writes answers into the latter, and LLVM inlines it there, also
-    // in a program that serves scenes.
+    // Appends the reply to an executed call with its answer. The line is made in a buffer of its own, whose size is another than that of
+    // the buffer of a served run. So the code that writes answers into the latter is used by the simulator alone, and LLVM inlines it
+    // there, also in a program that serves scenes.
     fn answer_onto<const N: usize>(
         &self,
         id: u8,
@@ -229,7 +224,8 @@ impl SceneInstrument {
         append(out, line.as_slice());
     }
 
-    // Appends the reply to a request of a procedure that isn't in the table.
+    // Appends the reply to a request of a procedure that isn't in the table: with the code of the fault, if one answers it; else the
+    // scene's reply, if it has one; else with the communication code 3081.
     fn answer_raw<const N: usize>(&mut self, rpc: u16, id: Option<u8>, out: &mut ArrayVec<u8, N>)
         requires id { ForSome id (λ id. id < 8) }
         requires room { array_vec_len out.old + 512 ≤ N }
@@ -248,8 +244,8 @@ impl SceneInstrument {
         }
     }
 
-    // Appends the reply to a request that isn't executed: the kept one to a repeat, and else this code with these parameters, which
-    // is kept.
+    // Appends the reply to a request that isn't executed: the stored one to a repeat, and else one with this return code and these
+    // parameters, which is stored.
     fn answer_with<const N: usize>(
         &mut self,
         rpc: u16,
@@ -261,8 +257,7 @@ impl SceneInstrument {
         requires id { ForSome id (λ id. id < 8) }
         requires few { length params.now ≤ 490 }
         requires room { array_vec_len out.old + 512 ≤ N }
-        ensures gave { AppendsGave (again_or_played self.old id (record { state = counting rpc self.old; rc = rc; params = params.now }) (again_for self.old id))
-            self.new out.old.items out.new.items }
+        ensures gave { AppendsGave (handed_unexecuted self.old rpc id rc params.now) self.new out.old.items out.new.items }
         ensures bound { length out.new.items ≤ length out.old.items + 512 }
     {
         if let Some(line) = self.again_for(id) {
@@ -276,12 +271,12 @@ impl SceneInstrument {
     }
 }
 
-// Appends a reply with this code and these parameters.
+// Appends a reply with this return code and these parameters, at most 490 bytes.
 fn push_reply_with<const N: usize>(id: u8, rc: u16, params: &[u8], out: &mut ArrayVec<u8, N>)
     requires id { id < 8 }
     requires few { length params.now ≤ 490 }
     requires room { array_vec_len out.old + 512 ≤ N }
-    ensures line { out.new.items ≡ out.old.items ++ reply_text (record { rc_com = 0; id = Some id; rc = rc; params = params.now }) }
+    ensures line { out.new.items ≡ out.old.items ++ line_with id rc params.now }
     ensures bound { length out.new.items ≤ length out.old.items + 512 }
 {
     push_reply(out, 0, id, rc);

@@ -1,4 +1,4 @@
-//! The rules of a scene: what each says.
+//! The rules of a scene.
 
 ghost use Rattle.std.specs.Prelude.{◌<◌, ◌≤◌, length};
 ghost use Rattle.gc_scenes.specs.Params.{scripted_params};
@@ -15,8 +15,8 @@ pub struct Offset {
     pub distance: Decimal,
 }
 
-/// A target of a scene: where it is, what each measurement of it adds (`None`: nothing), and the looks in which it is hidden, `from`
-/// to `to`, counted from 1. A target that is never hidden has 1 and 0.
+/// A target of a scene: where it is, what each measurement of it adds (`None`: nothing), and in which looks it is hidden: those from
+/// number `from` to `to`. A look is a measurement or a search; looks are counted from 1. A target that is never hidden has 1 and 0.
 #[derive(Clone, Copy, Debug, PartialEq, Eq)]
 pub struct Prism {
     pub at: Target,

@@ -1,4 +1,4 @@
-//! What each rule of a scene does by itself: to targets, to requests and to answers.
+//! What each rule of a scene does to targets, to requests and to answers.
 
 ghost use Rattle.std.specs.Prelude.{◌≡◌, ◌<◌, ◌≤◌, length, IfSome, IfNone, Some};
 ghost use Rattle.gc_catalogue.specs.RawTexts.{raw_bytes};
@@ -9,13 +9,14 @@ ghost use Rattle.gc_scenes.specs.Shifting.{next, shifted, deviation};
 
 use crate::rules::{Fault, Noise, Offset, Prism, Scripted};
 use crate::shifting::{deviation, next, shifted};
-use crate::ways::met;
+use crate::ways::target_in_face;
 use gc_catalogue::{Answer, RawCall};
 use gc_instrument::{Pointing, Target};
 use gc_values::Decimal;
 
 impl Fault {
-    /// A fault of whose procedure no request came yet.
+    /// Makes a fault that answers `times` requests of the procedure `rpc` with the return code `rc`, after its first `after` requests. No
+    /// request is counted yet.
     pub fn new(rpc: u16, rc: u16, after: u32, times: u32) -> Fault
         ensures rpc { result.rpc ≡ rpc }
         ensures rc { result.rc ≡ rc }
@@ -60,7 +61,8 @@ impl Fault {
 }
 
 impl Scripted {
-    /// The reply with this code and the parameters of this request to its procedure. `None`: the parameters have more than 490 bytes.
+    /// Makes the reply to the procedure of this request: it has this return code and the request's parameters. `None`: these have more than
+    /// 490 bytes.
     pub fn new(call: RawCall, rc: u16) -> Option<Scripted>
         ensures made { IfSome result (λ s. (s.rpc ≡ call.rpc) × (s.with ≡ Some call) × (s.rc ≡ rc)) }
         ensures none { IfNone result (490 < length (raw_bytes call.params)) }
@@ -89,7 +91,7 @@ impl Scripted {
 }
 
 impl Default for Scripted {
-    /// What fills a place that nothing uses: procedure 0, with code 0 and no parameters.
+    /// The value in the unused places of a list: procedure 0, with code 0 and no parameters.
     fn default() -> Scripted {
         Scripted {
             rpc: 0,
@@ -100,21 +102,21 @@ impl Default for Scripted {
 }
 
 impl Default for Fault {
-    /// What fills a place that nothing uses: a fault that never comes.
+    /// The value in the unused places of a list: a fault that answers no request.
     fn default() -> Fault {
         Fault::new(0, 0, 0, 0)
     }
 }
 
 impl Default for Prism {
-    /// What fills a place that nothing uses: a target of zeros.
+    /// The value in the unused places of a list: a target of zeros.
     fn default() -> Prism {
         Prism::still(Target::default())
     }
 }
 
 impl Prism {
-    /// A target that no rule names.
+    /// A target that never moves and is never hidden.
     pub fn still(at: Target) -> Prism
         ensures { result ≡ still at }
     {
@@ -133,7 +135,7 @@ impl Prism {
         !(self.from <= look && look <= self.to)
     }
 
-    // The target after a measurement of it.
+    // The target after a measurement of it: moved by its drift, if it has one.
     fn moved_by(&self) -> Prism
         ensures { result ≡ moved_by self.now.drift self.now }
     {
@@ -148,11 +150,12 @@ impl Prism {
         }
     }
 
-    /// The target after a measurement in this look, with the telescope pointing there: it moves if it was measured.
+    /// The target after a measurement in this look, with the telescope pointing `there`, in face II if `over`: moved, if this target was
+    /// measured.
     pub(crate) fn moved(&self, over: bool, look: u32, there: &Pointing) -> Prism
         ensures { result ≡ moved over look there.now self.now }
     {
-        let at = met(over, &self.at);
+        let at = target_in_face(over, &self.at);
         if self.is_clear(look) && at.hz == there.hz && at.v == there.v {
             self.moved_by()
         } else {
@@ -162,7 +165,7 @@ impl Prism {
 }
 
 impl Offset {
-    // The target, moved so much.
+    // The target moved by this offset.
     fn of(&self, target: &Target) -> Target
         ensures { result ≡ offset self.now target.now }
     {
@@ -213,7 +216,7 @@ impl Noise {
         }
     }
 
-    // A direction, an angle and a distance, each with its deviation by one of the generator's next three numbers.
+    // A direction, an angle and a distance, to each of which is added a deviation by one of the generator's next three numbers.
     fn deviated(&self, hz: Decimal, v: Decimal, distance: Decimal) -> (Decimal, Decimal, Decimal)
         ensures hz { result.0 ≡ shifted hz (deviation self.now.hz (next self.now.seed)) }
         ensures v { result.1 ≡ shifted v (deviation self.now.v (next (next self.now.seed))) }
@@ -255,7 +258,7 @@ fn is_measured(answer: &Answer) -> bool
     }
 }
 
-// A decimal with the deviation by this number of the generator.
+// The decimal `d` plus the deviation, of at most `most` either way, that the generator's number `x` gives.
 fn deviated(d: &Decimal, most: &Decimal, x: u32) -> Decimal
     ensures { result ≡ shifted d.now (deviation most.now x) }
 {

@@ -6,7 +6,8 @@ ghost use Rattle.gc_scenes.specs.SceneServing.{IsSceneServing};
 use crate::instrument::SceneInstrument;
 use gc_lines::{Answers, Lent, Outgoing, ServeFault, Served, Sink, Source, answer_frames, append};
 
-// The instrument answers a line by its reply and CR LF, where the line is a request, and every other frame by nothing.
+// The instrument answers a line that is a request by its reply and CR LF, and every other frame by nothing, as the simulator does.
+// `answer` returns whether there is a reply.
 impl Answers for SceneInstrument {
     ghost use Rattle.gc_scenes.specs.SceneServing.{PlaysFrame};
 
@@ -26,7 +27,7 @@ impl Answers for SceneInstrument {
 }
 
 /// Serves the requests of a source with a scene's instrument until its end, as `gc_instrument::serve` does with the simulator's:
-/// in at most `max_reads` reads of at most 256 bytes, with the same results and faults. It takes no memory and doesn't wait.
+/// in at most `max_reads` reads of at most 256 bytes, with the same results and faults. It allocates no memory and doesn't wait.
 pub fn serve_scene<S: Source, K: Sink>(
     instrument: &mut SceneInstrument,
     source: &mut S,

@@ -18,7 +18,9 @@ use std::marker::Model;
 pub struct SlowInstrument {
     scene: SceneInstrument,
     delays: ArrayVec<Delay, 32>,
+    // Whether it discards lines that come while it is busy.
     drops: bool,
+    // The moment at which the last reply goes out.
     free_from: u64,
 }
 
@@ -31,7 +33,8 @@ impl Model for SlowInstrument {
 }
 
 impl SlowInstrument {
-    /// The instrument with these delays; of two of one procedure the later one counts. With `drops` it discards what comes while it is busy.
+    /// The instrument with these delays; of two for one procedure the later one counts. If `drops`, it discards lines that come while it is
+    /// busy.
     pub fn new(scene: SceneInstrument, delays: ArrayVec<Delay, 32>, drops: bool) -> SlowInstrument
         ensures { result ≡ record { scene = scene; delays = delays.items; drops = drops; free_from = 0 } }
     {
@@ -43,7 +46,7 @@ impl SlowInstrument {
         }
     }
 
-    /// Whether it discards what comes while it is busy.
+    /// Whether it discards lines that come while it is busy.
     pub fn drops(&self) -> bool
         ensures { result ≡ self.now.drops }
     {
@@ -57,15 +60,15 @@ impl SlowInstrument {
         self.free_from
     }
 
-    /// Restarts the scene's instrument.
+    /// Restarts the scene's instrument. It stays busy for as long as before.
     pub fn restart(&mut self)
         ensures { self.new ≡ slow_restarted self.old }
     {
         self.scene.restart();
     }
 
-    /// Deals with a line whose last byte came at this moment, and appends the reply to `out`, if there is one. It goes out at
-    /// `free_from`. A line that comes while the instrument is busy is discarded, if it discards such lines: nothing is executed.
+    /// Answers a line whose last byte came at the moment `at`: appends the reply to `out`, and returns whether there is one. The reply
+    /// goes out at `free_from`. If the instrument is busy and `drops`, the line is discarded: nothing is executed, and there is no reply.
     pub fn hear<const N: usize>(&mut self, line: &[u8], at: u64, out: &mut ArrayVec<u8, N>) -> bool
         requires { array_vec_len out.old + 512 ≤ N }
         ensures heard { AppendsAnswer (Hears self.old line.now at self.new) out.old.items out.new.items result }
@@ -76,7 +79,7 @@ impl SlowInstrument {
         }
         let from = self.taken_up(at);
         let due = later(from, self.delay_of_line(line));
-        self.scene.at(from);
+        self.scene.set_moment(from);
         if !self.scene.reply_onto(line, out) {
             return false;
         }
@@ -92,7 +95,7 @@ impl SlowInstrument {
         self.drops && at < self.free_from
     }
 
-    // The moment at which the instrument takes up a line that came at this one: at once, or once it isn't busy.
+    // The moment at which the instrument starts on a line that came at the moment `at`: then, or once it isn't busy any more.
     fn taken_up(&self, at: u64) -> u64
         ensures { result ≡ taken_up self.now at }
     {
@@ -103,7 +106,7 @@ impl SlowInstrument {
         }
     }
 
-    // How long the reply to a line takes, in milliseconds, if the line is a request.
+    // How long the reply to a line takes, in milliseconds; 0 if the line is no request.
     fn delay_of_line(&self, line: &[u8]) -> u32
         ensures { IsDelay self.now.delays line.now result }
     {
@@ -114,7 +117,7 @@ impl SlowInstrument {
     }
 }
 
-// The moment so many milliseconds later.
+// The moment `ms` milliseconds after `at`, at most the last one that 64 bits hold.
 fn later(at: u64, ms: u32) -> u64
     ensures { result ≡ later at ms }
 {

@@ -3,7 +3,7 @@
 ghost use Rattle.std.specs.Prelude.{◌≡◌, ◌≤◌, ◌*◌, ◌^◌, ◌-ℤ◌, List, unsigned_abs};
 ghost use Rattle.gc_values.specs.Decimals.{units};
 ghost use Rattle.gc_values.specs.Directions.{half_turn};
-ghost use Rattle.gc_scenes.specs.Ways.{no_ways, with_way, is_second, other_hz, other_v, met, is_over, on_circle, apart, nearer, nearest, is_warning, has_distance};
+ghost use Rattle.gc_scenes.specs.Ways.{no_ways, with_way, is_second, other_hz, other_v, target_in_face, is_over, on_circle, apart, nearer, nearest, is_warning, has_distance};
 
 use crate::shifting::shifted;
 use gc_instrument::{Pointing, Target};
@@ -33,7 +33,7 @@ pub struct Ways {
     pub clock: bool,
 }
 
-/// One of these ways, or all of them.
+/// One of the ways of [`Ways`], or all of them.
 #[derive(Clone, Copy, Debug, PartialEq, Eq)]
 pub enum Way {
     Faces,
@@ -83,7 +83,7 @@ impl Ways {
         ways
     }
 
-    /// Whether the telescope is in face II where it points there, on an instrument that has both faces' angles.
+    /// Whether the telescope is in face II if it points `there`, on an instrument that has both faces' angles.
     pub(crate) fn is_over(&self, there: &Pointing) -> bool
         ensures { result ≡ is_over self.now there.now }
     {
@@ -91,7 +91,7 @@ impl Ways {
     }
 }
 
-/// Whether a vertical angle is one of face II.
+/// Whether a vertical angle is one of face II: greater than half a turn.
 pub(crate) fn is_second(v: &Decimal) -> bool
     ensures { result ≡ is_second v.now }
 {
@@ -118,9 +118,9 @@ pub(crate) fn other_v(v: &Decimal) -> Decimal
     shifted(v, TURN - (units + units))
 }
 
-/// The direction in which the telescope meets the target: its own, or that of the other face if the telescope is turned over.
-pub(crate) fn met(over: bool, target: &Target) -> Target
-    ensures { result ≡ met over target.now }
+/// The target with the angles at which the telescope points at it: its own, or in face II (`over`) those of that face.
+pub(crate) fn target_in_face(over: bool, target: &Target) -> Target
+    ensures { result ≡ target_in_face over target.now }
 {
     if over {
         Target {
@@ -133,7 +133,7 @@ pub(crate) fn met(over: bool, target: &Target) -> Target
     }
 }
 
-// The angle between two directions with this difference, the shorter way round the circle.
+// The angle between two directions with this difference, the shorter way round the circle, in units. The number is `TURN`, as a `u128`.
 fn on_circle(difference: i128) -> u128
     ensures { result ≡ on_circle difference }
 {
@@ -141,7 +141,7 @@ fn on_circle(difference: i128) -> u128
     rest.min(6_283_185_307_179_586_476_925_286 - rest)
 }
 
-// How much greater the one decimal is than the other, in units.
+// `one` minus `other`, in units.
 fn difference(one: &Decimal, other: &Decimal) -> i128
     ensures value { result ≡ units one.now -ℤ units other.now }
     ensures bound { unsigned_abs result ≤ 2 * 10 ^ 37 }
@@ -149,7 +149,7 @@ fn difference(one: &Decimal, other: &Decimal) -> i128
     one.units() - other.units()
 }
 
-// How far a target is from where the telescope points: the greater of the differences of the two angles.
+// How far a target is from where the telescope points, in units: the greater of the differences of the two angles.
 fn apart(there: &Pointing, target: &Target) -> u128
     ensures { result ≡ apart there.now target.now }
 {
@@ -158,7 +158,8 @@ fn apart(there: &Pointing, target: &Target) -> u128
     hz.max(v)
 }
 
-// The nearer of the target found so far and this one; the first target found has to be within the window.
+// The nearer of the target found so far and this one, and `found` if both are equally near. If none was found so far, it is this one if
+// it is within the window.
 fn nearer(there: &Pointing, found: Option<Target>, target: &Target) -> Option<Target>
     ensures { result ≡ nearer there.now found target.now }
 {
@@ -180,7 +181,7 @@ fn nearer(there: &Pointing, found: Option<Target>, target: &Target) -> Option<Ta
     }
 }
 
-/// The nearest of these targets within the window.
+/// The nearest of these targets within the window, the first of several that are equally near. `None`: none is within the window.
 pub(crate) fn nearest(there: &Pointing, targets: &[Target]) -> Option<Target>
     ensures { result ≡ nearest there.now targets.now }
 {
@@ -191,7 +192,7 @@ pub(crate) fn nearest(there: &Pointing, targets: &[Target]) -> Option<Target>
     found
 }
 
-/// Whether this return code is a warning, with which a reply may have values.
+/// Whether this return code is a warning, with which a reply may have values. What the codes mean is in `specs/Ways.antt`.
 pub(crate) fn is_warning(rc: u16) -> bool
     ensures { result ≡ is_warning rc }
 {

@@ -9,7 +9,7 @@ use Rattle.gc_world.specs.declared.direction.Direction.{Direction}
 use Rattle.gc_world.specs.Directions.{deliver, bytes, texts, lines, gone, reaches}
 use Rattle.gc_world.specs.Streams.{Streams, Cut, one_more, cut, flows}
 use Rattle.gc_world.specs.World.{Ends, Rule, Step, World, idle, happens, run}
-use Rattle.gc_world.proofs.Directions.{gone_reached, reaches_again, passing, bytes_pass, to, one_less, idle_leaves}
+use Rattle.gc_world.proofs.Directions.{gone_reached, reaches_again, passing, bytes_pass, after_cut, one_less, idle_leaves}
 use Rattle.gc_world.proofs.Flow.{run_append}
 use Rattle.gc_world.proofs.Handed.{cut_long}
 
@@ -95,19 +95,19 @@ module _ {Client State : Type 0} (ends : Ends State) (rule : Rule Client) (d : D
   lines_left k w = ap (map with_end) (texts_left k w) ∙ drop_map with_end k (texts d w.wire)
 
   -- where a line is in flight, n + 1 bytes lead to the cut of the lines at these bytes
-  some_pass : (v : Streams Client State) (n : ℕ) (q : List (List ℕ)) → 0 < length q → passing ends rule d v q (n + 1) ≡ to ends rule d v (cut q (gone d v + (n + 1)))
+  some_pass : (v : Streams Client State) (n : ℕ) (q : List (List ℕ)) → 0 < length q → passing ends rule d v q (n + 1) ≡ after_cut ends rule d v (cut q (gone d v + (n + 1)))
   some_pass v n [] some = absurd (omega (arith, some))
   some_pass v n (line ∷ q) some =
       let next : n + 1 ≡ suc n = omega arith in
-      ap (passing ends rule d v (line ∷ q)) next ∙ ap (λ k. to ends rule d v (cut (line ∷ q) (gone d v + k))) (sym next)
+      ap (passing ends rule d v (line ∷ q)) next ∙ ap (λ k. after_cut ends rule d v (cut (line ∷ q) (gone d v + k))) (sym next)
 
   -- where a line is in flight, an event of n + 1 bytes leads to the cut of the lines at these bytes
-  some_bytes : (v : Streams Client State) (n : ℕ) → 0 < length (lines d v.world.wire) → flows ends rule v (bytes d (n + 1)) ≡ to ends rule d v (cut (lines d v.world.wire) (gone d v + (n + 1)))
+  some_bytes : (v : Streams Client State) (n : ℕ) → 0 < length (lines d v.world.wire) → flows ends rule v (bytes d (n + 1)) ≡ after_cut ends rule d v (cut (lines d v.world.wire) (gone d v + (n + 1)))
   some_bytes v n some = bytes_pass ends rule d v (n + 1) ∙ some_pass v n (lines d v.world.wire) some
 
   -- going to the cut b, and then on to the cut c, is going to one cut: the one with the lines of both, and with as many bytes of
   -- the next line as c
-  to_behind : (v : Streams Client State) (b : Cut) (c : Cut) → to ends rule d v (with_more_lines b.lines c) ≡ to ends rule d (to ends rule d v b) c
+  to_behind : (v : Streams Client State) (b : Cut) (c : Cut) → after_cut ends rule d v (with_more_lines b.lines c) ≡ after_cut ends rule d (after_cut ends rule d v b) c
   to_behind v b c =
       let w = run ends rule (replicate b.lines (deliver d)) v.world in
       ap (λ x. reaches d v x c.gone) (ap (λ s. run ends rule s v.world) (replicate_add b.lines c.lines (deliver d))
@@ -115,11 +115,11 @@ module _ {Client State : Type 0} (ends : Ends State) (rule : Rule Client) (d : D
       ∙ sym (reaches_again d v w b.gone (run ends rule (replicate c.lines (deliver d)) w) c.gone)
 
   -- where bytes leave lines in flight, there were lines in flight
-  rest : (v : Streams Client State) (n : ℕ) (q : List (List ℕ)) → lines d v.world.wire ≡ q → 0 < length (lines d (passing ends rule d v q n).world.wire) → 0 < length q
-  rest v n [] e some =
+  some_before : (v : Streams Client State) (n : ℕ) (q : List (List ℕ)) → lines d v.world.wire ≡ q → 0 < length (lines d (passing ends rule d v q n).world.wire) → 0 < length q
+  some_before v n [] e some =
       let same : lines d (idle v.world.wire) ≡ [] = ap (map with_end) (idle_leaves d v.world.wire) ∙ e in
       absurd (omega (arith, some, ap length same))
-  rest v n (line ∷ q) e some = omega arith
+  some_before v n (line ∷ q) e some = omega arith
 
   -- bytes in one event leave what they leave in two, where a line is in flight between the two
   pub bytes_add : (v : Streams Client State) (m n : ℕ) → 0 < length (lines d (flows ends rule v (bytes d (m + 1))).world.wire)
@@ -128,17 +128,17 @@ module _ {Client State : Type 0} (ends : Ends State) (rule : Rule Client) (d : D
       let all = lines d v.world.wire in
       let g = gone d v in
       let c = cut all (g + (m + 1)) in
-      let under : 0 < length all = rest v (m + 1) all refl (subst (λ (x : Streams Client State). 0 < length (lines d x.world.wire)) (bytes_pass ends rule d v (m + 1)) some) in
-      let first : flows ends rule v (bytes d (m + 1)) ≡ to ends rule d v c = some_bytes v m under in
-      let u = to ends rule d v c in
+      let under : 0 < length all = some_before v (m + 1) all refl (subst (λ (x : Streams Client State). 0 < length (lines d x.world.wire)) (bytes_pass ends rule d v (m + 1)) some) in
+      let first : flows ends rule v (bytes d (m + 1)) ≡ after_cut ends rule d v c = some_bytes v m under in
+      let u = after_cut ends rule d v c in
       let after : lines d u.world.wire ≡ drop c.lines all = lines_left c.lines v.world in
       let under_u : 0 < length (lines d u.world.wire) = subst (λ (x : Streams Client State). 0 < length (lines d x.world.wire)) first some in
       let sum : m + 1 + (n + 1) ≡ m + 1 + n + 1 = omega arith in
       let total : g + (m + 1 + n + 1) ≡ g + (m + 1) + (n + 1) = omega arith in
       ap (λ k. flows ends rule v (bytes d k)) sum ∙ some_bytes v (m + 1 + n) under
-      ∙ ap (λ k. to ends rule d v (cut all k)) total ∙ ap (to ends rule d v) (cut_add all (g + (m + 1)) (n + 1))
+      ∙ ap (λ k. after_cut ends rule d v (cut all k)) total ∙ ap (after_cut ends rule d v) (cut_add all (g + (m + 1)) (n + 1))
       ∙ to_behind v c (cut (drop c.lines all) (c.gone + (n + 1)))
-      ∙ ap₂ (λ q k. to ends rule d u (cut q (k + (n + 1)))) (sym after) (sym (gone_reached d v u.world c.gone))
+      ∙ ap₂ (λ q k. after_cut ends rule d u (cut q (k + (n + 1)))) (sym after) (sym (gone_reached d v u.world c.gone))
       ∙ sym (some_bytes u n under_u)
       ∙ ap (λ x. flows ends rule x (bytes d (n + 1))) (sym first)
 
@@ -154,10 +154,10 @@ module _ {Client State : Type 0} (ends : Ends State) (rule : Rule Client) (d : D
       let sum : m + 1 + n ≡ m + n + 1 = omega arith in
       let total : gone d v + (m + n + 1) ≡ gone d v + (m + 1) + n = omega arith in
       let c = cut all (gone d v + (m + 1)) in
-      let first : flows ends rule v (bytes d (m + 1)) ≡ to ends rule d v c = some_bytes v m under in
+      let first : flows ends rule v (bytes d (m + 1)) ≡ after_cut ends rule d v c = some_bytes v m under in
       let done : drop c.lines all ≡ [] = sym (lines_left c.lines v.world) ∙ ap (λ (x : Streams Client State). lines d x.world.wire) (sym first) ∙ none in
-      ap (λ k. flows ends rule v (bytes d k)) sum ∙ some_bytes v (m + n) under ∙ ap (λ k. to ends rule d v (cut all k)) total
-      ∙ ap (to ends rule d v) (cut_end all (gone d v + (m + 1)) n done) ∙ sym first
+      ap (λ k. flows ends rule v (bytes d k)) sum ∙ some_bytes v (m + n) under ∙ ap (λ k. after_cut ends rule d v (cut all k)) total
+      ∙ ap (after_cut ends rule d v) (cut_end all (gone d v + (m + 1)) n done) ∙ sym first
 
   -- where bytes leave no line in flight, further bytes in the same event change nothing
   pub bytes_end : (v : Streams Client State) (m n : ℕ) → lines d (flows ends rule v (bytes d (m + 1))).world.wire ≡ [] → flows ends rule v (bytes d (m + 1 + n)) ≡ flows ends rule v (bytes d (m + 1))

@@ -4,7 +4,7 @@ use Rattle.std.proofs.Common.{◌≡◌, ℕ, zero, suc, ◌+◌, ◌-◌, ◌�
 use Rattle.std.specs.Prelude.{slice_get}
 use Rattle.std.proofs.lemmas.Bool.{ltb-false}
 use Rattle.gc_client.specs.declared.pending.Pending.{Pending}
-use Rattle.gc_client.specs.Rule.{Outcome, Answered, Late, Lost, Settlement, lost, met, settle}
+use Rattle.gc_client.specs.Rule.{Outcome, Answered, Late, Lost, Settlement, lost, settled_by_line, settle}
 use Rattle.gc_instrument.specs.Replying.{Handed}
 use Rattle.gc_world.specs.Worlds.{Request, Numbered, Ends, Step, World, Wire, replied, started, with_settled, run}
 use Rattle.gc_world.specs.Clients.{ByNumber, number_reply, by_numbers, numbers_open}
@@ -14,7 +14,8 @@ use Rattle.gc_world.proofs.Rows.{each_append, each_more, each_without, each_doub
 use Rattle.gc_world.proofs.Sound.{Sound, keeps, sound_open}
 use Rattle.gc_world.proofs.Stable.{IsStable, stable_all}
 
--- a list has this element
+-- a list has this element. It is std's `Contains` by recursion on the list, because proofs split lists at their front; `Contains`
+-- speaks of places
 abbrev pub Has : {A : Type 0} → A → List A → Type 0
 Has a [] = ⊥
 Has a (x ∷ xs) = (x ≡ a) ⊎ Has a xs
@@ -70,9 +71,9 @@ all_made_lost made n (p ∷ ps) = (tt, all_made_lost made (n + 1) ps)
 
 -- a reply that was made for request n settles that request with an answer that was made for it, or as late
 made_met : {Q : Type 0} (made : List (Numbered (List ℕ))) (n : ℕ) (line : List ℕ) (p : Pending Q) (given_up : Bool) → p.given_up ≡ given_up
-    → Has (record { number = n; line = line }) made → IsMade made n (met p line).outcome
-made_met made n line p true e h = subst (λ b. IsMade made n (met (record p { given_up = b }) line).outcome) (sym e) tt
-made_met made n line p false e h = subst (λ b. IsMade made n (met (record p { given_up = b }) line).outcome) (sym e) h
+    → Has (record { number = n; line = line }) made → IsMade made n (settled_by_line p line).outcome
+made_met made n line p true e h = subst (λ b. IsMade made n (settled_by_line (record p { given_up = b }) line).outcome) (sym e) tt
+made_met made n line p false e h = subst (λ b. IsMade made n (settled_by_line (record p { given_up = b }) line).outcome) (sym e) h
 
 -- where a reply made for request m settles the requests from n through m, each answer among these settlements was made for its
 -- request
@@ -86,7 +87,7 @@ all_made_settle made n m (suc k) line (p ∷ ps) e h = (tt, all_made_settle made
 
 -- each reply in flight and each answer that was booked was made for its request
 pub record IsBacked {Q : Type 0} (made down : List (Numbered (List ℕ))) (settled : List (Settlement Q)) : Type 0 where
-  pub under_way : Each (λ x. Has x made) down
+  pub in_flight : Each (λ x. Has x made) down
   pub booked : AllMade made 0 settled
 
 module _ {Q State : Type 0} (width : ℕ) (ends : Ends Q State) (Good : State → Type 0) where
@@ -101,9 +102,9 @@ module _ {Q State : Type 0} (width : ℕ) (ends : Ends Q State) (Good : State �
   backed_answer w n rest hd h =
       let x : Numbered (List ℕ) = record { number = n; line = hd.reply } in
       record {
-        under_way =
+        in_flight =
             each_append _ w.down _
-            (each_more (λ y. Has y w.made) (λ y. Has y (w.made ++ x ∷ [])) (λ y p. has_more y w.made (x ∷ []) p) w.down h.under_way)
+            (each_more (λ y. Has y w.made) (λ y. Has y (w.made ++ x ∷ [])) (λ y p. has_more y w.made (x ∷ []) p) w.down h.in_flight)
             (has_push x w.made, tt);
         booked = all_made_more w.made _ 0 w.settled h.booked;
       }
@@ -113,13 +114,13 @@ module _ {Q State : Type 0} (width : ℕ) (ends : Ends Q State) (Good : State �
       → w.wire.down ≡ x ∷ rest → length w.wire.settled ≡ w.client.count → IsBacked w.wire.made w.wire.down w.wire.settled
       → IsBacked w.wire.made rest (w.wire.settled ++ (number_reply w.client x old).settlements)
   backed_reply w x rest true t e s h =
-      let g = subst (λ q. Each (λ y. Has y w.wire.made) q) e h.under_way in
-      record { under_way = g.1; booked = all_made_append w.wire.made 0 w.client.count w.wire.settled [] (omega (arith, s)) h.booked tt }
+      let g = subst (λ q. Each (λ y. Has y w.wire.made) q) e h.in_flight in
+      record { in_flight = g.1; booked = all_made_append w.wire.made 0 w.client.count w.wire.settled [] (omega (arith, s)) h.booked tt }
   backed_reply w x rest false t e s h =
-      let g = subst (λ q. Each (λ y. Has y w.wire.made) q) e h.under_way in
+      let g = subst (λ q. Each (λ y. Has y w.wire.made) q) e h.in_flight in
       let ge : w.client.count ≤ x.number = ltb-false _ _ t in
       record {
-        under_way = g.1;
+        in_flight = g.1;
         booked =
             all_made_append w.wire.made 0 w.client.count w.wire.settled _ (omega (arith, s)) h.booked
             (all_made_settle w.wire.made w.client.count x.number (x.number - w.client.count) x.line (drop w.client.count w.client.requests) (omega (arith, ge)) g.0);
@@ -130,13 +131,13 @@ module _ {Q State : Type 0} (width : ℕ) (ends : Ends Q State) (Good : State �
       → (let v = (with_settled (started ends w.wire b) ((by_numbers width).restart w.client)).wire in IsBacked v.made v.down v.settled)
   backed_restart w false s h =
       record {
-        under_way = h.under_way;
+        in_flight = h.in_flight;
         booked = all_made_append w.wire.made 0 w.client.count w.wire.settled _ (omega (arith, s)) h.booked
             (all_made_lost w.wire.made w.client.count (drop w.client.count w.client.requests));
       }
   backed_restart w true s h =
       record {
-        under_way = h.under_way;
+        in_flight = h.in_flight;
         booked = all_made_append w.wire.made 0 w.client.count w.wire.settled _ (omega (arith, s)) h.booked
             (all_made_lost w.wire.made w.client.count (drop w.client.count w.client.requests));
       }
@@ -152,8 +153,8 @@ module _ {Q State : Type 0} (width : ℕ) (ends : Ends Q State) (Good : State �
         answers = λ w x rest q h. record { sound = k.answers w x rest q h.sound; backed = backed_answer w.wire x.number rest (ends.handed w.wire.state x.line.id x.line.call) h.backed };
         loses_up = λ w n h. record { sound = k.loses_up w n h.sound; backed = h.backed };
         repeats_up = λ w n h. record { sound = k.repeats_up w n h.sound; backed = h.backed };
-        loses_down = λ w n h. record { sound = k.loses_down w n h.sound; backed = record { under_way = each_without _ n w.wire.down h.backed.under_way; booked = h.backed.booked } };
-        repeats_down = λ w n h. record { sound = k.repeats_down w n h.sound; backed = record { under_way = each_doubled _ n w.wire.down h.backed.under_way; booked = h.backed.booked } };
+        loses_down = λ w n h. record { sound = k.loses_down w n h.sound; backed = record { in_flight = each_without _ n w.wire.down h.backed.in_flight; booked = h.backed.booked } };
+        repeats_down = λ w n h. record { sound = k.repeats_down w n h.sound; backed = record { in_flight = each_doubled _ n w.wire.down h.backed.in_flight; booked = h.backed.booked } };
         hears = λ w x rest q h. record { sound = k.hears w x rest q h.sound; backed = backed_reply w x rest (ltb x.number w.client.count) refl q h.sound.booked h.backed };
         expires = λ w now h. record { sound = k.expires w now h.sound; backed = h.backed };
         restarts = λ w u d h. record { sound = k.restarts w u d h.sound; backed = backed_restart w ends.joint h.sound.booked h.backed };
@@ -163,4 +164,4 @@ module _ {Q State : Type 0} (width : ℕ) (ends : Ends Q State) (Good : State �
   -- the run by numbers ends in a backed world
   pub backed_at : (written : ℕ → Q → List ℕ) → IsExchange ends Good → (es : List (Step Q)) (state : State) → Good state → Backed (run written ends (by_numbers width) es (numbers_open state))
   backed_at written ex es state g = stable_all written ends (by_numbers width) Backed (keeps_backed written ex) es (numbers_open state)
-      (record { sound = sound_open width ends Good state g; backed = record { under_way = tt; booked = tt } })
+      (record { sound = sound_open width ends Good state g; backed = record { in_flight = tt; booked = tt } })

@@ -48,8 +48,8 @@ cut_few (line ∷ lines) n = by_size (ltb n (length line)) (cut_few lines (n - l
 
 module _ {Client State : Type 0} (ends : Ends State) (rule : Rule Client) (n : ℕ) where
   -- what is within n is within n + 1
-  more : (w : Wire State) → IsWithin n w → IsWithin (n + 1) w
-  more w h = record {
+  one_more_within : (w : Wire State) → IsWithin n w → IsWithin (n + 1) w
+  one_more_within w h = record {
     sent = omega (arith, h.sent);
     executed = omega (arith, h.executed);
     made = omega (arith, h.made);
@@ -119,7 +119,7 @@ module _ {Client State : Type 0} (ends : Ends State) (rule : Rule Client) (n : �
   -- a delivery to the instrument raises the bound by at most one
   delivers : (w : Wire State) (q : List (Numbered Request)) → w.up ≡ q → IsWithin n w → IsWithin (n + 1) (up_delivered ends w q)
   delivers w [] e h = idles w h
-  delivers w (x ∷ rest) e h = more (replied w x.number rest (ends.handed w.state x.line.id x.line.call)) (answers w x rest (ends.handed w.state x.line.id x.line.call) e h)
+  delivers w (x ∷ rest) e h = one_more_within (replied w x.number rest (ends.handed w.state x.line.id x.line.call)) (answers w x rest (ends.handed w.state x.line.id x.line.call) e h)
 
   -- an upward queue that is longer by at most one raises the bound by at most one
   changes_up : (w : Wire State) (up : List (Numbered Request)) (b : Bool) → length up ≤ length w.up + 1 → IsWithin n w → IsWithin (n + 1) (with_up w up b)
@@ -162,7 +162,7 @@ module _ {Client State : Type 0} (ends : Ends State) (rule : Rule Client) (n : �
 
   -- a start of the instrument raises the bound by at most one
   starts : (w : Wire State) (b : Bool) → IsWithin n w → IsWithin (n + 1) (started ends w b)
-  starts w false h = more w h
+  starts w false h = one_more_within w h
   starts w true h = record {
     sent = omega (arith, h.sent);
     executed = omega (arith, h.executed);
@@ -194,7 +194,7 @@ module _ {Client State : Type 0} (ends : Ends State) (rule : Rule Client) (n : �
   one_step w Down_deliver h = hears w w.wire.down h
   one_step w (Down_lose k) h = changes_down w.wire _ (ltb k (length w.wire.down)) h
   one_step w (Down_repeat k) h = changes_down w.wire _ (ltb k (length w.wire.down)) h
-  one_step w (Expire now) h = more w.wire h
+  one_step w (Expire now) h = one_more_within w.wire h
   one_step w Restart_client h = restarts_client w w.wire.up w.wire.down h
   one_step w Restart_instrument h = restarts_instrument w.wire w.wire.up w.wire.down h
   one_step w Nothing h = idles w.wire h
@@ -215,11 +215,11 @@ module _ {Client State : Type 0} (ends : Ends State) (rule : Rule Client) (n : �
   one_delivery Down w some h = down_once w w.wire.down some h
 
   -- deliveries of lines that are in flight don't raise the bound, however many they are
-  all : (d : Direction) (k : ℕ) (w : World Client State) → k ≤ length (texts d w.wire) → IsWithin n w.wire → IsWithin n (run ends rule (replicate k (deliver d)) w).wire
-  all d zero w le h = h
-  all d (suc k) w le h =
+  all_deliveries : (d : Direction) (k : ℕ) (w : World Client State) → k ≤ length (texts d w.wire) → IsWithin n w.wire → IsWithin n (run ends rule (replicate k (deliver d)) w).wire
+  all_deliveries d zero w le h = h
+  all_deliveries d (suc k) w le h =
       let less : length (texts d (happens ends rule w (deliver d)).wire) ≡ length (texts d w.wire) - 1 = ap length (one_less ends rule d w) ∙ length-drop 1 (texts d w.wire) in
-      all d k (happens ends rule w (deliver d)) (omega (arith, le, less)) (one_delivery d w (omega (arith, le)) h)
+      all_deliveries d k (happens ends rule w (deliver d)) (omega (arith, le, less)) (one_delivery d w (omega (arith, le)) h)
 
   -- the bytes of an event raise the bound by at most one
   passes : (d : Direction) (lines : List (List ℕ)) (gone k : ℕ) (w : World Client State) → length lines ≡ length (texts d w.wire) → IsWithin n w.wire
@@ -228,7 +228,7 @@ module _ {Client State : Type 0} (ends : Ends State) (rule : Rule Client) (n : �
   passes d (line ∷ lines) gone zero w e h = idles w.wire h
   passes d (line ∷ lines) gone (suc k) w e h =
       let c = (cut (line ∷ lines) (gone + suc k)).lines in
-      more (run ends rule (replicate c (deliver d)) w).wire (all d c w (omega (arith, cut_few (line ∷ lines) (gone + suc k), e)) h)
+      one_more_within (run ends rule (replicate c (deliver d)) w).wire (all_deliveries d c w (omega (arith, cut_few (line ∷ lines) (gone + suc k), e)) h)
 
   -- each event raises the bound by at most one
   pub one_event : (v : Streams Client State) (e : Event) → IsWithin n v.world.wire → IsWithin (n + 1) (flows ends rule v e).world.wire

@@ -11,7 +11,7 @@ use Rattle.gc_world.specs.declared.event.Event.TheVariants.{DownDeliver, DownByt
 use Rattle.gc_world.specs.FirstReply.{IsDelivery}
 use Rattle.gc_world.specs.Streams.{Streams, Cut, one_more, cut, down_texts, down_lines, remaining, flows}
 use Rattle.gc_world.specs.World.{Ends, Rule}
-use Rattle.gc_world.proofs.Directions.{passing, to}
+use Rattle.gc_world.proofs.Directions.{passing, after_cut}
 use Rattle.gc_world.proofs.Handed.{cut_long, in_front}
 use Rattle.gc_world.proofs.Pieces.{end_length}
 
@@ -33,7 +33,7 @@ module _ (ends : Ends State) (rule : Rule (ById Call)) (v : Streams (ById Call) 
       let none : g + suc n - length (with_end f.0) ≡ 0 = omega (arith, size) in
       let one : cut (map with_end (f.0 ∷ f.1)) (g + suc n) ≡ record { lines = 1; gone = 0 } =
       cut_long (with_end f.0) (map with_end f.1) (g + suc n) (omega (arith, size)) ∙ ap (λ k. one_more (cut (map with_end f.1) k)) none ∙ ap one_more (cut_zero f.1) in
-      ap (λ q. passing ends rule Down v (map with_end q) (n + 1)) f.2 ∙ ap (passing ends rule Down v (map with_end (f.0 ∷ f.1))) next ∙ ap (to ends rule Down v) one
+      ap (λ q. passing ends rule Down v (map with_end q) (n + 1)) f.2 ∙ ap (passing ends rule Down v (map with_end (f.0 ∷ f.1))) next ∙ ap (after_cut ends rule Down v) one
 
   -- an event that hands over the last byte of the reply in front does what `DownDeliver` does
   pub delivery_is : (e : Event) → IsDelivery v e → flows ends rule v e ≡ flows ends rule v DownDeliver

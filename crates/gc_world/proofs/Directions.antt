@@ -45,8 +45,8 @@ module _ {Client State : Type 0} where
     bytes_pass Down v n = refl
 
     -- the streams after as many deliveries in a direction as the cut has lines, and with as much gone of the next line as it says
-    abbrev pub to : Direction → Streams Client State → Cut → Streams Client State
-    to d v c = reaches d v (run ends rule (replicate c.lines (deliver d)) v.world) c.gone
+    abbrev pub after_cut : Direction → Streams Client State → Cut → Streams Client State
+    after_cut d v c = reaches d v (run ends rule (replicate c.lines (deliver d)) v.world) c.gone
 
     -- What is in flight after a step.
 

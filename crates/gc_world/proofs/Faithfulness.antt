@@ -9,7 +9,7 @@ use Rattle.gc_world.specs.declared.report.Report.{Report}
 use Rattle.gc_world.specs.Faithful.{ActsOnce, Faithful}
 use Rattle.gc_world.specs.Reports.{IsReport, IsNoLongerThan}
 use Rattle.gc_world.specs.Clients.{ends, played, played_by_numbers, run_by_ids, streams_by_ids, streams_by_numbers}
-use Rattle.gc_world.specs.Stages.{AreOf}
+use Rattle.gc_world.specs.Stages.{AreOfWorld}
 use Rattle.gc_world.specs.World.{World}
 use Rattle.gc_world.proofs.Flow.{AreLevel, level_at, level_wire}
 use Rattle.gc_world.proofs.Handing.{KeptFits, reads, exchange, kept_of, keeper, fine}
@@ -23,7 +23,7 @@ module _ (width : ℕ) (narrow : width ≤ 7) (opening : State) (events : List E
   level = level_at width narrow ends KeptFits reads (restarted opening) tt events
 
   -- a report of the run by ids is faithful
-  pub faithful : (r : Report) (up down : List ℕ) (client : Windowed Call) → IsFittingState (restarted opening) → AreOf width r up down client (played width opening events)
+  pub faithful : (r : Report) (up down : List ℕ) (client : Windowed Call) → IsFittingState (restarted opening) → AreOfWorld width r up down client (played width opening events)
       → Faithful width opening events r
   faithful r up down client good shows =
       let es = level.steps in
@@ -41,7 +41,7 @@ module _ (width : ℕ) (narrow : width ≤ 7) (opening : State) (events : List E
       }
 
   -- by a report of the run by ids each request acted once
-  pub once : (r : Report) (up down : List ℕ) (client : Windowed Call) → IsFittingState (restarted opening) → AreOf width r up down client (played width opening events) → ActsOnce opening r
+  pub once : (r : Report) (up down : List ℕ) (client : Windowed Call) → IsFittingState (restarted opening) → AreOfWorld width r up down client (played width opening events) → ActsOnce opening r
   once r up down client good shows =
       let es = level.steps in
       let w = (run_by_ids width ends es (restarted opening)).wire in
@@ -49,7 +49,7 @@ module _ (width : ℕ) (narrow : width ≤ 7) (opening : State) (events : List E
       acts_once r w h opening (execution_at width narrow ends IsFittingState exchange kept_of keeper refl es opening good)
 
   -- no list of a report of the run by ids is longer than the list of events
-  pub no_longer_than : (r : Report) (up down : List ℕ) (client : Windowed Call) → AreOf width r up down client (played width opening events) → IsNoLongerThan (length events) r
+  pub no_longer_than : (r : Report) (up down : List ℕ) (client : Windowed Call) → AreOfWorld width r up down client (played width opening events) → IsNoLongerThan (length events) r
   no_longer_than r up down client shows =
       let es = level.steps in
       let w = (run_by_ids width ends es (restarted opening)).wire in

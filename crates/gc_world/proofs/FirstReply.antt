@@ -9,7 +9,7 @@ use Rattle.std.proofs.Math.Seq.{drop-append_seam}
 use Rattle.gc_catalogue.specs.declared.call.Call.{Call}
 use Rattle.gc_client.specs.declared.pending.Pending.{Pending}
 use Rattle.gc_client.specs.declared.window.TheConstants.{WINDOW}
-use Rattle.gc_client.specs.Rule.{ById, Settlement, Outcome, Answered, Late, Lost, pending_of, lost, met, settle}
+use Rattle.gc_client.specs.Rule.{ById, Settlement, Outcome, Answered, Late, Lost, pending_of, lost, settled_by_line, settle}
 use Rattle.gc_client.specs.OneForOne.{Wanted, of_settled, of_pending}
 use Rattle.gc_instrument.specs.State.{State, restarted}
 use Rattle.gc_world.specs.declared.event.Event.{Event}
@@ -47,9 +47,9 @@ partner_at : {A B C : Type 0} (f : A → C) (g : B → C) (xs : List A) (ys : Li
 partner_at f g xs ys n x e h = get_seen g ys n (f x) (ap (λ l. slice_get l n) (sym e) ∙ get_map f xs n x h)
 
 -- settling through place k settles the first k requests as lost, and the one at place k by the line
-settle_at : (k : ℕ) (line : List ℕ) (ps : List (Pending Call)) (p : Pending Call) → slice_get ps k ≡ Some p → settle k line ps ≡ map lost (take k ps) ++ met p line ∷ []
+settle_at : (k : ℕ) (line : List ℕ) (ps : List (Pending Call)) (p : Pending Call) → slice_get ps k ≡ Some p → settle k line ps ≡ map lost (take k ps) ++ settled_by_line p line ∷ []
 settle_at k line [] p h = absurd (none_is_not p h)
-settle_at zero line (q ∷ ps) p h = ap (λ r. met r line ∷ []) (some_is q p h)
+settle_at zero line (q ∷ ps) p h = ap (λ r. settled_by_line r line ∷ []) (some_is q p h)
 settle_at (suc k) line (q ∷ ps) p h = ap (λ l. lost q ∷ l) (settle_at k line ps p h)
 
 -- the settlement, with this outcome, of a request with this target and this call
@@ -250,7 +250,7 @@ module _ (width : ℕ) (narrow : width ≤ WINDOW) (opening : State) where
       let s = t.sent in
       let p = mark_of s.earlier s.target s.call t.deadline t.later in
       subst (λ b. IsSettledAs (left_by_ids width opening events) (left_by_ids width opening (events ++ delivery ∷ [])) n (cond b Late (Answered line)))
-      (too_late ends (by_numbers width) t.later (behind s.earlier s.target s.call t.deadline) (pending_of s.target s.call t.deadline) t.now t.told t.reached)
+      (too_late ends (by_numbers width) t.later (behind s.earlier s.target s.call t.deadline) (pending_of s.target s.call t.deadline) t.now t.given t.reached)
       (settled_at events n line p (entry events n t.deadline t.later s next.unsettled) delivery is next)
 
   -- a further reply settles nothing

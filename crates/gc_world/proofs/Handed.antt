@@ -1,5 +1,5 @@
 -- For the loop that hands over n bytes of a direction, one completed line after the other: at each turn, handing over the bytes
--- that are left leads to the same streams as handing over all n bytes at the start. An event *takes no memory* where `TakesNone`
+-- that are left leads to the same streams as handing over all n bytes at the start. An event *takes no memory* where `TakesNoMemory`
 -- holds of it: no list grows, as where bytes complete no line.
 use Rattle.std.proofs.Common.{◌≡◌, ℕ, zero, suc, ◌+◌, ◌-◌, ◌<◌, ◌≤◌, Bool, true, false, cond, ◌⊎◌, inl, inr, List, [], ◌∷◌, length, map, drop, Option, Some, None, refl, sym, ◌∙◌, ap, subst, arith}
 use mathlib.Core.Path.{ap₂}
@@ -13,12 +13,12 @@ use Rattle.gc_world.specs.declared.direction.Direction.{Direction}
 use Rattle.gc_world.specs.declared.direction.Direction.TheVariants.{Up, Down}
 use Rattle.gc_world.specs.Clients.{by_ids, ends}
 use Rattle.gc_world.specs.Directions.{deliver, delivery, bytes, texts, lines, gone, reaches}
-use Rattle.gc_world.specs.Memory.{IsStray, AreStrays, TakesNone}
+use Rattle.gc_world.specs.Memory.{IsStray, AreStrays, TakesNoMemory}
 use Rattle.gc_world.specs.Sides.{IsPart}
-use Rattle.gc_world.specs.Stages.{Seen, does, goes_on, AreStreamsOf, handed}
+use Rattle.gc_world.specs.Stages.{Seen, after_step, after_event, AreStreamsOf, after_bytes}
 use Rattle.gc_world.specs.Streams.{Streams, Cut, one_more, cut, down_lines, remaining}
 use Rattle.gc_world.specs.World.{Numbered, Down_deliver, down_delivered, run}
-use Rattle.gc_world.proofs.Directions.{gone_reached, reaches_again, reaches_same, delivered, passing, bytes_pass, to, one_less, not_idle}
+use Rattle.gc_world.proofs.Directions.{gone_reached, reaches_again, reaches_same, delivered, passing, bytes_pass, after_cut, one_less, not_idle}
 use Rattle.gc_world.proofs.Shown.{part}
 
 -- where n bytes complete the front line, the cut at n bytes is the cut of the lines after that line at the bytes that are
@@ -32,9 +32,9 @@ in_front gone [] some = absurd (omega (arith, some))
 in_front gone (t ∷ ts) some = (t, ts, refl)
 
 -- where no byte of the front line remains, no line is in flight
-none_under_way : (gone : ℕ) (lines : List (List ℕ)) → IsPart gone lines → remaining gone lines ≡ 0 → (lines ≡ []) × (gone ≡ 0)
-none_under_way gone [] part e = (refl, part)
-none_under_way gone (line ∷ lines) part e = absurd (omega (arith, part, e))
+none_in_flight : (gone : ℕ) (lines : List (List ℕ)) → IsPart gone lines → remaining gone lines ≡ 0 → (lines ≡ []) × (gone ≡ 0)
+none_in_flight gone [] part e = (refl, part)
+none_in_flight gone (line ∷ lines) part e = absurd (omega (arith, part, e))
 
 -- a line that no request waits for leaves the client as it is
 stray_same : (c : ById Call) (line : List ℕ) (o : Option ℕ) → fits c o ≡ false → (hears c line o).client ≡ c
@@ -50,7 +50,7 @@ module _ (width : ℕ) (d : Direction) (v : Streams (ById Call) State) where
     behind : List (List ℕ)
     front : texts d v.world.wire ≡ text ∷ behind
     cut_is : cut (lines d v.world.wire) (gone d v + n) ≡ one_more (cut (map with_end behind) (n - used))
-    tail : behind ≡ texts d (does width v.world (deliver d)).wire
+    tail : behind ≡ texts d (after_step width v.world (deliver d)).wire
 
   -- `IsNext` holds where the front line takes what remains of it, which is some bytes and no more than n
   next : (n used : ℕ) → used ≡ remaining (gone d v) (lines d v.world.wire) → 0 < used → used ≤ n → IsNext n used
@@ -69,46 +69,46 @@ module _ (width : ℕ) (d : Direction) (v : Streams (ById Call) State) where
 
   -- the streams after the delivery of the front line
   abbrev after : Streams (ById Call) State
-  after = reaches d v (does width v.world (deliver d)) 0
+  after = reaches d v (after_step width v.world (deliver d)) 0
 
   -- handing over n bytes is delivering the front line, and then handing over the n - used others
-  next_same : (n used : ℕ) → IsNext n used → handed width d v n ≡ handed width d (goes_on width v (delivery d)) (n - used)
+  next_same : (n used : ℕ) → IsNext n used → after_bytes width d v n ≡ after_bytes width d (after_event width v (delivery d)) (n - used)
   next_same n used h =
       let rule = by_ids width ends in
       let c = cut (map with_end h.behind) (n - used) in
-      let w = does width v.world (deliver d) in
+      let w = after_step width v.world (deliver d) in
       let none : gone d after ≡ 0 = gone_reached d v w 0 in
       let more : n - used ≡ gone d after + (n - used) = omega (arith, none) in
-      ap (to ends rule d v) h.cut_is ∙ sym (reaches_again d v w 0 (run ends rule (replicate c.lines (deliver d)) w) c.gone)
-      ∙ ap₂ (λ q k. to ends rule d after (cut (map with_end q) k)) h.tail more
-      ∙ ap (λ x. handed width d x (n - used)) (sym (delivered ends rule d v))
+      ap (after_cut ends rule d v) h.cut_is ∙ sym (reaches_again d v w 0 (run ends rule (replicate c.lines (deliver d)) w) c.gone)
+      ∙ ap₂ (λ q k. after_cut ends rule d after (cut (map with_end q) k)) h.tail more
+      ∙ ap (λ x. after_bytes width d x (n - used)) (sym (delivered ends rule d v))
 
   -- the delivery of the front line is no idle event
-  next_idle : (n used : ℕ) → IsNext n used → (goes_on width v (delivery d)).world.wire.idle ≡ v.world.wire.idle
+  next_idle : (n used : ℕ) → IsNext n used → (after_event width v (delivery d)).world.wire.idle ≡ v.world.wire.idle
   next_idle n used h =
       let some : length (texts d v.world.wire) ≡ suc (length h.behind) = ap length h.front in
       ap (λ (x : Streams (ById Call) State). x.world.wire.idle) (delivered ends (by_ids width ends) d v) ∙ not_idle ends (by_ids width ends) d v.world (omega (arith, some))
 
   -- where no byte is in flight, handing over bytes changes nothing
-  ended : (n : ℕ) → IsPart (gone d v) (lines d v.world.wire) → remaining (gone d v) (lines d v.world.wire) ≡ 0 → handed width d v n ≡ v
+  ended : (n : ℕ) → IsPart (gone d v) (lines d v.world.wire) → remaining (gone d v) (lines d v.world.wire) ≡ 0 → after_bytes width d v n ≡ v
   ended n part e =
-      let none = none_under_way (gone d v) (lines d v.world.wire) part e in
-      ap (λ q. to ends (by_ids width ends) d v (cut q (gone d v + n))) none.0 ∙ ap (reaches d v v.world) (sym none.1) ∙ reaches_same d v
+      let none = none_in_flight (gone d v) (lines d v.world.wire) part e in
+      ap (λ q. after_cut ends (by_ids width ends) d v (cut q (gone d v + n))) none.0 ∙ ap (reaches d v v.world) (sym none.1) ∙ reaches_same d v
 
 -- A delivery that takes no memory: upward there is none, and downward it is one of a stray.
 module _ (width : ℕ) (v : Streams (ById Call) State) where
   -- bytes upward that take no memory complete no line
-  next_takes : (n used : ℕ) → IsNext width Up v n used → TakesNone width v (bytes Up n) → ⊥
+  next_takes : (n used : ℕ) → IsNext width Up v n used → TakesNoMemory width v (bytes Up n) → ⊥
   next_takes n used h z =
       let s : suc (cut (map with_end h.behind) (n - used)).lines ≡ 0 = sym (ap (λ (c : Cut). c.lines) h.cut_is) ∙ z in
       absurd (omega (arith, s))
 
   -- where bytes downward take no memory, neither the delivery of the front line nor the other bytes do
-  next_strays : (n used : ℕ) → IsNext width Down v n used → (q : List (Numbered (List ℕ))) → v.world.wire.down ≡ q → TakesNone width v (bytes Down n)
-      → TakesNone width v (delivery Down) × TakesNone width (goes_on width v (delivery Down)) (bytes Down (n - used))
+  next_strays : (n used : ℕ) → IsNext width Down v n used → (q : List (Numbered (List ℕ))) → v.world.wire.down ≡ q → TakesNoMemory width v (bytes Down n)
+      → TakesNoMemory width v (delivery Down) × TakesNoMemory width (after_event width v (delivery Down)) (bytes Down (n - used))
   next_strays n used h [] e t = let wrong : [] ≡ h.text ∷ h.behind = sym (ap (map (λ x. x.line)) e) ∙ h.front in cc
   next_strays n used h (x ∷ xs) e t =
-      let w = does width v.world Down_deliver in
+      let w = after_step width v.world Down_deliver in
       let k = (cut (map with_end h.behind) (n - used)).lines in
       let all = subst (λ q. AreStrays v.world.client (suc k) q) e (subst (λ (c : Cut). AreStrays v.world.client c.lines v.world.wire.down) h.cut_is t) in
       let same : w.client ≡ v.world.client = ap (λ q. (down_delivered (by_ids width ends) v.world q).client) e ∙ stray_same v.world.client x.line (heard x.line) all.0 in
@@ -122,8 +122,8 @@ module _ (width : ℕ) (v : Streams (ById Call) State) where
 
 -- where the bytes of an event take no memory, neither does the delivery of the front line nor do the other bytes, in either
 -- direction
-spared : (width : ℕ) (d : Direction) (v : Streams (ById Call) State) (n used : ℕ) → IsNext width d v n used → TakesNone width v (bytes d n)
-    → TakesNone width v (delivery d) × TakesNone width (goes_on width v (delivery d)) (bytes d (n - used))
+spared : (width : ℕ) (d : Direction) (v : Streams (ById Call) State) (n used : ℕ) → IsNext width d v n used → TakesNoMemory width v (bytes d n)
+    → TakesNoMemory width v (delivery d) × TakesNoMemory width (after_event width v (delivery d)) (bytes d (n - used))
 spared width Up v n used h t = absurd (next_takes width v n used h t)
 spared width Down v n used h t = next_strays width v n used h v.world.wire.down refl t
 
@@ -131,8 +131,8 @@ spared width Down v n used h t = next_strays width v n used h v.world.wire.down 
 pub record IsReached (width : ℕ) (d : Direction) (s : Seen) (v : Streams (ById Call) State) (n left : ℕ) : Type 0 where
   pub now : Streams (ById Call) State
   pub shows : AreStreamsOf width s now
-  pub same : handed width d now left ≡ handed width d v n
-  pub spare : TakesNone width v (bytes d n) → TakesNone width now (bytes d left)
+  pub same : after_bytes width d now left ≡ after_bytes width d v n
+  pub spare : TakesNoMemory width v (bytes d n) → TakesNoMemory width now (bytes d left)
   pub idle : now.world.wire.idle ≡ v.world.wire.idle
 
 -- `IsReached` holds before any byte was handed over
@@ -142,11 +142,11 @@ reached width d s v n h = record { now = v; shows = h; same = refl; spare = λ t
 module _ (width : ℕ) (d : Direction) (s : Seen) (v : Streams (ById Call) State) (n left : ℕ) (h : IsReached width d s v n left) where
   -- `IsReached` holds also once one more line was delivered
   pub reaches_next : (t : Seen) (used : ℕ) → used ≡ remaining (gone d h.now) (lines d h.now.world.wire) → 0 < used → used ≤ left
-      → AreStreamsOf width t (goes_on width h.now (delivery d)) → IsReached width d t v n (left - used)
+      → AreStreamsOf width t (after_event width h.now (delivery d)) → IsReached width d t v n (left - used)
   reaches_next t used e some le shows =
       let one = next width d h.now left used e some le in
       record {
-        now = goes_on width h.now (delivery d);
+        now = after_event width h.now (delivery d);
         shows = shows;
         same = sym (next_same width d h.now left used one) ∙ h.same;
         spare = λ t. (spared width d h.now left used one (h.spare t)).1;
@@ -154,15 +154,15 @@ module _ (width : ℕ) (d : Direction) (s : Seen) (v : Streams (ById Call) State
       }
 
   -- where the n bytes of the event take no memory, the delivery of the front line takes none
-  pub next_spares : (used : ℕ) → used ≡ remaining (gone d h.now) (lines d h.now.world.wire) → 0 < used → used ≤ left → TakesNone width v (bytes d n) → TakesNone width h.now (delivery d)
+  pub next_spares : (used : ℕ) → used ≡ remaining (gone d h.now) (lines d h.now.world.wire) → 0 < used → used ≤ left → TakesNoMemory width v (bytes d n) → TakesNoMemory width h.now (delivery d)
   next_spares used e some le t = (spared width d h.now left used (next width d h.now left used e some le) (h.spare t)).0
 
   -- where the bytes that are left complete no line, handing them over leads where all n lead
-  pub reaches_end : (t : Seen) → AreStreamsOf width t (handed width d h.now left) → AreStreamsOf width t (handed width d v n)
+  pub reaches_end : (t : Seen) → AreStreamsOf width t (after_bytes width d h.now left) → AreStreamsOf width t (after_bytes width d v n)
   reaches_end t shows = subst (λ x. AreStreamsOf width t x) h.same shows
 
   -- where no byte is in flight any more, the streams are those that all n bytes lead to
-  pub runs_dry : remaining (gone d h.now) (lines d h.now.world.wire) ≡ 0 → AreStreamsOf width s (handed width d v n)
+  pub runs_dry : remaining (gone d h.now) (lines d h.now.world.wire) ≡ 0 → AreStreamsOf width s (after_bytes width d v n)
   runs_dry e = subst (λ x. AreStreamsOf width s x) (sym (ended width d h.now left (part width s h.now h.shows d) e) ∙ h.same) h.shows
 
 -- no truth value is both true and false
@@ -181,12 +181,12 @@ runs_out b (suc r) l iff e le = absurd (is_not b (iff.1 (omega arith, least (suc
         by_either (inl lt) = absurd (no_less lt)
         by_either (inr le1) = le1
 
--- an event of n bytes leads to the streams that `handed` gives, where n isn't 0 and bytes are in flight
-pub under_way : (width : ℕ) (d : Direction) (v : Streams (ById Call) State) (n r : ℕ) → r ≡ remaining (gone d v) (lines d v.world.wire) → (n ≡ 0 → ⊥) → (r ≡ 0 → ⊥)
-    → goes_on width v (bytes d n) ≡ handed width d v n
-under_way width d v n r e not none = bytes_pass ends (by_ids width ends) d v n ∙ by_cases n (lines d v.world.wire) not (λ z. none (e ∙ z))
+-- an event of n bytes leads to the streams that `after_bytes` gives, where n isn't 0 and bytes are in flight
+pub bytes_handed : (width : ℕ) (d : Direction) (v : Streams (ById Call) State) (n r : ℕ) → r ≡ remaining (gone d v) (lines d v.world.wire) → (n ≡ 0 → ⊥) → (r ≡ 0 → ⊥)
+    → after_event width v (bytes d n) ≡ after_bytes width d v n
+bytes_handed width d v n r e not none = bytes_pass ends (by_ids width ends) d v n ∙ by_cases n (lines d v.world.wire) not (λ z. none (e ∙ z))
   where
-    by_cases : (k : ℕ) (q : List (List ℕ)) → (k ≡ 0 → ⊥) → (remaining (gone d v) q ≡ 0 → ⊥) → passing ends (by_ids width ends) d v q k ≡ to ends (by_ids width ends) d v (cut q (gone d v + k))
+    by_cases : (k : ℕ) (q : List (List ℕ)) → (k ≡ 0 → ⊥) → (remaining (gone d v) q ≡ 0 → ⊥) → passing ends (by_ids width ends) d v q k ≡ after_cut ends (by_ids width ends) d v (cut q (gone d v + k))
     by_cases zero q some more = absurd (some refl)
     by_cases (suc k) [] some more = absurd (more refl)
     by_cases (suc k) (l ∷ ls) some more = refl

@@ -33,7 +33,7 @@ abbrev pub KeptFits : State → Type 0
 KeptFits s = IsFittingKept s.kept
 
 -- where `if b then Some l else None` is a line, b is true, and l is that line
-some_if : (b : Bool) (l line : List ℕ) → cond b (Some l) None ≡ Some line → (b ≡ true) × (l ≡ line)
+pub some_if : (b : Bool) (l line : List ℕ) → cond b (Some l) None ≡ Some line → (b ≡ true) × (l ≡ line)
 some_if true l line e = (refl, (cc))
 some_if false l line e = let never : ⊥ = cc in absurd never
 

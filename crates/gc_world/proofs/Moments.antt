@@ -11,6 +11,7 @@ use Rattle.gc_world.specs.World
 use Rattle.gc_world.specs.World.{Ends, Rule, Step, Up_deliver, Up_lose, Up_repeat, Down_deliver, Down_lose, Down_repeat}
 use Rattle.gc_world.proofs.Flow.{taken}
 use Rattle.gc_world.proofs.Marks.{touched, touched_all}
+use Rattle.gc_world.proofs.Replay.{or_true}
 
 -- an event makes q of a request p that waits: the deadline stays; q has timed out if p had, or if the event is a moment at
 -- or past the deadline; and else it hasn't
@@ -21,17 +22,12 @@ pub record IsTouched (e : Event) (p q : Pending Call) : Type 0 where
   pub reached : (now : ℕ) → e ≡ Expire now → p.deadline ≤ now → q.given_up ≡ true
 
 -- an event that is no moment leaves a request as it is
-tells_none : (e : Event) (p : Pending Call) → ((now : ℕ) → e ≡ Expire now → ⊥) → IsTouched e p p
-tells_none e p none = record { deadline = refl; stays = λ g. g; early = λ g h. g; reached = λ now is le. absurd (none now is) }
+untouched_by : (e : Event) (p : Pending Call) → ((now : ℕ) → e ≡ Expire now → ⊥) → IsTouched e p p
+untouched_by e p none = record { deadline = refl; stays = λ g. g; early = λ g h. g; reached = λ now is le. absurd (none now is) }
 
 -- equal `Expire` events have the same moment
 moment_is : (a b : ℕ) → Expire a ≡ Expire b → a ≡ b
 moment_is a b e = cc
-
--- `b || true` is true
-or_true : (b : Bool) → b || true ≡ true
-or_true true = refl
-or_true false = refl
 
 -- `b || false` is b
 or_false : (b : Bool) → b || false ≡ b
@@ -42,10 +38,10 @@ or_false false = refl
 abbrev IsQuiet : Step → Type 0
 IsQuiet step = (p : Pending Call) → touched step p ≡ p
 
--- a quiet step leaves requests as they are, and so does doing nothing in its place (b true)
-quiet_line : (k gone : ℕ) (step : Step) (p : Pending Call) (b : Bool) → IsQuiet step → touched_all (cond b World.Nothing step ∷ []) p ≡ p
-quiet_line k gone step p true q = refl
-quiet_line k gone step p false q = q p
+-- a quiet step (b false), or the step `Nothing` in its place (b true), leaves a waiting request as it is
+quiet_or_nothing : (step : Step) (p : Pending Call) (b : Bool) → IsQuiet step → touched_all (cond b World.Nothing step ∷ []) p ≡ p
+quiet_or_nothing step p true q = refl
+quiet_or_nothing step p false q = q p
 
 -- a quiet step made k times leaves requests as they are
 quiet_all : (step : Step) (k : ℕ) (p : Pending Call) → IsQuiet step → touched_all (replicate k step) p ≡ p
@@ -81,17 +77,17 @@ module _ {Client State : Type 0} (ends : Ends State) (rule : Rule Client) where
         early = λ g h. ap (λ b. p.given_up || b) (lt-leb _ _ (h now refl)) ∙ or_false p.given_up ∙ g;
         reached = λ m is le. ap (λ b. p.given_up || b) (le-leb p.deadline now (omega (arith, moment_is now m is, le))) ∙ or_true p.given_up;
       }
-  touch v (Send target call deadline) p = tells_none (Send target call deadline) p (λ now is. cc)
-  touch v UpDeliver p = tells_none UpDeliver p (λ now is. cc)
-  touch v (UpBytes k) p = equal_touched (UpBytes k) p _ (quiet_passed Up_deliver _ v.up_gone k p (λ x. refl)) (tells_none (UpBytes k) p (λ now is. cc))
-  touch v (UpLose k) p = equal_touched (UpLose k) p _ (quiet_line k v.up_gone (Up_lose k) p (is_begun k v.up_gone) (λ x. refl)) (tells_none (UpLose k) p (λ now is. cc))
-  touch v (UpRepeat k) p = equal_touched (UpRepeat k) p _ (quiet_line k v.up_gone (Up_repeat k) p (is_begun k v.up_gone) (λ x. refl)) (tells_none (UpRepeat k) p (λ now is. cc))
-  touch v DownDeliver p = tells_none DownDeliver p (λ now is. cc)
-  touch v (DownBytes k) p = equal_touched (DownBytes k) p _ (quiet_passed Down_deliver _ v.down_gone k p (λ x. refl)) (tells_none (DownBytes k) p (λ now is. cc))
-  touch v (DownLose k) p = equal_touched (DownLose k) p _ (quiet_line k v.down_gone (Down_lose k) p (is_begun k v.down_gone) (λ x. refl)) (tells_none (DownLose k) p (λ now is. cc))
-  touch v (DownRepeat k) p = equal_touched (DownRepeat k) p _ (quiet_line k v.down_gone (Down_repeat k) p (is_begun k v.down_gone) (λ x. refl)) (tells_none (DownRepeat k) p (λ now is. cc))
-  touch v RestartClient p = tells_none RestartClient p (λ now is. cc)
-  touch v RestartInstrument p = tells_none RestartInstrument p (λ now is. cc)
+  touch v (Send target call deadline) p = untouched_by (Send target call deadline) p (λ now is. cc)
+  touch v UpDeliver p = untouched_by UpDeliver p (λ now is. cc)
+  touch v (UpBytes k) p = equal_touched (UpBytes k) p _ (quiet_passed Up_deliver _ v.up_gone k p (λ x. refl)) (untouched_by (UpBytes k) p (λ now is. cc))
+  touch v (UpLose k) p = equal_touched (UpLose k) p _ (quiet_or_nothing (Up_lose k) p (is_begun k v.up_gone) (λ x. refl)) (untouched_by (UpLose k) p (λ now is. cc))
+  touch v (UpRepeat k) p = equal_touched (UpRepeat k) p _ (quiet_or_nothing (Up_repeat k) p (is_begun k v.up_gone) (λ x. refl)) (untouched_by (UpRepeat k) p (λ now is. cc))
+  touch v DownDeliver p = untouched_by DownDeliver p (λ now is. cc)
+  touch v (DownBytes k) p = equal_touched (DownBytes k) p _ (quiet_passed Down_deliver _ v.down_gone k p (λ x. refl)) (untouched_by (DownBytes k) p (λ now is. cc))
+  touch v (DownLose k) p = equal_touched (DownLose k) p _ (quiet_or_nothing (Down_lose k) p (is_begun k v.down_gone) (λ x. refl)) (untouched_by (DownLose k) p (λ now is. cc))
+  touch v (DownRepeat k) p = equal_touched (DownRepeat k) p _ (quiet_or_nothing (Down_repeat k) p (is_begun k v.down_gone) (λ x. refl)) (untouched_by (DownRepeat k) p (λ now is. cc))
+  touch v RestartClient p = untouched_by RestartClient p (λ now is. cc)
+  touch v RestartInstrument p = untouched_by RestartInstrument p (λ now is. cc)
 
 module _ {A : Type 0} where
   -- a list has its first element
@@ -160,24 +156,24 @@ abbrev Reaches : ℕ → Event → Type 0
 Reaches deadline e = (now : ℕ) × (e ≡ Expire now) × (deadline ≤ now)
 
 -- a moment lies before a deadline, or reaches it
-moment_tells : (deadline now : ℕ) (b : Bool) → leb deadline now ≡ b → IsEarly deadline (Expire now) ⊎ Reaches deadline (Expire now)
-moment_tells deadline now true t = inr (now, refl, leb-true _ _ t)
-moment_tells deadline now false t = inl (λ m is. omega (arith, moment_is now m is, leb-false _ _ t))
+moment_early_or_reaching : (deadline now : ℕ) (b : Bool) → leb deadline now ≡ b → IsEarly deadline (Expire now) ⊎ Reaches deadline (Expire now)
+moment_early_or_reaching deadline now true t = inr (now, refl, leb-true _ _ t)
+moment_early_or_reaching deadline now false t = inl (λ m is. omega (arith, moment_is now m is, leb-false _ _ t))
 
 -- an event is early, or reaches the deadline
-event_tells : (deadline : ℕ) (e : Event) → IsEarly deadline e ⊎ Reaches deadline e
-event_tells deadline (Expire now) = moment_tells deadline now (leb deadline now) refl
-event_tells deadline (Send target call d) = inl (λ now is. cc)
-event_tells deadline UpDeliver = inl (λ now is. cc)
-event_tells deadline (UpBytes k) = inl (λ now is. cc)
-event_tells deadline (UpLose k) = inl (λ now is. cc)
-event_tells deadline (UpRepeat k) = inl (λ now is. cc)
-event_tells deadline DownDeliver = inl (λ now is. cc)
-event_tells deadline (DownBytes k) = inl (λ now is. cc)
-event_tells deadline (DownLose k) = inl (λ now is. cc)
-event_tells deadline (DownRepeat k) = inl (λ now is. cc)
-event_tells deadline RestartClient = inl (λ now is. cc)
-event_tells deadline RestartInstrument = inl (λ now is. cc)
+event_early_or_reaching : (deadline : ℕ) (e : Event) → IsEarly deadline e ⊎ Reaches deadline e
+event_early_or_reaching deadline (Expire now) = moment_early_or_reaching deadline now (leb deadline now) refl
+event_early_or_reaching deadline (Send target call d) = inl (λ now is. cc)
+event_early_or_reaching deadline UpDeliver = inl (λ now is. cc)
+event_early_or_reaching deadline (UpBytes k) = inl (λ now is. cc)
+event_early_or_reaching deadline (UpLose k) = inl (λ now is. cc)
+event_early_or_reaching deadline (UpRepeat k) = inl (λ now is. cc)
+event_early_or_reaching deadline DownDeliver = inl (λ now is. cc)
+event_early_or_reaching deadline (DownBytes k) = inl (λ now is. cc)
+event_early_or_reaching deadline (DownLose k) = inl (λ now is. cc)
+event_early_or_reaching deadline (DownRepeat k) = inl (λ now is. cc)
+event_early_or_reaching deadline RestartClient = inl (λ now is. cc)
+event_early_or_reaching deadline RestartInstrument = inl (λ now is. cc)
 
 -- each moment among the events lies before the deadline
 abbrev pub AllEarly : ℕ → List Event → Type 0
@@ -203,4 +199,4 @@ early_or_reached_with deadline e es (inl h) (inl hs) = inl (λ now has. earlier_
 -- the moments among some events either all lie before a deadline, or one is at or past it
 pub early_or_reached : (deadline : ℕ) (es : List Event) → AllEarly deadline es ⊎ OneReaches deadline es
 early_or_reached deadline [] = inl (λ now has. absurd (none_in (Expire now) has))
-early_or_reached deadline (e ∷ es) = early_or_reached_with deadline e es (event_tells deadline e) (early_or_reached deadline es)
+early_or_reached deadline (e ∷ es) = early_or_reached_with deadline e es (event_early_or_reaching deadline e) (early_or_reached deadline es)

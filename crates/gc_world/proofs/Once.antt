@@ -15,6 +15,7 @@ use Rattle.gc_world.specs.Order.{Each, Rising, IsRecent, numbers}
 use Rattle.gc_world.specs.Record.{Increasing}
 use Rattle.gc_world.specs.World.{Request, Sent, Numbered, Ends, Step, World, Wire, without, doubled, replied, started, requested, with_settled, run, call_line}
 use Rattle.gc_world.proofs.Booked.{Has, has_more, has_push}
+use Rattle.gc_world.proofs.Handing.{some_if}
 use Rattle.gc_world.proofs.Options.{some_is}
 use Rattle.gc_world.proofs.Places.{get_push}
 use Rattle.gc_world.proofs.Replay.{IsOf, of_more, Replays, replays_more, replays_push, replays_started, no_number}
@@ -74,11 +75,6 @@ above_count : (kept : Option KeptReply) (since count count' top : ℕ) (up : Lis
 above_count None since count count' top up le h = h
 above_count (Some q) since count count' top up le h = (h.0, h.1, le, h.3)
 
--- where `if b then Some l else None` is a line, b is true
-true_if_some : (b : Bool) (l line : List ℕ) → (cond b (Some l) None ≡ Some line) → b ≡ true
-true_if_some true l line e = refl
-true_if_some false l line e = cc
-
 -- where `if b then Some l else None` is none, b is false
 not_chosen : (b : Bool) (l : List ℕ) → (cond b (Some l) None ≡ None) → b ≡ false
 not_chosen true l e = cc
@@ -101,7 +97,8 @@ is_last : (width : ℕ) (kept : Option KeptReply) (since count top total : ℕ) 
     → IsAboveExecuted kept since count top (x ∷ up) → x.number + 1 ≡ top
 is_last width None since count top total x up line narrow e h1 h2 h3 h = cc
 is_last width (Some k) since count top total x up line narrow e h1 h2 h3 h =
-    let same = eqb-true _ _ (true_if_some (eqb k.id ((x.number - since) % 8)) k.line line e) in
+    let c = some_if (eqb k.id ((x.number - since) % 8)) k.line line e in
+    let same = eqb-true k.id ((x.number - since) % 8) c.0 in
     omega (arith, same, h.0, h.1, h.2, h.3.0)
 
 -- if a reply is kept, it is among these replies, as the one to the last request that was executed, number top - 1
@@ -118,11 +115,9 @@ held_line : (kept : Option KeptReply) (id n top : ℕ) (line : List ℕ) (replie
     → IsKeptAmong kept top replies → Has (record { number = n; line = line }) replies
 held_line None id n top line replies e t h = cc
 held_line (Some k) id n top line replies e t h =
-    let b = true_if_some (eqb k.id id) k.line line e in
-    let e' : Some k.line ≡ Some line = subst (λ v. cond v (Some k.line) None ≡ Some line) b e in
-    let l : k.line ≡ line = some_is k.line line e' in
+    let c = some_if (eqb k.id id) k.line line e in
     let m : top - 1 ≡ n = omega arith in
-    subst (λ i. Has (record { number = i; line = line }) replies) m (subst (λ (q : List ℕ). Has (record { number = top - 1; line = q }) replies) l h)
+    subst (λ i. Has (record { number = i; line = line }) replies) m (subst (λ (q : List ℕ). Has (record { number = top - 1; line = q }) replies) c.1 h)
 
 -- while a reply is kept, the request executed last is number top - 1
 abbrev IsLast : Option KeptReply → ℕ → List ℕ → Type 0
@@ -155,7 +150,7 @@ module _ {State : Type 0} (width : ℕ) (narrow : width ≤ 7) (ends : Ends Stat
   -- the wire's executions are a replay (`Replays`) with these replies. The replies that were made are these and no others
   -- (`among`, `each`); no start counts more executions than there were; the kept reply is that of the request executed last
   -- (`held`); and each request in flight is the one that was sent with its number (`lines`)
-  pub record IsTold (w : Wire State) (top : ℕ) : Type 0 where
+  pub record IsReplayed (w : Wire State) (top : ℕ) : Type 0 where
     pub replies : List (Numbered (List ℕ))
     pub replays : Replays ends w.sent w.starts 0 (ends.restarted opening) w.executed replies w.state
     pub among : Each (λ m. Has m replies) w.made
@@ -165,7 +160,7 @@ module _ {State : Type 0} (width : ℕ) (narrow : width ≤ 7) (ends : Ends Stat
     pub lines : Each (IsOf call_line w.sent) w.up
 
   -- each request was executed once: the executed numbers increase, they and those of the replies in flight are below `top`,
-  -- and `IsAboveExecuted`, `IsLast` and `IsTold` hold of the wire with this `top`
+  -- and `IsAboveExecuted`, `IsLast` and `IsReplayed` hold of the wire with this `top`
   pub record IsOnce (c : ByNumber Call) (w : Wire State) : Type 0 where
     pub top : ℕ
     pub climbs : Increasing 0 w.executed
@@ -174,18 +169,18 @@ module _ {State : Type 0} (width : ℕ) (narrow : width ≤ 7) (ends : Ends Stat
     pub made : Each (λ x. x.number < top) w.down
     pub above : IsAboveExecuted (kept w.state) c.since c.count top w.up
     pub last : IsLast (kept w.state) top w.executed
-    pub told : IsTold w top
+    pub replayed : IsReplayed w top
 
   -- the line keeps its order, and each request is executed once
   pub record Once (w : World (ByNumber Call) State) : Type 0 where
     pub sound : Sound width ends Good w
     pub once : IsOnce w.client w.wire
 
-  -- `IsTold` holds also once the front request, whose id isn't the kept one, was executed
-  told_new : (w : Wire State) (x : Numbered Request) (rest : List (Numbered Request)) (top : ℕ) → w.up ≡ x ∷ rest → (hd : Handed State)
-      → ends.handed w.state x.line.id x.line.call ≡ hd → kept_line (kept w.state) (Some x.line.id) ≡ None → IsTold w top → hd.executed ≡ true
-      → IsTold (replied w x.number rest (record hd { executed = true })) (x.number + 1)
-  told_new w x rest top q hd is none h exe =
+  -- `IsReplayed` holds also once the front request, whose id isn't the kept one, was executed
+  replayed_new : (w : Wire State) (x : Numbered Request) (rest : List (Numbered Request)) (top : ℕ) → w.up ≡ x ∷ rest → (hd : Handed State)
+      → ends.handed w.state x.line.id x.line.call ≡ hd → kept_line (kept w.state) (Some x.line.id) ≡ None → IsReplayed w top → hd.executed ≡ true
+      → IsReplayed (replied w x.number rest (record hd { executed = true })) (x.number + 1)
+  replayed_new w x rest top q hd is none h exe =
       let of = subst (λ l. Each (IsOf call_line w.sent) l) q h.lines in
       let y : Numbered (List ℕ) = record { number = x.number; line = hd.reply } in
       let same_call = of.0.call in
@@ -239,7 +234,7 @@ module _ {State : Type 0} (width : ℕ) (narrow : width ≤ 7) (ends : Ends Stat
         above = subst (λ k. IsAboveExecuted k c.since c.count (x.number + 1) rest) (sym keeps_it)
             (omega (arith, g.0.recent), g.0.id ∙ ap (λ n. (n - c.since) % 8) m, order.0, rising_each (x.number + 1) rest order.1);
         last = subst (λ k. IsLast k (x.number + 1) (w.wire.executed ++ x.number ∷ [])) (sym keeps_it) (w.wire.executed, ap (λ n. w.wire.executed ++ n ∷ []) m);
-        told = told_new w.wire x rest h.top q hd is none h.told exe;
+        replayed = replayed_new w.wire x rest h.top q hd is none h.replayed exe;
       }
 
   -- `IsOnce` holds also once the front request, whose id is the kept one, got the kept line again
@@ -248,7 +243,7 @@ module _ {State : Type 0} (width : ℕ) (narrow : width ≤ 7) (ends : Ends Stat
       → IsOnce w.client (replied w.wire x.number rest (record { state = w.wire.state; reply = line; executed = false }))
   once_again w x rest line q is s h =
       let c = w.client in
-      let r = h.told in
+      let r = h.replayed in
       let g = subst (λ l. Each (IsGoing c.since (length c.requests)) l) q s.going in
       let a = subst (λ l. IsAboveExecuted (kept w.wire.state) c.since c.count h.top l) q h.above in
       let last = is_last width (kept w.wire.state) c.since c.count h.top (length c.requests) x rest line narrow
@@ -262,7 +257,7 @@ module _ {State : Type 0} (width : ℕ) (narrow : width ≤ 7) (ends : Ends Stat
         made = each_append _ w.wire.down _ h.made (omega (arith, last), tt);
         above = above_tail (kept w.wire.state) c.since c.count h.top x rest a;
         last = h.last;
-        told = record {
+        replayed = record {
           replies = r.replies;
           replays = r.replays;
           among = each_append _ w.wire.made _ r.among (held_line (kept w.wire.state) x.line.id x.number h.top line r.replies is last r.held, tt);
@@ -289,7 +284,7 @@ module _ {State : Type 0} (width : ℕ) (narrow : width ≤ 7) (ends : Ends Stat
       → IsOnce w.client w.wire → IsOnce x.client (requested w target call (Some x)).wire
   once_sent w target call deadline x digit grows since count s h =
       let r : Sent = record { target = target; call = call; line = request_line (Some x.id) call } in
-      let t = h.told in
+      let t = h.replayed in
       record {
         top = h.top;
         climbs = h.climbs;
@@ -301,7 +296,7 @@ module _ {State : Type 0} (width : ℕ) (narrow : width ≤ 7) (ends : Ends Stat
             subst (λ n. IsAboveExecuted (kept w.wire.state) n x.client.count h.top (w.wire.up ++ record { number = length w.wire.sent; line = record { id = x.id; call = call } } ∷ [])) (sym since)
             (subst (λ n. IsAboveExecuted (kept w.wire.state) w.client.since n h.top (w.wire.up ++ record { number = length w.wire.sent; line = record { id = x.id; call = call } } ∷ [])) (sym count)
             (above_push (kept w.wire.state) w.client.since w.client.count h.top w.wire.up _ (omega (arith, h.sent, s.counted)) h.above));
-        told = record {
+        replayed = record {
           replies = t.replies;
           replays = replays_more ends w.wire.sent (r ∷ []) w.wire.starts 0 (ends.restarted opening) w.wire.executed t.replies w.wire.state t.replays;
           among = t.among;
@@ -329,19 +324,20 @@ module _ {State : Type 0} (width : ℕ) (narrow : width ≤ 7) (ends : Ends Stat
       subst (λ z. IsOnce z.client (requested w target call (Some z)).wire) (some_is y x e)
       (once_sent w target call deadline y (omega arith) (length_push c.requests (pending_of target call deadline)) refl refl s h)
 
-  -- `IsTold` holds also with other queues, where each upward request is the one that was sent with its number
-  told_up : (w : Wire State) (top : ℕ) (up : List (Numbered Request)) (down : List (Numbered (List ℕ))) → Each (IsOf call_line w.sent) up → IsTold w top
-      → IsTold (record w { up = up; down = down }) top
-  told_up w top up down u t = record { replies = t.replies; replays = t.replays; among = t.among; each = t.each; begins = t.begins; held = t.held; lines = u }
+  -- `IsReplayed` holds also with other queues, where each upward request is the one that was sent with its number
+  replayed_up : (w : Wire State) (top : ℕ) (up : List (Numbered Request)) (down : List (Numbered (List ℕ))) → Each (IsOf call_line w.sent) up → IsReplayed w top
+      → IsReplayed (record w { up = up; down = down }) top
+  replayed_up w top up down u t = record { replies = t.replies; replays = t.replays; among = t.among; each = t.each; begins = t.begins; held = t.held; lines = u }
 
   -- `IsOnce` holds also with other queues, of which its clauses hold
   once_queues : (c : ByNumber Call) (w : Wire State) (up : List (Numbered Request)) (down : List (Numbered (List ℕ))) (h : IsOnce c w)
       → Each (λ x. x.number < h.top) down → IsAboveExecuted (kept w.state) c.since c.count h.top up → Each (IsOf call_line w.sent) up → IsOnce c (record w { up = up; down = down })
-  once_queues c w up down h d u l = record { top = h.top; last = h.last; climbs = h.climbs; below = h.below; sent = h.sent; made = d; above = u; told = told_up w h.top up down l h.told }
+  once_queues c w up down h d u l = record { top = h.top; last = h.last; climbs = h.climbs; below = h.below; sent = h.sent; made = d; above = u; replayed = replayed_up w h.top up down l h.replayed }
 
-  -- `IsTold` holds also with other settlements, replies in flight and counts
-  told_else : (w : Wire State) (top : ℕ) (settled : _) (down : _) (refused idle : ℕ) → IsTold w top → IsTold (record w { settled = settled; down = down; refused = refused; idle = idle }) top
-  told_else w top settled down refused idle t = record { replies = t.replies; replays = t.replays; among = t.among; each = t.each; begins = t.begins; held = t.held; lines = t.lines }
+  -- `IsReplayed` holds also with other settlements, replies in flight and counts
+  replayed_else : (w : Wire State) (top : ℕ) (settled : _) (down : _) (refused idle : ℕ) → IsReplayed w top
+      → IsReplayed (record w { settled = settled; down = down; refused = refused; idle = idle }) top
+  replayed_else w top settled down refused idle t = record { replies = t.replies; replays = t.replays; among = t.among; each = t.each; begins = t.begins; held = t.held; lines = t.lines }
 
   -- `IsOnce` holds also with other settlements and counts
   once_else : (c : ByNumber Call) (w : Wire State) (settled : _) (refused idle : ℕ) → IsOnce c w → IsOnce c (record w { settled = settled; refused = refused; idle = idle })
@@ -354,7 +350,7 @@ module _ {State : Type 0} (width : ℕ) (narrow : width ≤ 7) (ends : Ends Stat
     made = h.made;
     above =
         h.above;
-    told = told_else w h.top settled w.down refused idle h.told;
+    replayed = replayed_else w h.top settled w.down refused idle h.replayed;
   }
 
   -- `IsOnce` holds also once the front reply was delivered
@@ -362,7 +358,16 @@ module _ {State : Type 0} (width : ℕ) (narrow : width ≤ 7) (ends : Ends Stat
       → IsOnce w.client w.wire → IsOnce (number_reply w.client x old).client (with_settled (record w.wire { down = rest }) (number_reply w.client x old)).wire
   once_reply w x rest true e h =
       let m = subst (λ q. Each (λ y. y.number < h.top) q) e h.made in
-      record { top = h.top; last = h.last; climbs = h.climbs; below = h.below; sent = h.sent; made = m.1; above = h.above; told = told_else w.wire h.top _ rest w.wire.refused w.wire.idle h.told }
+      record {
+        top = h.top;
+        last = h.last;
+        climbs = h.climbs;
+        below = h.below;
+        sent = h.sent;
+        made = m.1;
+        above = h.above;
+        replayed = replayed_else w.wire h.top _ rest w.wire.refused w.wire.idle h.replayed;
+      }
   once_reply w x rest false e h =
       let m = subst (λ q. Each (λ y. y.number < h.top) q) e h.made in
       record {
@@ -374,14 +379,14 @@ module _ {State : Type 0} (width : ℕ) (narrow : width ≤ 7) (ends : Ends Stat
         made = m.1;
         above =
             above_count (kept w.wire.state) w.client.since w.client.count (x.number + 1) h.top w.wire.up (omega (arith, m.0)) h.above;
-        told =
-            told_else w.wire h.top _ rest w.wire.refused w.wire.idle h.told;
+        replayed =
+            replayed_else w.wire h.top _ rest w.wire.refused w.wire.idle h.replayed;
       }
 
   -- `IsOnce` holds also once the instrument restarted while no request was in flight, which makes it forget what it kept
   once_forgotten : (c : ByNumber Call) (w : Wire State) (count since : ℕ) → w.up ≡ [] → IsOnce c w → IsOnce (record c { count = count; since = since }) (started ends w true)
   once_forgotten c w count since e h =
-      let t = h.told in
+      let t = h.replayed in
       record {
         top = h.top;
         climbs = h.climbs;
@@ -390,7 +395,7 @@ module _ {State : Type 0} (width : ℕ) (narrow : width ≤ 7) (ends : Ends Stat
         made = h.made;
         above = above_none since count h.top w.up (kept (ends.restarted w.state)) e (keeper.forgets w.state);
         last = last_none h.top w.executed (kept (ends.restarted w.state)) (keeper.forgets w.state);
-        told = record {
+        replayed = record {
           replies = t.replies;
           replays = replays_started ends keeper.twice w.sent w.starts opening w.executed t.replies w.state t.replays;
           among = t.among;
@@ -412,7 +417,7 @@ module _ {State : Type 0} (width : ℕ) (narrow : width ≤ 7) (ends : Ends Stat
         omega (arith, h.sent, length_expired now w.client.count w.client.requests);
     made = h.made;
     above = h.above;
-    told = h.told;
+    replayed = h.replayed;
   }
 
   -- `IsOnce` holds also once the client was restarted, and the instrument with it, while no request was in flight
@@ -445,23 +450,23 @@ module _ {State : Type 0} (width : ℕ) (narrow : width ≤ 7) (ends : Ends Stat
           sound = k.loses_up w n h.sound;
           once = once_queues w.client w.wire (without n w.wire.up) w.wire.down h.once h.once.made
               (above_without (kept w.wire.state) w.client.since w.client.count h.once.top n w.wire.up h.once.above)
-              (each_without _ n w.wire.up h.once.told.lines);
+              (each_without _ n w.wire.up h.once.replayed.lines);
         };
         repeats_up = λ w n h. record {
           sound = k.repeats_up w n h.sound;
           once = once_queues w.client w.wire (doubled n w.wire.up) w.wire.down h.once h.once.made
               (above_doubled (kept w.wire.state) w.client.since w.client.count h.once.top n w.wire.up h.once.above)
-              (each_doubled _ n w.wire.up h.once.told.lines);
+              (each_doubled _ n w.wire.up h.once.replayed.lines);
         };
         loses_down = λ w n h. record {
           sound = k.loses_down w n h.sound;
           once =
-              once_queues w.client w.wire w.wire.up (without n w.wire.down) h.once (each_without _ n w.wire.down h.once.made) h.once.above h.once.told.lines;
+              once_queues w.client w.wire w.wire.up (without n w.wire.down) h.once (each_without _ n w.wire.down h.once.made) h.once.above h.once.replayed.lines;
         };
         repeats_down = λ w n h. record {
           sound = k.repeats_down w n h.sound;
           once =
-              once_queues w.client w.wire w.wire.up (doubled n w.wire.down) h.once (each_doubled _ n w.wire.down h.once.made) h.once.above h.once.told.lines;
+              once_queues w.client w.wire w.wire.up (doubled n w.wire.down) h.once (each_doubled _ n w.wire.down h.once.made) h.once.above h.once.replayed.lines;
         };
         hears = λ w x rest q h. record { sound = k.hears w x rest q h.sound; once = once_reply w x rest (ltb x.number w.client.count) q h.once };
         expires = λ w now h. record { sound = k.expires w now h.sound; once = once_expired w now h.once };
@@ -482,7 +487,7 @@ module _ {State : Type 0} (width : ℕ) (narrow : width ≤ 7) (ends : Ends Stat
           made = tt;
           above = above_none 0 0 0 [] (kept (ends.restarted opening)) refl (keeper.forgets opening);
           last = last_none 0 [] (kept (ends.restarted opening)) (keeper.forgets opening);
-          told = record { replies = []; replays = refl; among = tt; each = tt; begins = tt; held = held_none 0 [] (kept (ends.restarted opening)) (keeper.forgets opening); lines = tt };
+          replayed = record { replies = []; replays = refl; among = tt; each = tt; begins = tt; held = held_none 0 [] (kept (ends.restarted opening)) (keeper.forgets opening); lines = tt };
         };
       })
 

@@ -20,7 +20,7 @@ has_number_push n m [] ne = ap (λ b. b || false) (ne_eqb m n ne)
 has_number_push n m (x ∷ xs) ne = ap (λ b. eqb x n || b) (has_number_push n m xs ne)
 
 -- `b || true` is true
-or_true : (b : Bool) → (b || true) ≡ true
+pub or_true : (b : Bool) → (b || true) ≡ true
 or_true true = refl
 or_true false = refl
 

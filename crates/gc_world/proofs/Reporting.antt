@@ -12,7 +12,7 @@ use Rattle.gc_client.specs.declared.settlement.Settlement.{Settlement}
 use Rattle.gc_client.specs.declared.settlement.Outcome.{Outcome}
 use Rattle.gc_client.specs.declared.settlement.Outcome.TheVariants.{Answered, Late, Lost}
 use Rattle.gc_client.specs.Rule
-use Rattle.gc_client.specs.Settlements.{ReadsAs, IsWellRead, settlement_seen, outcome_seen}
+use Rattle.gc_client.specs.Settlements.{ReadsAs, IsReadForCall, settlement_seen, outcome_seen}
 use Rattle.gc_instrument.specs.State.{State, restarted}
 use Rattle.gc_world.specs.declared.report.Made.{Made}
 use Rattle.gc_world.specs.declared.report.Report.{Report}
@@ -82,7 +82,7 @@ module _ (r : Report) (w : Wire State) (h : IsReport r w) where
     -- where the run's answers are booked, settlement m of the report, with the outcome o, is booked for request m if it is an
     -- answer
     booked_at : (one : OneForOne r) → ((m : ℕ) (s : Rule.Settlement Call) → slice_get w.settled m ≡ Some s → IsBooked ends Good w.made m s)
-        → (m : ℕ) (s : Settlement Call) (o : Outcome) → s.outcome ≡ o → slice_get r.settled m ≡ Some s → IsWellRead s.call o → IsBookedAnswer r m s.call o
+        → (m : ℕ) (s : Settlement Call) (o : Outcome) → s.outcome ≡ o → slice_get r.settled m ≡ Some s → IsReadForCall s.call o → IsBookedAnswer r m s.call o
     booked_at one booked m s Late o e read = tt
     booked_at one booked m s Lost o e read = tt
     booked_at one booked m s (Answered reading line) o e read =
@@ -103,7 +103,7 @@ module _ (r : Report) (w : Wire State) (h : IsReport r w) where
 
     -- where the run's answers are booked, those of the report are
     pub books_answers : OneForOne r → ((m : ℕ) (s : Rule.Settlement Call) → slice_get w.settled m ≡ Some s → IsBooked ends Good w.made m s) → BooksAnswers r
-    books_answers one booked m s e = booked_at one booked m s s.outcome refl e (all_get (λ (x : Settlement Call). IsWellRead x.call x.outcome) r.settled m s h.settled.read e)
+    books_answers one booked m s e = booked_at one booked m s s.outcome refl e (all_get (λ (x : Settlement Call). IsReadForCall x.call x.outcome) r.settled m s h.settled.read e)
 
   module _ (opening : State) (x : IsExecution ends opening w) where
     -- the state before each execution, as the run has it

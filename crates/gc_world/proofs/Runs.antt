@@ -45,7 +45,7 @@ module _ {State : Type 0} (width : ℕ) (narrow : width ≤ 7) (ends : Ends Stat
   -- the executions of the run by ids are as `IsExecution` has them, from the restarted opening state on
   pub execution_at : IsExecution ends opening wire
   execution_at =
-      let t = once.once.told in
+      let t = once.once.replayed in
       subst (IsExecution ends opening) (sym same) (execution ends opening by_number.wire t.replies t.replays t.each t.among once.once.climbs)
 
   -- while a reply is kept, each request in flight has the number executed last or one of the `width` above it
@@ -60,7 +60,7 @@ module _ {State : Type 0} (width : ℕ) (narrow : width ≤ 7) (ends : Ends Stat
   -- each reply of the run by ids is one to the call of its request
   answered : Each (IsAnswerAt ends Good ex wire.sent) wire.made
   answered =
-      let t = once.once.told in
+      let t = once.once.replayed in
       let w = by_number.wire in
       subst (λ (w : Wire State). Each (IsAnswerAt ends Good ex w.sent) w.made) (sym same)
       (each_more (λ m. Has m t.replies) (IsAnswerAt ends Good ex w.sent)

@@ -126,13 +126,13 @@ module _ (width : ℕ) (opening : State) (n : ℕ) where
   left_more events e = ap (λ (v : Streams (ById Call) State). v.world.wire) (flow_append ends (by_ids width ends) events (e ∷ []) (untouched (ids_open (restarted opening))))
 
   -- the events have the send of request n, before some later ones
-  abbrev pub IsSentIn : List Event → Type 0
-  IsSentIn events = (deadline : ℕ) × (later : List Event) × IsSentBefore width opening events n deadline later
+  abbrev pub HasSend : List Event → Type 0
+  HasSend events = (deadline : ℕ) × (later : List Event) × IsSentBefore width opening events n deadline later
 
   -- The event e sends a request. Where n requests were sent before it (b), e is the send of request n. Where fewer were, the last
   -- premise gives the send among the rest
   found_at : (earlier : List Event) (e : Event) (rest : List Event) (b : Bool) → eqb (sent_in earlier) n ≡ b → sent_in earlier ≤ n → IsSend e
-      → sent_in (earlier ++ e ∷ []) ≡ sent_in earlier + 1 → (sent_in (earlier ++ e ∷ []) ≤ n → IsSentIn (earlier ++ e ∷ rest)) → IsSentIn (earlier ++ e ∷ rest)
+      → sent_in (earlier ++ e ∷ []) ≡ sent_in earlier + 1 → (sent_in (earlier ++ e ∷ []) ≤ n → HasSend (earlier ++ e ∷ rest)) → HasSend (earlier ++ e ∷ rest)
   found_at earlier e rest true t le (target, call, deadline, is) more again =
       let here : sent_in earlier ≡ n = eqb-true _ _ t in (
         deadline,
@@ -151,7 +151,7 @@ module _ (width : ℕ) (opening : State) (n : ℕ) where
   -- where at most n requests were sent before the event e, the send of request n is e, or is among the rest, by the last premise
   found_by : (earlier : List Event) (e : Event) (rest : List Event) → sent_in earlier ≤ n
       → (sent_in (earlier ++ e ∷ []) ≡ sent_in earlier) ⊎ (IsSend e × (sent_in (earlier ++ e ∷ []) ≡ sent_in earlier + 1))
-      → (sent_in (earlier ++ e ∷ []) ≤ n → IsSentIn (earlier ++ e ∷ rest)) → IsSentIn (earlier ++ e ∷ rest)
+      → (sent_in (earlier ++ e ∷ []) ≤ n → HasSend (earlier ++ e ∷ rest)) → HasSend (earlier ++ e ∷ rest)
   found_by earlier e rest le (inl same) again = again (omega (arith, same, le))
   found_by earlier e rest le (inr (send, more)) again = found_at earlier e rest (eqb (sent_in earlier) n) refl le send more again
 
@@ -163,29 +163,29 @@ module _ (width : ℕ) (opening : State) (n : ℕ) where
 
   -- where the events `earlier` send at most n requests, and `earlier` and `later` together more than n, the send of request n
   -- is in the list
-  found : (earlier later : List Event) → sent_in earlier ≤ n → n < sent_in (earlier ++ later) → IsSentIn (earlier ++ later)
+  found : (earlier later : List Event) → sent_in earlier ≤ n → n < sent_in (earlier ++ later) → HasSend (earlier ++ later)
   found earlier [] le lt = absurd (omega (arith, le, lt, ap sent_in (append-nil earlier)))
   found earlier (e ∷ rest) le lt =
       let same : (earlier ++ e ∷ []) ++ rest ≡ earlier ++ e ∷ rest = append_assoc earlier (e ∷ []) rest in
       found_by earlier e rest le (sends_one_in earlier e)
-      (λ le1. subst IsSentIn same (found (earlier ++ e ∷ []) rest le1 (subst (λ es. n < sent_in es) (sym same) lt)))
+      (λ le1. subst HasSend same (found (earlier ++ e ∷ []) rest le1 (subst (λ es. n < sent_in es) (sym same) lt)))
 
   -- a request that was sent has its send in the list
-  pub is_sent : (events : List Event) → n < sent_in events → IsSentIn events
+  pub is_sent : (events : List Event) → n < sent_in events → HasSend events
   is_sent events lt = found [] events (omega arith) lt
 
 -- a request whose send is in the list is in time where each moment after the send lies before its deadline, and too late where
 -- one reaches it
-told : (width : ℕ) (opening : State) (events : List Event) (n deadline : ℕ) (later : List Event) → IsSentBefore width opening events n deadline later
+in_time_or_too_late : (width : ℕ) (opening : State) (events : List Event) (n deadline : ℕ) (later : List Event) → IsSentBefore width opening events n deadline later
     → AllEarly deadline later ⊎ OneReaches deadline later → IsInTime width opening events n ⊎ IsTooLate width opening events n
-told width opening events n deadline later s (inl early) = inl (record { deadline = deadline; later = later; sent = s; early = early })
-told width opening events n deadline later s (inr (now, has, reached)) = inr (record { deadline = deadline; later = later; sent = s; now = now; told = has; reached = reached })
+in_time_or_too_late width opening events n deadline later s (inl early) = inl (record { deadline = deadline; later = later; sent = s; early = early })
+in_time_or_too_late width opening events n deadline later s (inr (now, has, reached)) = inr (record { deadline = deadline; later = later; sent = s; now = now; given = has; reached = reached })
 
 -- a request that was sent is in time or too late
 pub one_or_other : (width : ℕ) (opening : State) (events : List Event) (n : ℕ) → n < length (left_by_ids width opening events).sent → IsInTime width opening events n ⊎ IsTooLate width opening events n
 one_or_other width opening events n lt =
     let s = is_sent width opening n events lt in
-    told width opening events n s.0 s.1 s.2 (early_or_reached s.0 s.1)
+    in_time_or_too_late width opening events n s.0 s.1 s.2 (early_or_reached s.0 s.1)
 
 -- The send of a request is in the list once.
 
@@ -244,5 +244,5 @@ never_both width opening events n a b =
     let x : Event = Send s.target s.call a.deadline in
     let y : Event = Send t.target t.call b.deadline in
     let one = one_split (by_ids width ends) n s.earlier t.earlier x y a.later b.later (untouched (ids_open (restarted opening))) (sym s.order ∙ t.order) s.number t.number s.taken t.taken in
-    let lt : b.now < a.deadline = a.early b.now (subst (λ es. Contains es (Expire b.now)) (sym (same_later x y a.later b.later one)) b.told) in
+    let lt : b.now < a.deadline = a.early b.now (subst (λ es. Contains es (Expire b.now)) (sym (same_later x y a.later b.later one)) b.given) in
     absurd (omega (arith, lt, b.reached, same_deadline s.target t.target s.call t.call a.deadline b.deadline a.later b.later one))

@@ -1,4 +1,4 @@
--- For the proofs of `stage.rt`. A report, two queues and a client *show* a world where they are those of the world (`AreOf`).
+-- For the proofs of `stage.rt`. A report, two queues and a client *show* a world where they are those of the world (`AreOfWorld`).
 -- Each lemma says: where they show a world, and a function has done to them what its contract says, they show the world after
 -- that step. Variables such as `executed` and `made` are the values that the function left; the premises are what its contract
 -- says of them.
@@ -20,7 +20,7 @@ use Rattle.gc_client.specs.declared.settlement.Settlement.{Settlement}
 use Rattle.gc_client.specs.Hearing.{HearsInto}
 use Rattle.gc_client.specs.Rule.{ById, Windowed, Sending, heard, hears, place_in, id_settled, id_send, sends, restarts}
 use Rattle.gc_client.specs.Rule
-use Rattle.gc_client.specs.Settlements.{AreSettlements, settlement_seen, IsWellRead}
+use Rattle.gc_client.specs.Settlements.{AreSettlements, settlement_seen, IsReadForCall}
 use Rattle.gc_instrument.specs.State.{State, KeptReply, restarted}
 use Rattle.gc_instrument.specs.Replying.{handed, IsExchanged}
 use Rattle.gc_world.specs.declared.report.Made.{Made}
@@ -33,7 +33,7 @@ use Rattle.gc_world.specs.Faithful.{sent_seen}
 use Rattle.gc_world.specs.Memory.{IsBusy}
 use Rattle.gc_world.specs.Order.{Each, numbers}
 use Rattle.gc_world.specs.Reports.{made_seen, IsReport}
-use Rattle.gc_world.specs.Stages.{does, bytes_of, IsSentIn, named, AreOf}
+use Rattle.gc_world.specs.Stages.{after_step, bytes_of, IsSentIn, named, AreOfWorld}
 use Rattle.gc_world.proofs.Handing.{executed_by_id, repeated_by_id}
 use Rattle.gc_world.proofs.Queues.{without_map, doubled_map, without_past, doubled_past}
 use Rattle.gc_world.proofs.Rows.{each_append, each_more, each_without, each_doubled}
@@ -100,7 +100,7 @@ pub are_more : (xs ys : List (Settlement Call)) (us vs : List (Rule.Settlement C
 are_more xs ys us vs h g =
     record {
       seen = map-append settlement_seen xs ys ∙ ap₂ (λ (a b : List (Rule.Settlement Call)). a ++ b) h.seen g.seen;
-      read = All-append (λ (s : Settlement Call). IsWellRead s.call s.outcome) xs ys h.read g.read;
+      read = All-append (λ (s : Settlement Call). IsReadForCall s.call s.outcome) xs ys h.read g.read;
     }
 
 -- settling doesn't change the next id
@@ -160,9 +160,9 @@ pub map_none : {A B : Type 0} (f : A → B) (xs : List A) → map f xs ≡ [] �
 map_none f [] e = refl
 map_none f (x ∷ xs) e = cc
 
-module _ (width : ℕ) (r : Report) (up down : List ℕ) (c : Windowed Call) (w : World (ById Call) State) (h : AreOf width r up down c w) where
+module _ (width : ℕ) (r : Report) (up down : List ℕ) (c : Windowed Call) (w : World (ById Call) State) (h : AreOfWorld width r up down c w) where
   -- an event that is not possible is only counted, in the report as in the world
-  pub shows_idle : AreOf width (counted false r) up down c (on_wire w (idle w.wire))
+  pub shows_idle : AreOfWorld width (counted false r) up down c (on_wire w (idle w.wire))
   shows_idle =
       record { reports = reports_idle r w.wire h.reports; up_is = h.up_is; down_is = h.down_is; client_is = h.client_is; next = h.next; requests = h.requests; calls = h.calls }
 
@@ -185,24 +185,24 @@ module _ (width : ℕ) (r : Report) (up down : List ℕ) (c : Windowed Call) (w 
   -- once the upward queue was replaced by `places`, if there is a line k (b), or else the event was counted as idle, report and
   -- queues show the world in which the same was done
   up_changed : (k : ℕ) (b : Bool) (places : List ℕ) (us : List (Numbered Request)) → b ≡ ltb k (length up) → (length up ≤ k → places ≡ up)
-      → places ≡ numbers us → Each (IsSentIn r.sent) us → AreOf width (counted b r) places down c (on_wire w (with_up w.wire us (ltb k (length w.wire.up))))
+      → places ≡ numbers us → Each (IsSentIn r.sent) us → AreOfWorld width (counted b r) places down c (on_wire w (with_up w.wire us (ltb k (length w.wire.up))))
   up_changed k true places us e past is each =
       let e1 : ltb k (length w.wire.up) ≡ true = ap (λ n. ltb k n) (sym same_up) ∙ sym e in
-      subst (λ v. AreOf width r places down c (on_wire w (with_up w.wire us v))) (sym e1)
+      subst (λ v. AreOfWorld width r places down c (on_wire w (with_up w.wire us v))) (sym e1)
       (record { reports = reports_queues r w.wire us w.wire.down h.reports; up_is = is; down_is = h.down_is; client_is = h.client_is; next = h.next; requests = each; calls = h.calls })
   up_changed k false places us e past is each =
       let e1 : ltb k (length w.wire.up) ≡ false = ap (λ n. ltb k n) (sym same_up) ∙ sym e in
-      subst (λ v. AreOf width (counted false r) places down c (on_wire w (with_up w.wire us v))) (sym e1)
-      (subst (λ q. AreOf width (counted false r) q down c (on_wire w (idle w.wire))) (sym (past (ltb-false _ _ (sym e)))) shows_idle)
+      subst (λ v. AreOfWorld width (counted false r) places down c (on_wire w (with_up w.wire us v))) (sym e1)
+      (subst (λ q. AreOfWorld width (counted false r) q down c (on_wire w (idle w.wire))) (sym (past (ltb-false _ _ (sym e)))) shows_idle)
 
   -- once line k of the upward queue was lost, if there is one, the world after that step is shown
-  pub shows_up_lose : (k : ℕ) (b : Bool) → b ≡ ltb k (length up) → AreOf width (counted b r) (without k up) down c (does width w (Up_lose k))
+  pub shows_up_lose : (k : ℕ) (b : Bool) → b ≡ ltb k (length up) → AreOfWorld width (counted b r) (without k up) down c (after_step width w (Up_lose k))
   shows_up_lose k b e =
       up_changed k b (without k up) (without k w.wire.up) e (without_past k up)
       (ap (without k) h.up_is ∙ without_map (λ x. x.number) k w.wire.up) (each_without (IsSentIn r.sent) k w.wire.up h.requests)
 
   -- once line k of the upward queue was repeated, if there is one, the world after that step is shown
-  pub shows_up_repeat : (k : ℕ) (b : Bool) → b ≡ ltb k (length up) → AreOf width (counted b r) (doubled k up) down c (does width w (Up_repeat k))
+  pub shows_up_repeat : (k : ℕ) (b : Bool) → b ≡ ltb k (length up) → AreOfWorld width (counted b r) (doubled k up) down c (after_step width w (Up_repeat k))
   shows_up_repeat k b e =
       up_changed k b (doubled k up) (doubled k w.wire.up) e (doubled_past k up)
       (ap (doubled k) h.up_is ∙ doubled_map (λ x. x.number) k w.wire.up) (each_doubled (IsSentIn r.sent) k w.wire.up h.requests)
@@ -210,24 +210,24 @@ module _ (width : ℕ) (r : Report) (up down : List ℕ) (c : Windowed Call) (w 
   -- once the downward queue was replaced by `places`, if there is a line k (b), or else the event was counted as idle, report and
   -- queues show the world in which the same was done
   down_changed : (k : ℕ) (b : Bool) (places : List ℕ) (ds : List (Numbered (List ℕ))) → b ≡ ltb k (length down) → (length down ≤ k → places ≡ down)
-      → named r.made places ≡ map Some ds → AreOf width (counted b r) up places c (on_wire w (with_down w.wire ds (ltb k (length w.wire.down))))
+      → named r.made places ≡ map Some ds → AreOfWorld width (counted b r) up places c (on_wire w (with_down w.wire ds (ltb k (length w.wire.down))))
   down_changed k true places ds e past is =
       let e1 : ltb k (length w.wire.down) ≡ true = ap (λ n. ltb k n) (sym same_down) ∙ sym e in
-      subst (λ v. AreOf width r up places c (on_wire w (with_down w.wire ds v))) (sym e1)
+      subst (λ v. AreOfWorld width r up places c (on_wire w (with_down w.wire ds v))) (sym e1)
       (record { reports = reports_queues r w.wire w.wire.up ds h.reports; up_is = h.up_is; down_is = is; client_is = h.client_is; next = h.next; requests = h.requests; calls = h.calls })
   down_changed k false places ds e past is =
       let e1 : ltb k (length w.wire.down) ≡ false = ap (λ n. ltb k n) (sym same_down) ∙ sym e in
-      subst (λ v. AreOf width (counted false r) up places c (on_wire w (with_down w.wire ds v))) (sym e1)
-      (subst (λ q. AreOf width (counted false r) up q c (on_wire w (idle w.wire))) (sym (past (ltb-false _ _ (sym e)))) shows_idle)
+      subst (λ v. AreOfWorld width (counted false r) up places c (on_wire w (with_down w.wire ds v))) (sym e1)
+      (subst (λ q. AreOfWorld width (counted false r) up q c (on_wire w (idle w.wire))) (sym (past (ltb-false _ _ (sym e)))) shows_idle)
 
   -- once line k of the downward queue was lost, if there is one, the world after that step is shown
-  pub shows_down_lose : (k : ℕ) (b : Bool) → b ≡ ltb k (length down) → AreOf width (counted b r) up (without k down) c (does width w (Down_lose k))
+  pub shows_down_lose : (k : ℕ) (b : Bool) → b ≡ ltb k (length down) → AreOfWorld width (counted b r) up (without k down) c (after_step width w (Down_lose k))
   shows_down_lose k b e =
       down_changed k b (without k down) (without k w.wire.down) e (without_past k down)
       (sym (without_map (slice_get (map made_seen r.made)) k down) ∙ ap (without k) h.down_is ∙ without_map Some k w.wire.down)
 
   -- once line k of the downward queue was repeated, if there is one, the world after that step is shown
-  pub shows_down_repeat : (k : ℕ) (b : Bool) → b ≡ ltb k (length down) → AreOf width (counted b r) up (doubled k down) c (does width w (Down_repeat k))
+  pub shows_down_repeat : (k : ℕ) (b : Bool) → b ≡ ltb k (length down) → AreOfWorld width (counted b r) up (doubled k down) c (after_step width w (Down_repeat k))
   shows_down_repeat k b e =
       down_changed k b (doubled k down) (doubled k w.wire.down) e (doubled_past k down)
       (sym (doubled_map (slice_get (map made_seen r.made)) k down) ∙ ap (doubled k) h.down_is ∙ doubled_map Some k w.wire.down)
@@ -259,15 +259,15 @@ module _ (width : ℕ) (r : Report) (up down : List ℕ) (c : Windowed Call) (w 
   pub shows_send : (entry : Sent) (deadline : ℕ) (client : Windowed Call) (sent : List Sent) (up' : List ℕ)
       → sends c.width c.ids entry.target entry.call deadline ≡ Some (record { id = c.ids.next; client = client.ids }) → client.width ≡ c.width
       → entry.line.items ≡ request_line (Some c.ids.next) entry.call → IsFitting entry.call → sent ≡ r.sent ++ entry ∷ [] → up' ≡ up ++ length r.sent ∷ []
-      → AreOf width (record r { sent = sent }) up' down client (does width w (Send entry.target entry.call deadline))
+      → AreOfWorld width (record r { sent = sent }) up' down client (after_step width w (Send entry.target entry.call deadline))
   shows_send entry deadline client sent up' sends_is wide line fits sent_is up_is =
       let x : Sending (ById Call) = record { id = c.ids.next; client = client.ids } in
       let ruled : sends width w.client entry.target entry.call deadline ≡ Some x = ap (λ (k : Windowed Call). sends k.width k.ids entry.target entry.call deadline) (sym h.client_is) ∙ sends_is in
       let total : length r.sent ≡ length w.wire.sent = sym (length-map r.sent sent_seen) ∙ ap length h.reports.sent in
       let number : slice_get (r.sent ++ entry ∷ []) (length w.wire.sent) ≡ Some entry = subst (λ n. slice_get (r.sent ++ entry ∷ []) n ≡ Some entry) total (get_push r.sent entry) in
       let digit : c.ids.next < IDS = subst (λ (k : Windowed Call). k.ids.next < IDS) (sym h.client_is) h.next in
-      subst (λ l. AreOf width (record r { sent = l }) up' down client (does width w (Send entry.target entry.call deadline))) (sym sent_is)
-      (subst (λ o. AreOf width (record r { sent = r.sent ++ entry ∷ [] }) up' down client (requested w entry.target entry.call o)) (sym ruled) (record {
+      subst (λ l. AreOfWorld width (record r { sent = l }) up' down client (after_step width w (Send entry.target entry.call deadline))) (sym sent_is)
+      (subst (λ o. AreOfWorld width (record r { sent = r.sent ++ entry ∷ [] }) up' down client (requested w entry.target entry.call o)) (sym ruled) (record {
         reports = record {
           sent = map-append sent_seen r.sent (entry ∷ []) ∙ ap₂ (λ (l : List World.Sent) t. l ++ record { target = entry.target; call = entry.call; line = t } ∷ []) h.reports.sent line;
           executed = h.reports.executed;
@@ -299,8 +299,8 @@ module _ (width : ℕ) (r : Report) (up down : List ℕ) (c : Windowed Call) (w 
   pub shows_up_deliver : (n : ℕ) (rest down' : List ℕ) (request : Sent) (entry : Made) (executed : List ℕ) (made : List Made) (state : State)
       (o : Option (List ℕ)) → up ≡ n ∷ rest → slice_get r.sent n ≡ Some request → ExchangesAny r.instrument request.line.items state o
       → o ≡ Some entry.line.items → entry.number ≡ n → Notes r.instrument state n r.executed executed → made ≡ r.made ++ entry ∷ []
-      → down' ≡ down ++ length r.made ∷ [] → AreOf width (record r { executed = executed; made = made; instrument = state }) rest down' c
-      (does width w Up_deliver)
+      → down' ≡ down ++ length r.made ∷ [] → AreOfWorld width (record r { executed = executed; made = made; instrument = state }) rest down' c
+      (after_step width w Up_deliver)
   shows_up_deliver n rest down' request entry executed made state o e found replied told same executed_is made_is down'_is =
       let f = up_front n rest e in
       let y = f.0 in
@@ -313,7 +313,7 @@ module _ (width : ℕ) (r : Report) (up down : List ℕ) (c : Windowed Call) (w 
       some_is _ _ (sym told ∙ did.line) ∙ ap (λ s. (handed s y.line.id y.line.call).reply) h.reports.instrument in
       let entry_is : made_seen entry ≡ record { number = y.number; line = (handed w.wire.state y.line.id y.line.call).reply } =
       ap₂ (λ k (l : List ℕ). record { number = k; line = l }) (same ∙ sym f.3) reply in
-      subst (λ q. AreOf width (record r { executed = executed; made = made; instrument = state }) rest down' c (on_wire w (up_delivered ends w.wire q))) (sym f.2) (record {
+      subst (λ q. AreOfWorld width (record r { executed = executed; made = made; instrument = state }) rest down' c (on_wire w (up_delivered ends w.wire q))) (sym f.2) (record {
         reports = record {
           sent = h.reports.sent;
           executed =
@@ -352,14 +352,14 @@ module _ (width : ℕ) (r : Report) (up down : List ℕ) (c : Windowed Call) (w 
   pub shows_down_deliver : (p : ℕ) (rest : List ℕ) (m : Made) (bytes : List ℕ) (more settled : List (Settlement Call)) (client : Windowed Call) → down ≡ p ∷ rest
       → slice_get r.made p ≡ Some m → bytes ≡ m.line.items → AreSettlements more (hears c.ids bytes (heard bytes)).settlements
       → client ≡ record c { ids = (hears c.ids bytes (heard bytes)).client } → settled ≡ r.settled ++ more
-      → AreOf width (record r { settled = settled }) up rest client (does width w Down_deliver)
+      → AreOfWorld width (record r { settled = settled }) up rest client (after_step width w Down_deliver)
   shows_down_deliver p rest m bytes more settled client e found same_bytes more_are client_is settled_is =
       let f = down_front p rest e in
       let x = f.0 in
       let line : bytes ≡ x.line = same_bytes ∙ ap (λ (y : Numbered (List ℕ)). y.line) (down_line p rest m e found) in
       let same : hears c.ids bytes (heard bytes) ≡ hears w.client x.line (heard x.line) = ap₂ (λ (k : Windowed Call) l. hears k.ids l (heard l)) h.client_is line in
       let are : AreSettlements more (hears w.client x.line (heard x.line)).settlements = subst (λ (s : Rule.Settled Call (ById Call)). AreSettlements more s.settlements) same more_are in
-      subst (λ q. AreOf width (record r { settled = settled }) up rest client (down_delivered (by_ids width ends) w q)) (sym f.2) (record {
+      subst (λ q. AreOfWorld width (record r { settled = settled }) up rest client (down_delivered (by_ids width ends) w q)) (sym f.2) (record {
         reports = record {
           sent = h.reports.sent;
           executed = h.reports.executed;
@@ -384,11 +384,12 @@ module _ (width : ℕ) (r : Report) (up down : List ℕ) (c : Windowed Call) (w 
   pub shows_restart_client : (more settled : List (Settlement Call)) (client : Windowed Call) (starts : List ℕ) (state : State) → up ≡ [] → down ≡ []
       → AreSettlements more (restarts c.ids).settlements → client ≡ record c { ids = (restarts c.ids).client } → settled ≡ r.settled ++ more
       → starts ≡ r.starts ++ length r.executed ∷ [] → state ≡ restarted r.instrument
-      → AreOf width (record r { settled = settled; starts = starts; instrument = state }) up down client (does width w Restart_client)
+      → AreOfWorld width (record r { settled = settled; starts = starts; instrument = state }) up down client (after_step width w Restart_client)
   shows_restart_client more settled client starts state eu ed more_are client_is settled_is starts_is state_is =
       let are : AreSettlements more (restarts w.client).settlements = subst (λ (k : Windowed Call). AreSettlements more (restarts k.ids).settlements) h.client_is more_are in
-      subst (λ u. AreOf width (record r { settled = settled; starts = starts; instrument = state }) up down client (client_restarted ends (by_ids width ends) w u w.wire.down)) (sym (no_up eu))
-      (subst (λ d. AreOf width (record r { settled = settled; starts = starts; instrument = state }) up down client (client_restarted ends (by_ids width ends) w [] d)) (sym (no_down ed)) (record {
+      subst (λ u. AreOfWorld width (record r { settled = settled; starts = starts; instrument = state }) up down client (client_restarted ends (by_ids width ends) w u w.wire.down)) (sym (no_up eu))
+      (subst (λ d. AreOfWorld width (record r { settled = settled; starts = starts; instrument = state }) up down client (client_restarted ends (by_ids width ends) w [] d))
+      (sym (no_down ed)) (record {
         reports = record {
           sent = h.reports.sent;
           executed = h.reports.executed;
@@ -410,11 +411,11 @@ module _ (width : ℕ) (r : Report) (up down : List ℕ) (c : Windowed Call) (w 
 
   -- once the instrument was restarted, while no line is in flight, the world after that step is shown
   pub shows_restart_instrument : (starts : List ℕ) (state : State) → up ≡ [] → down ≡ [] → starts ≡ r.starts ++ length r.executed ∷ []
-      → state ≡ restarted r.instrument → AreOf width (record r { starts = starts; instrument = state }) up down c (does width w Restart_instrument)
+      → state ≡ restarted r.instrument → AreOfWorld width (record r { starts = starts; instrument = state }) up down c (after_step width w Restart_instrument)
   shows_restart_instrument starts state eu ed starts_is state_is =
       let after = record r { starts = starts; instrument = state } in
-      subst (λ u. AreOf width after up down c (on_wire w (instrument_restarted ends w.wire u w.wire.down))) (sym (no_up eu))
-      (subst (λ d. AreOf width after up down c (on_wire w (instrument_restarted ends w.wire [] d))) (sym (no_down ed)) (record {
+      subst (λ u. AreOfWorld width after up down c (on_wire w (instrument_restarted ends w.wire u w.wire.down))) (sym (no_up eu))
+      (subst (λ d. AreOfWorld width after up down c (on_wire w (instrument_restarted ends w.wire [] d))) (sym (no_down ed)) (record {
         reports = record {
           sent = h.reports.sent;
           executed = h.reports.executed;
@@ -434,21 +435,21 @@ module _ (width : ℕ) (r : Report) (up down : List ℕ) (c : Windowed Call) (w 
       }))
 
   -- while a line is in flight, a restart of the client is only counted
-  pub busy_client : IsBusy up down → AreOf width (counted false r) up down c (does width w Restart_client)
+  pub busy_client : IsBusy up down → AreOfWorld width (counted false r) up down c (after_step width w Restart_client)
   busy_client b = by_queues w.wire.up w.wire.down refl refl
     where
       by_queues : (us : List (Numbered Request)) (ds : List (Numbered (List ℕ))) → w.wire.up ≡ us → w.wire.down ≡ ds
-          → AreOf width (counted false r) up down c (client_restarted ends (by_ids width ends) w us ds)
+          → AreOfWorld width (counted false r) up down c (client_restarted ends (by_ids width ends) w us ds)
       by_queues [] [] eu ed = absurd (b (h.up_is ∙ ap numbers eu, map_none (slice_get (map made_seen r.made)) down (h.down_is ∙ ap (map Some) ed)))
       by_queues [] (y ∷ ds) eu ed = shows_idle
       by_queues (x ∷ us) ds eu ed = shows_idle
 
   -- while a line is in flight, a restart of the instrument is only counted
-  pub busy_instrument : IsBusy up down → AreOf width (counted false r) up down c (does width w Restart_instrument)
+  pub busy_instrument : IsBusy up down → AreOfWorld width (counted false r) up down c (after_step width w Restart_instrument)
   busy_instrument b = by_queues w.wire.up w.wire.down refl refl
     where
       by_queues : (us : List (Numbered Request)) (ds : List (Numbered (List ℕ))) → w.wire.up ≡ us → w.wire.down ≡ ds
-          → AreOf width (counted false r) up down c (on_wire w (instrument_restarted ends w.wire us ds))
+          → AreOfWorld width (counted false r) up down c (on_wire w (instrument_restarted ends w.wire us ds))
       by_queues [] [] eu ed = absurd (b (h.up_is ∙ ap numbers eu, map_none (slice_get (map made_seen r.made)) down (h.down_is ∙ ap (map Some) ed)))
       by_queues [] (y ∷ ds) eu ed = shows_idle
       by_queues (x ∷ us) ds eu ed = shows_idle

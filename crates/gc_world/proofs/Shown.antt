@@ -29,10 +29,10 @@ use Rattle.gc_world.specs.Order.{Each, numbers}
 use Rattle.gc_world.specs.Reports.{made_seen}
 use Rattle.gc_world.specs.Sides.{written, IsPart, IsFlow, Carries, Changes}
 use Rattle.gc_world.specs.Stages
-use Rattle.gc_world.specs.Stages.{Seen, does, goes_on, bytes_of, IsSentIn, named, AreOf, AreStreamsOf}
+use Rattle.gc_world.specs.Stages.{Seen, after_step, after_event, bytes_of, IsSentIn, named, AreOfWorld, AreStreamsOf}
 use Rattle.gc_world.specs.Streams.{Streams, up_texts, down_texts, is_begun, remaining}
 use Rattle.gc_world.specs.World.{Request, Numbered, Wire, World, Step, Send, Up_deliver, Up_lose, Up_repeat, Down_deliver, Down_lose, Down_repeat, Restart_client, Restart_instrument, Nothing, without, doubled, idle, up_delivered, with_up, with_down, on_wire, requested, down_delivered, client_restarted, instrument_restarted}
-use Rattle.gc_world.proofs.Directions.{passing, bytes_pass, to}
+use Rattle.gc_world.proofs.Directions.{passing, bytes_pass, after_cut}
 use Rattle.gc_world.proofs.Options.{some_is}
 use Rattle.gc_world.proofs.Places.{get_seen}
 use Rattle.gc_world.proofs.Queues.{without_map, doubled_map}
@@ -113,11 +113,11 @@ idle_bytes width d v (line ∷ q) zero e none part = unmoved d v (on_wire v.worl
 idle_bytes width d v (line ∷ q) (suc n) e (inl z) part = absurd (omega (arith, z))
 idle_bytes width d v (line ∷ q) (suc n) e (inr z) part = absurd (omega (arith, e, z, part))
 
--- the report as it is (true), or with one more event that was idle
+-- the same report as `counted` gives, written as one record: as it is (true), or with one more event that was not possible
 abbrev counts : Bool → Report → Report
 counts b r = record r { idle_events = cond b r.idle_events (r.idle_events + 1) }
 
--- `counted` and `counts` give the same report
+-- `counted` and `counts` give the same report, for each truth value
 counted_is : (b : Bool) (r : Report) → counted b r ≡ counts b r
 counted_is true r = refl
 counted_is false r = refl
@@ -160,7 +160,7 @@ module _ (width : ℕ) (s : Seen) (v : Streams (ById Call) State) (h : AreStream
       (m.0, m.1)
 
   -- where both queues stay, and report and client show a new world, the stage shows the streams of that world, with as much gone
-  kept : (r' : Report) (c' : Windowed Call) (w : World (ById Call) State) → AreOf width r' s.up.queue s.down.queue c' w
+  kept : (r' : Report) (c' : Windowed Call) (w : World (ById Call) State) → AreOfWorld width r' s.up.queue s.down.queue c' w
       → (w.wire.up ≡ v.world.wire.up) × (w.wire.down ≡ v.world.wire.down)
       → AreStreamsOf width (record s { report = r'; client = c' }) (record { world = w; up_gone = v.up_gone; down_gone = v.down_gone })
   kept r' c' w lines same =
@@ -180,14 +180,14 @@ module _ (width : ℕ) (s : Seen) (v : Streams (ById Call) State) (h : AreStream
 
   -- once the upward queue was replaced, if the event is possible, the streams with that queue are shown
   up_queue : (b : Bool) (queue : List ℕ) (us : List (Numbered Request)) (k : ℕ)
-      → AreOf width (counted b s.report) queue s.down.queue s.client (on_wire v.world (with_up v.world.wire us (ltb k (length v.world.wire.up))))
+      → AreOfWorld width (counted b s.report) queue s.down.queue s.client (on_wire v.world (with_up v.world.wire us (ltb k (length v.world.wire.up))))
       → IsFlow s.up.assembler s.up.gone (map (λ x. bytes_of x.line) us)
       → AreStreamsOf width (record s { report = counts b s.report; up = record s.up { queue = queue } })
       (record { world = on_wire v.world (with_up v.world.wire us (ltb k (length v.world.wire.up))); up_gone = v.up_gone; down_gone = v.down_gone })
   up_queue b queue us k lines flow =
       let t = ltb k (length v.world.wire.up) in
       record {
-        lines = subst (λ r. AreOf width r queue s.down.queue s.client (on_wire v.world (with_up v.world.wire us t))) (counted_is b s.report) lines;
+        lines = subst (λ r. AreOfWorld width r queue s.down.queue s.client (on_wire v.world (with_up v.world.wire us t))) (counted_is b s.report) lines;
         up_is = h.up_is;
         down_is = h.down_is;
         up_flow = either_up (λ q. IsFlow s.up.assembler s.up.gone (map (λ x. bytes_of x.line) q)) v.world.wire us t flow h.up_flow;
@@ -196,14 +196,14 @@ module _ (width : ℕ) (s : Seen) (v : Streams (ById Call) State) (h : AreStream
 
   -- once the downward queue was replaced, if the event is possible, the streams with that queue are shown
   down_queue : (b : Bool) (queue : List ℕ) (ds : List (Numbered (List ℕ))) (k : ℕ)
-      → AreOf width (counted b s.report) s.up.queue queue s.client (on_wire v.world (with_down v.world.wire ds (ltb k (length v.world.wire.down))))
+      → AreOfWorld width (counted b s.report) s.up.queue queue s.client (on_wire v.world (with_down v.world.wire ds (ltb k (length v.world.wire.down))))
       → IsFlow s.down.assembler s.down.gone (map (λ x. x.line) ds) → AreStreamsOf width
       (record s { report = counts b s.report; down = record s.down { queue = queue } })
       (record { world = on_wire v.world (with_down v.world.wire ds (ltb k (length v.world.wire.down))); up_gone = v.up_gone; down_gone = v.down_gone })
   down_queue b queue ds k lines flow =
       let t = ltb k (length v.world.wire.down) in
       record {
-        lines = subst (λ r. AreOf width r s.up.queue queue s.client (on_wire v.world (with_down v.world.wire ds t))) (counted_is b s.report) lines;
+        lines = subst (λ r. AreOfWorld width r s.up.queue queue s.client (on_wire v.world (with_down v.world.wire ds t))) (counted_is b s.report) lines;
         up_is = h.up_is;
         down_is = h.down_is;
         up_flow = subst (λ q. IsFlow s.up.assembler s.up.gone (map (λ x. bytes_of x.line) q)) (sym (up_of_down v.world.wire ds t)) h.up_flow;
@@ -212,7 +212,7 @@ module _ (width : ℕ) (s : Seen) (v : Streams (ById Call) State) (h : AreStream
 
   -- the streams after a step at which no byte goes over
   abbrev behind : Step → Streams (ById Call) State
-  behind step = record { world = does width v.world step; up_gone = v.up_gone; down_gone = v.down_gone }
+  behind step = record { world = after_step width v.world step; up_gone = v.up_gone; down_gone = v.down_gone }
 
   -- a loss or a repeat of line k, possible only before its first byte has gone, shows the streams after that step. `old` is
   -- the side before it and `side` after it, `g` is how many bytes of its front line have gone, and `put` sets a side and a
@@ -238,28 +238,28 @@ module _ (width : ℕ) (s : Seen) (v : Streams (ById Call) State) (h : AreStream
     with_down_side x n = record s { report = record s.report { idle_events = n }; down = x }
 
     -- once line k of the upward side was lost, if that was possible, the streams after that event are shown
-    pub up_lost : Changes k (without k s.up.queue) s.up side s.report.idle_events count → AreStreamsOf width (with_up_side side count) (goes_on width v (event.UpLose k))
+    pub up_lost : Changes k (without k s.up.queue) s.up side s.report.idle_events count → AreStreamsOf width (with_up_side side count) (after_event width v (event.UpLose k))
     up_lost c =
         changes s.up v.up_gone with_up_side k (without k s.up.queue) (Up_lose k) side count h.up_is refl c
         (λ e b is. up_queue b (without k s.up.queue) (without k v.world.wire.up) k (shows_up_lose width s.report s.up.queue s.down.queue s.client v.world h.lines k b is)
         (subst (IsFlow s.up.assembler s.up.gone) (without_map (λ x. bytes_of x.line) k v.world.wire.up) (flow_without k s.up.assembler s.up.gone (up_texts v.world.wire) e h.up_flow)))
 
     -- once line k of the upward side was repeated, if that was possible, the streams after that event are shown
-    pub up_repeated : Changes k (doubled k s.up.queue) s.up side s.report.idle_events count → AreStreamsOf width (with_up_side side count) (goes_on width v (event.UpRepeat k))
+    pub up_repeated : Changes k (doubled k s.up.queue) s.up side s.report.idle_events count → AreStreamsOf width (with_up_side side count) (after_event width v (event.UpRepeat k))
     up_repeated c =
         changes s.up v.up_gone with_up_side k (doubled k s.up.queue) (Up_repeat k) side count h.up_is refl c
         (λ e b is. up_queue b (doubled k s.up.queue) (doubled k v.world.wire.up) k (shows_up_repeat width s.report s.up.queue s.down.queue s.client v.world h.lines k b is)
         (subst (IsFlow s.up.assembler s.up.gone) (doubled_map (λ x. bytes_of x.line) k v.world.wire.up) (flow_doubled k s.up.assembler s.up.gone (up_texts v.world.wire) e h.up_flow)))
 
     -- once line k of the downward side was lost, if that was possible, the streams after that event are shown
-    pub down_lost : Changes k (without k s.down.queue) s.down side s.report.idle_events count → AreStreamsOf width (with_down_side side count) (goes_on width v (event.DownLose k))
+    pub down_lost : Changes k (without k s.down.queue) s.down side s.report.idle_events count → AreStreamsOf width (with_down_side side count) (after_event width v (event.DownLose k))
     down_lost c =
         changes s.down v.down_gone with_down_side k (without k s.down.queue) (Down_lose k) side count h.down_is refl c
         (λ e b is. down_queue b (without k s.down.queue) (without k v.world.wire.down) k (shows_down_lose width s.report s.up.queue s.down.queue s.client v.world h.lines k b is)
         (subst (IsFlow s.down.assembler s.down.gone) (without_map (λ x. x.line) k v.world.wire.down) (flow_without k s.down.assembler s.down.gone (down_texts v.world.wire) e h.down_flow)))
 
     -- once line k of the downward side was repeated, if that was possible, the streams after that event are shown
-    pub down_repeated : Changes k (doubled k s.down.queue) s.down side s.report.idle_events count → AreStreamsOf width (with_down_side side count) (goes_on width v (event.DownRepeat k))
+    pub down_repeated : Changes k (doubled k s.down.queue) s.down side s.report.idle_events count → AreStreamsOf width (with_down_side side count) (after_event width v (event.DownRepeat k))
     down_repeated c =
         changes s.down v.down_gone with_down_side k (doubled k s.down.queue) (Down_repeat k) side count h.down_is refl c
         (λ e b is. down_queue b (doubled k s.down.queue) (doubled k v.world.wire.down) k (shows_down_repeat width s.report s.up.queue s.down.queue s.client v.world h.lines k b is)
@@ -273,14 +273,14 @@ module _ (width : ℕ) (s : Seen) (v : Streams (ById Call) State) (h : AreStream
       → client.width ≡ s.client.width → entry.line.items ≡ request_line (Some s.client.ids.next) entry.call → IsPlain entry.line.items → IsFitting entry.call
       → sent ≡ s.report.sent ++ entry ∷ [] → queue ≡ s.up.queue ++ length s.report.sent ∷ []
       → AreStreamsOf width (record s { report = record s.report { sent = sent }; up = record s.up { queue = queue }; client = client })
-      (goes_on width v (event.Send entry.target entry.call deadline))
+      (after_event width v (event.Send entry.target entry.call deadline))
   streams_send entry deadline client sent queue sends_is wide line plain fits sent_is queue_is =
       let c = s.client in
       let x : Sending (ById Call) = record { id = c.ids.next; client = client.ids } in
       let request : Numbered Request = record { number = length v.world.wire.sent; line = record { id = c.ids.next; call = entry.call } } in
       let ruled : sends width v.world.client entry.target entry.call deadline ≡ Some x =
       ap (λ (k : Windowed Call). sends k.width k.ids entry.target entry.call deadline) (sym h.lines.client_is) ∙ sends_is in
-      let whole : does width v.world (Send entry.target entry.call deadline) ≡ requested v.world entry.target entry.call (Some x) = ap (requested v.world entry.target entry.call) ruled in
+      let whole : after_step width v.world (Send entry.target entry.call deadline) ≡ requested v.world entry.target entry.call (Some x) = ap (requested v.world entry.target entry.call) ruled in
       record {
         lines = shows_send width s.report s.up.queue s.down.queue c v.world h.lines entry deadline client sent queue sends_is wide line fits sent_is queue_is;
         up_is = h.up_is;
@@ -300,23 +300,23 @@ module _ (width : ℕ) (s : Seen) (v : Streams (ById Call) State) (h : AreStream
       → AreSettlements more (restarts s.client.ids).settlements → client ≡ record s.client { ids = (restarts s.client.ids).client }
       → settled ≡ s.report.settled ++ more → starts ≡ s.report.starts ++ length s.report.executed ∷ [] → state ≡ restarted s.report.instrument
       → AreStreamsOf width (record s { report = record s.report { settled = settled; starts = starts; instrument = state }; client = client })
-      (goes_on width v event.RestartClient)
+      (after_event width v event.RestartClient)
   streams_restart_client more settled client starts state eu ed more_are client_is settled_is starts_is state_is =
-      kept (record s.report { settled = settled; starts = starts; instrument = state }) client (does width v.world Restart_client)
+      kept (record s.report { settled = settled; starts = starts; instrument = state }) client (after_step width v.world Restart_client)
       (shows_restart_client width s.report s.up.queue s.down.queue s.client v.world h.lines more settled client starts state eu ed more_are client_is
       settled_is starts_is state_is)
       (of_restart width v.world v.world.wire.up v.world.wire.down)
 
   -- while a line is in flight, a restart of the client is only counted
-  pub streams_busy_client : IsBusy s.up.queue s.down.queue → AreStreamsOf width (record s { report = counted false s.report }) (goes_on width v event.RestartClient)
+  pub streams_busy_client : IsBusy s.up.queue s.down.queue → AreStreamsOf width (record s { report = counted false s.report }) (after_event width v event.RestartClient)
   streams_busy_client b =
-      kept (counted false s.report) s.client (does width v.world Restart_client) (busy_client width s.report s.up.queue s.down.queue s.client v.world h.lines b)
+      kept (counted false s.report) s.client (after_step width v.world Restart_client) (busy_client width s.report s.up.queue s.down.queue s.client v.world h.lines b)
       (of_restart width v.world v.world.wire.up v.world.wire.down)
 
   -- while a line is in flight, a restart of the instrument is only counted
-  pub streams_busy_instrument : IsBusy s.up.queue s.down.queue → AreStreamsOf width (record s { report = counted false s.report }) (goes_on width v event.RestartInstrument)
+  pub streams_busy_instrument : IsBusy s.up.queue s.down.queue → AreStreamsOf width (record s { report = counted false s.report }) (after_event width v event.RestartInstrument)
   streams_busy_instrument b =
-      kept (counted false s.report) s.client (does width v.world Restart_instrument) (busy_instrument width s.report s.up.queue s.down.queue s.client v.world h.lines b)
+      kept (counted false s.report) s.client (after_step width v.world Restart_instrument) (busy_instrument width s.report s.up.queue s.down.queue s.client v.world h.lines b)
       (of_start v.world.wire v.world.wire.up v.world.wire.down)
 
   -- Deliveries.
@@ -328,7 +328,7 @@ module _ (width : ℕ) (s : Seen) (v : Streams (ById Call) State) (h : AreStream
       → Notes s.report.instrument state n s.report.executed executed → made ≡ s.report.made ++ entry ∷ [] → queue ≡ s.down.queue ++ length s.report.made ∷ []
       → StandsFor side.assembler [] → side.gone ≡ 0 → AreStreamsOf width
       (record s { report = record s.report { executed = executed; made = made; instrument = state }; up = side; down = record s.down { queue = queue } })
-      (goes_on width v event.UpDeliver)
+      (after_event width v event.UpDeliver)
   streams_up_deliver n side queue request entry executed made state o e found replied told same executed_is made_is queue_is stands none =
       let f = up_front width s.report s.up.queue s.down.queue s.client v.world h.lines n side.queue e in
       let x = f.0 in
@@ -338,7 +338,7 @@ module _ (width : ℕ) (s : Seen) (v : Streams (ById Call) State) (h : AreStream
       let reply = (handed v.world.wire.state x.line.id x.line.call).reply in
       let plain : IsPlain reply = subst (λ t. IsPlain (handed t x.line.id x.line.call).reply) h.lines.reports.instrument did.plain in
       let m : Numbered (List ℕ) = record { number = x.number; line = reply } in
-      let whole : does width v.world Up_deliver ≡ on_wire v.world (up_delivered ends v.world.wire (x ∷ f.1)) = ap (λ q. on_wire v.world (up_delivered ends v.world.wire q)) f.2 in
+      let whole : after_step width v.world Up_deliver ≡ on_wire v.world (up_delivered ends v.world.wire (x ∷ f.1)) = ap (λ q. on_wire v.world (up_delivered ends v.world.wire q)) f.2 in
       record {
         lines = shows_up_deliver width s.report s.up.queue s.down.queue s.client v.world h.lines n side.queue queue request entry executed made state o e
             found replied told same executed_is made_is queue_is;
@@ -359,10 +359,10 @@ module _ (width : ℕ) (s : Seen) (v : Streams (ById Call) State) (h : AreStream
       → AreSettlements more (hears s.client.ids line (heard line)).settlements
       → client ≡ record s.client { ids = (hears s.client.ids line (heard line)).client } → settled ≡ s.report.settled ++ more → StandsFor side.assembler []
       → side.gone ≡ 0 → AreStreamsOf width (record s { report = record s.report { settled = settled }; down = side; client = client })
-      (goes_on width v event.DownDeliver)
+      (after_event width v event.DownDeliver)
   streams_down_deliver p side m line more settled client e found is more_are client_is settled_is stands none =
       let f = down_front width s.report s.up.queue s.down.queue s.client v.world h.lines p side.queue e in
-      let whole : does width v.world Down_deliver ≡ down_delivered (by_ids width ends) v.world (f.0 ∷ f.1) = ap (λ q. down_delivered (by_ids width ends) v.world q) f.2 in
+      let whole : after_step width v.world Down_deliver ≡ down_delivered (by_ids width ends) v.world (f.0 ∷ f.1) = ap (λ q. down_delivered (by_ids width ends) v.world q) f.2 in
       record {
         lines = shows_down_deliver width s.report s.up.queue s.down.queue s.client v.world h.lines p side.queue m line more settled client e found is more_are client_is settled_is;
         up_is = h.up_is;
@@ -378,22 +378,23 @@ module _ (width : ℕ) (s : Seen) (v : Streams (ById Call) State) (h : AreStream
   -- once n bytes were handed over that don't complete the front line, the streams with n more gone are shown
   pub streams_begin : (d : Direction) (n : ℕ) (side : Side) → n < remaining (gone d v) (lines d v.world.wire)
       → IsFlow side.assembler side.gone (texts d v.world.wire) → side.gone ≡ (pick d s.up s.down).gone + n → side.queue ≡ (pick d s.up s.down).queue
-      → AreStreamsOf width (record s { up = pick d side s.up; down = pick d s.down side }) (Stages.handed width d v n)
+      → AreStreamsOf width (record s { up = pick d side s.up; down = pick d s.down side }) (Stages.after_bytes width d v n)
   streams_begin d n side lt flow gone_of queue_is =
-      subst (λ c. AreStreamsOf width (record s { up = pick d side s.up; down = pick d s.down side }) (to ends (by_ids width ends) d v c)) (sym (cut_short (lines d v.world.wire) (gone d v) n lt))
+      subst (λ c. AreStreamsOf width (record s { up = pick d side s.up; down = pick d s.down side }) (after_cut ends (by_ids width ends) d v c))
+      (sym (cut_short (lines d v.world.wire) (gone d v) n lt))
       (by_direction d flow (gone_of ∙ ap (λ g. g + n) (gone_is d)) queue_is)
     where
       by_direction : (d : Direction) → IsFlow side.assembler side.gone (texts d v.world.wire) → side.gone ≡ gone d v + n
           → side.queue ≡ (pick d s.up s.down).queue → AreStreamsOf width (record s { up = pick d side s.up; down = pick d s.down side })
           (reaches d v v.world (gone d v + n))
       by_direction Up flow gone queue =
-          record { lines = subst (λ q. AreOf width s.report q s.down.queue s.client v.world) (sym queue) h.lines; up_is = gone; down_is = h.down_is; up_flow = flow; down_flow = h.down_flow }
+          record { lines = subst (λ q. AreOfWorld width s.report q s.down.queue s.client v.world) (sym queue) h.lines; up_is = gone; down_is = h.down_is; up_flow = flow; down_flow = h.down_flow }
       by_direction Down flow gone queue =
-          record { lines = subst (λ q. AreOf width s.report s.up.queue q s.client v.world) (sym queue) h.lines; up_is = h.up_is; down_is = gone; up_flow = h.up_flow; down_flow = flow }
+          record { lines = subst (λ q. AreOfWorld width s.report s.up.queue q s.client v.world) (sym queue) h.lines; up_is = h.up_is; down_is = gone; up_flow = h.up_flow; down_flow = flow }
 
   -- an event of 0 bytes, or of bytes while none are in flight, is only counted
   pub streams_idle_bytes : (d : Direction) (n r : ℕ) → r ≡ remaining (gone d v) (lines d v.world.wire) → (n ≡ 0) ⊎ (r ≡ 0)
-      → AreStreamsOf width (record s { report = counted false s.report }) (goes_on width v (bytes d n))
+      → AreStreamsOf width (record s { report = counted false s.report }) (after_event width v (bytes d n))
   streams_idle_bytes d n r e none = subst (λ x. AreStreamsOf width (record s { report = counted false s.report }) x)
       (sym (bytes_pass ends (by_ids width ends) d v n ∙ idle_bytes width d v (lines d v.world.wire) n e none (part d))) nothing
 

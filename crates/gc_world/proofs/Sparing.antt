@@ -1,4 +1,4 @@
--- Events that take no memory: each condition for that, which `TakesNone` states of a world, holds of the stage that shows the
+-- Events that take no memory: each condition for that, which `TakesNoMemory` states of a world, holds of the stage that shows the
 -- world.
 use Rattle.std.proofs.Common.{◌≡◌, ℕ, ◌≤◌, true, false, List, [], ◌∷◌, length, Some, inl, inr, sym, ◌∙◌, ap, subst, arith}
 use mathlib.Core.Path.{ap₂}
@@ -10,7 +10,7 @@ use Rattle.gc_world.specs.declared.report.Made.{Made}
 use Rattle.gc_world.specs.declared.report.Report.{Report}
 use Rattle.gc_world.specs.Memory.{IsBusy, IsStray, IsNoRepeat}
 use Rattle.gc_world.specs.Order.{numbers}
-use Rattle.gc_world.specs.Stages.{AreOf}
+use Rattle.gc_world.specs.Stages.{AreOfWorld}
 use Rattle.gc_world.specs.Streams.{is_begun}
 use Rattle.gc_world.specs.World.{Numbered, World}
 use Rattle.gc_world.proofs.Showing.{same_up, same_down, no_up, no_down, down_front, down_line}
@@ -19,7 +19,7 @@ use Rattle.gc_world.proofs.Showing.{same_up, same_down, no_up, no_down, down_fro
 pub not_both : false ≡ true → ⊥
 not_both e = cc
 
-module _ (width : ℕ) (r : Report) (up down : List ℕ) (c : Windowed Call) (w : World (ById Call) State) (h : AreOf width r up down c w) where
+module _ (width : ℕ) (r : Report) (up down : List ℕ) (c : Windowed Call) (w : World (ById Call) State) (h : AreOfWorld width r up down c w) where
   -- where the world's client has as many requests waiting as its width, the stage's has
   pub full : length w.client.waiting ≡ width → length c.ids.waiting ≡ c.width
   full t = ap (λ (x : Windowed Call). length x.ids.waiting) h.client_is ∙ t ∙ sym (ap (λ (x : Windowed Call). x.width) h.client_is)

@@ -9,29 +9,29 @@ use Rattle.gc_world.specs.declared.event.Event.{Event}
 use Rattle.gc_world.specs.declared.report.Report.{Report}
 use Rattle.gc_world.specs.Reports.{IsReport}
 use Rattle.gc_world.specs.Clients.{by_ids, ends, streamed, played}
-use Rattle.gc_world.specs.Stages.{goes_on, begins, Seen, AreOf, AreStreamsOf}
+use Rattle.gc_world.specs.Stages.{after_event, streams_at_start, Seen, AreOfWorld, AreStreamsOf}
 use Rattle.gc_world.specs.World.{World}
 use Rattle.gc_world.proofs.Counts.{IsWithin, within_all}
 use Rattle.gc_world.proofs.Flow.{flow_append}
 
 -- the streams after the first i + 1 events are those after the first i, and then event i
 pub played_more : (width : ℕ) (opening : State) (events : List Event) (i : ℕ) (e : Event) → i < length events → e ≡ get_or events i e
-    → streamed width opening (take (i + 1) events) ≡ goes_on width (streamed width opening (take i events)) e
+    → streamed width opening (take (i + 1) events) ≡ after_event width (streamed width opening (take i events)) e
 played_more width opening events i e lt is =
     ap (streamed width opening) (take_more events i e lt ∙ ap (λ x. take i events ++ x ∷ []) (sym is))
-    ∙ flow_append ends (by_ids width ends) (take i events) (e ∷ []) (begins opening)
+    ∙ flow_append ends (by_ids width ends) (take i events) (e ∷ []) (streams_at_start opening)
 
 -- no list of a run is longer than its list of events
 pub played_within : (width : ℕ) (opening : State) (events : List Event) → IsWithin (length events) (played width opening events).wire
 played_within width opening events =
     let e : 0 + length events ≡ length events = omega arith in
     subst (λ n. IsWithin n (played width opening events).wire) e
-    (within_all ends (by_ids width ends) events (begins opening) 0 (record
+    (within_all ends (by_ids width ends) events (streams_at_start opening) 0 (record
     { sent = omega arith; executed = omega arith; made = omega arith; starts = omega arith; refused = omega arith; idle = omega arith }))
 
 -- a report with other assemblers has the same lists and counts, so it is still that of the world
-with_kept : (width : ℕ) (r : Report) (up down : List ℕ) (c : Windowed Call) (w : World (ById Call) State) (a b : Kept) → AreOf width r up down c w
-    → AreOf width (record r { up = a; down = b }) up down c w
+with_kept : (width : ℕ) (r : Report) (up down : List ℕ) (c : Windowed Call) (w : World (ById Call) State) (a b : Kept) → AreOfWorld width r up down c w
+    → AreOfWorld width (record r { up = a; down = b }) up down c w
 with_kept width r up down c w a b h =
     let g = h.reports in
     record {
@@ -47,10 +47,10 @@ with_kept width r up down c w a b h =
 -- after the last event the report that is handed back is that of the whole run
 pub at_end : (width : ℕ) (opening : State) (events : List Event) (s : Seen) (i : ℕ) (r : Report) → length events ≤ i
     → AreStreamsOf width s (streamed width opening (take i events)) → r ≡ record s.report { up = s.up.assembler; down = s.down.assembler }
-    → AreOf width r s.up.queue s.down.queue s.client (played width opening events)
+    → AreOfWorld width r s.up.queue s.down.queue s.client (played width opening events)
 at_end width opening events s i r all h is =
     let shows = subst (λ es. AreStreamsOf width s (streamed width opening es)) (take_all i events all) h in
-    subst (λ (x : Report). AreOf width x s.up.queue s.down.queue s.client (played width opening events)) (sym is)
+    subst (λ (x : Report). AreOfWorld width x s.up.queue s.down.queue s.client (played width opening events)) (sym is)
     (with_kept width s.report s.up.queue s.down.queue s.client (played width opening events) s.up.assembler s.down.assembler shows.lines)
 
 -- the stage after the first i events has counted at most i refused sends and i idle events

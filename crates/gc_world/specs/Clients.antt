@@ -14,7 +14,7 @@ use Rattle.gc_world.specs.Worlds
 
 -- By ids.
 
--- the client's rule, for a window of this width; the number of a reply is not looked at
+-- the rule of the client that knows ids, for a window of this width; it doesn't look at a reply's number
 abbrev pub by_ids : {Q State : Type 0} → ℕ → Worlds.Ends Q State → Worlds.Rule Q (ById Q)
 by_ids width ends =
     record {
@@ -53,8 +53,8 @@ number_reply c x false =
       client = record { count = x.number + 1; requests = c.requests; since = c.since };
     }
 
--- what the client would do if every reply carried its request's number: no id is read in a reply; sends are refused at the
--- same width, and get the same ids
+-- the rule of the oracle client: what the client would do if every reply carried its request's number. No id is read in a reply;
+-- sends are refused at the same width, and get the same ids
 abbrev pub by_numbers : {Q : Type 0} → ℕ → Worlds.Rule Q (ByNumber Q)
 by_numbers width =
     record {
@@ -76,19 +76,23 @@ module _ {Q State : Type 0} where
   numbers_open state = record { wire = opened state; client = record { count = 0; requests = []; since = 0 } }
 
 module _ {State : Type 0} where
-  -- the run by ids: every step, in order, with the client that knows ids
+  -- the run by ids: the world after these steps, in order, with the client that knows ids, which has a window of this width, and
+  -- with the instrument in this state at first
   abbrev pub run_by_ids : ℕ → Ends State → List Step → State → World (ById Call) State
   run_by_ids width ends steps state = run ends (by_ids width ends) steps (ids_open state)
 
-  -- the run by numbers: every step, in order, with the oracle client
+  -- the run by numbers: the world after these steps, in order, with the oracle client, which has a window of this width, and
+  -- with the instrument in this state at first
   abbrev pub run_by_numbers : ℕ → Ends State → List Step → State → World (ByNumber Call) State
   run_by_numbers width ends steps state = run ends (by_numbers width) steps (numbers_open state)
 
-  -- the run by ids of events, with what has gone of the front lines: a reply is delivered with its last byte
+  -- the run by ids of events instead of steps: the streams after these events, in order, that is, the world and how many bytes of
+  -- the front line of each direction have gone
   abbrev pub streams_by_ids : ℕ → Ends State → List Event → State → Streams (ById Call) State
   streams_by_ids width ends events state = flow ends (by_ids width ends) events (untouched (ids_open state))
 
-  -- the run by numbers of events, with what has gone of the front lines: a reply is delivered with its last byte
+  -- the run by numbers of events instead of steps: the streams after these events, in order, that is, the world and how many bytes
+  -- of the front line of each direction have gone
   abbrev pub streams_by_numbers : ℕ → Ends State → List Event → State → Streams (ByNumber Call) State
   streams_by_numbers width ends events state = flow ends (by_numbers width) events (untouched (numbers_open state))
 

@@ -26,7 +26,7 @@ abbrev pub bytes : Direction → ℕ → Event
 bytes d n = pick d (event.UpBytes n) (event.DownBytes n)
 
 module _ {State : Type 0} where
-  -- the text of each line in flight in a direction, the front line first
+  -- the text of each line in flight in a direction, without CR LF, the front line first
   abbrev pub texts : Direction → Wire State → List (List ℕ)
   texts d w = pick d (up_texts w) (down_texts w)
 
@@ -35,7 +35,7 @@ module _ {State : Type 0} where
   lines d w = map with_end (texts d w)
 
 module _ {Client State : Type 0} where
-  -- how many bytes of the front line of a direction have gone
+  -- how many bytes of the front line of a direction have gone over
   abbrev pub gone : Direction → Streams Client State → ℕ
   gone d v = pick d v.up_gone v.down_gone
 

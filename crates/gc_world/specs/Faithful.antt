@@ -46,7 +46,7 @@ pub record IsBookedFor (r : Report) (m : ℕ) (call : Call) (reading : Reading) 
   pub reads : ReadsAs call line reading
   pub fine : IsValueOrRefusal reading
 
--- where the outcome is an answer, it is booked for request m, as `IsBookedFor` has it; of other outcomes nothing is said
+-- if the outcome is an answer, it is booked for request m, as `IsBookedFor` has it; any other outcome may be
 abbrev pub IsBookedAnswer : Report → ℕ → Call → Outcome → Type 0
 IsBookedAnswer r m call (Answered reading line) = IsBookedFor r m call reading line.items
 IsBookedAnswer r m call Late = ⊤
@@ -58,12 +58,12 @@ abbrev pub BooksAnswers : Report → Type 0
 BooksAnswers r =
     (m : ℕ) (settlement : Settlement Call) → slice_get r.settled m ≡ Some settlement → IsBookedAnswer r m settlement.call settlement.outcome
 
--- whether a number is among these
+-- whether the number n is in the list
 abbrev pub has_number : ℕ → List ℕ → Bool
 has_number n [] = false
 has_number n (x ∷ xs) = nat_eq x n || has_number n xs
 
--- this state, restarted where there was a restart (true)
+-- the state in which the instrument goes on: restarted where there was a restart (true), else unchanged
 abbrev pub begun : {State : Type 0} → (State → State) → Bool → State → State
 begun restarted false state = state
 begun restarted true state = restarted state
@@ -109,13 +109,13 @@ pub record ActsOnce (opening : State) (r : Report) : Type 0 where
 abbrev pub sent_seen : Sent → World.Sent
 sent_seen s = record { target = s.target; call = s.call; line = s.line.items }
 
--- agreement: requests and settlements, with their lines and readings, the count of refused sends and the count of idle
--- events are those of the run by numbers of the same events: what the client would do if every reply carried its
--- request's number. By that run each request's first reply, if it comes unsettled and in time, is booked. First: it is the
--- first of the replies to its request that is delivered. Unsettled: the request's number isn't below the count of requests
--- settled until then. In time: no `Expire` with a moment at or past the request's deadline came between its send and this
--- delivery. Where one had come, the reply settles the request as late; and the requests before it that weren't settled are
--- lost.
+-- agreement: the report's requests and settlements, with their lines and readings, and its counts of refused sends and of idle
+-- events are those of the wire w. In `Faithful` that wire is the one that the run by numbers of the same events leaves: what the
+-- client would do if every reply carried its request's number. By that run each request's first reply, if it comes unsettled and in
+-- time, is booked. First: it is the first of the replies to its request that is delivered. Unsettled: the request's number isn't
+-- below the count of requests settled until then. In time: no `Expire` with a moment at or past the request's deadline came between
+-- its send and this delivery. Where one had come, the reply settles the request as late; and the requests before it that weren't
+-- settled are lost.
 pub record AgreesWith (w : Wire State) (r : Report) : Type 0 where
   pub sent : map sent_seen r.sent ≡ w.sent
   pub settled : AreSettlements r.settled w.settled

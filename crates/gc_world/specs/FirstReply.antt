@@ -1,5 +1,5 @@
--- The first reply to a request, where it comes unsettled and in time, is booked. It is said of the run by ids, in the
--- words of who made the list of events. This project's own.
+-- The first reply to a request is booked if it comes while the request isn't settled, and in time. This is stated of the run by ids, in
+-- terms of the list of events. This project's own.
 -- "First": the first of the replies to a request that is delivered. A reply that finds its request unsettled is the first,
 -- because it settles the request; a further one settles nothing. "Unsettled": the request's number isn't below the count of the
 -- settlements so far. "In time": since the request was sent the client got no moment at or past the request's deadline.
@@ -42,7 +42,8 @@ pub record IsTooLate (width : ℕ) (opening : State) (events : List Event) (n : 
   pub later : List Event
   pub sent : IsSentBefore width opening events n deadline later
   pub now : ℕ
-  pub told : Contains later (Expire now)
+  -- the client got this moment
+  pub given : Contains later (Expire now)
   pub reached : deadline ≤ now
 
 -- the reply at the front of the downward queue is this line, it belongs to request n, and request n isn't settled
@@ -91,14 +92,14 @@ FirstReplyIsLate =
     IsTooLate width opening events n → DeliverySettles width opening events n line Late
 
 -- each request that was sent is in time or too late
-abbrev pub IsOneOrOther : Type 0
-IsOneOrOther =
+abbrev pub IsInTimeOrTooLate : Type 0
+IsInTimeOrTooLate =
     (width : ℕ) (opening : State) (events : List Event) (n : ℕ) → n < length (left_by_ids width opening events).sent →
     IsInTime width opening events n ⊎ IsTooLate width opening events n
 
 -- no request is both in time and too late
-abbrev pub IsNeverBoth : Type 0
-IsNeverBoth =
+abbrev pub IsNeverInTimeAndTooLate : Type 0
+IsNeverInTimeAndTooLate =
     (width : ℕ) (opening : State) (events : List Event) (n : ℕ) → IsInTime width opening events n → IsTooLate width opening events n → ⊥
 
 -- a further reply, which is one to a request that is settled already, settles nothing

@@ -13,38 +13,39 @@ use Rattle.gc_world.specs.World.{Numbered}
 abbrev pub IsBusy : {A B : Type 0} → List A → List B → Type 0
 IsBusy up down = ¬ ((up ≡ []) × (down ≡ []))
 
--- no line is in the downward queue, or no request waits for the one in front
+-- no reply is in the downward queue, or the one in front is a stray: no request of the client waits for it
 abbrev pub IsStray : ById Call → List (Numbered (List ℕ)) → Type 0
 IsStray client [] = ⊤
 IsStray client (x ∷ rest) = fits client (heard x.line) ≡ false
 
--- no request waits for any of the first k lines
+-- the first k replies of the downward queue are strays: no request of the client waits for any of them
 abbrev pub AreStrays : ById Call → ℕ → List (Numbered (List ℕ)) → Type 0
 AreStrays client zero down = ⊤
 AreStrays client (suc k) [] = ⊤
 AreStrays client (suc k) (x ∷ rest) = (fits client (heard x.line) ≡ false) × AreStrays client k rest
 
--- there is no line k to be repeated, or its first byte has gone
+-- a repeat of line k of a queue isn't possible, where `gone` bytes of the front line have gone: there is no line k, or its first byte
+-- has gone
 abbrev pub IsNoRepeat : {A : Type 0} → ℕ → ℕ → List A → Type 0
 IsNoRepeat k gone queue = (is_begun k gone ≡ true) ⊎ (length queue ≤ k)
 
--- on these streams, with a window of this width, the event is a refused send, a loss, an expiry, a delivery of strays, bytes that complete no line, or isn't
--- possible
-abbrev pub TakesNone : ℕ → Streams (ById Call) State → Event → Type 0
-TakesNone width v (Send target call deadline) = length v.world.client.waiting ≡ width
-TakesNone width v UpDeliver = v.world.wire.up ≡ []
-TakesNone width v (UpBytes n) = (cut (up_lines v.world.wire) (v.up_gone + n)).lines ≡ 0
-TakesNone width v (UpLose k) = ⊤
-TakesNone width v (UpRepeat k) = IsNoRepeat k v.up_gone v.world.wire.up
-TakesNone width v DownDeliver = IsStray v.world.client v.world.wire.down
-TakesNone width v (DownBytes n) = AreStrays v.world.client (cut (down_lines v.world.wire) (v.down_gone + n)).lines v.world.wire.down
-TakesNone width v (DownLose k) = ⊤
-TakesNone width v (DownRepeat k) = IsNoRepeat k v.down_gone v.world.wire.down
-TakesNone width v (Expire now) = ⊤
-TakesNone width v RestartClient = IsBusy v.world.wire.up v.world.wire.down
-TakesNone width v RestartInstrument = IsBusy v.world.wire.up v.world.wire.down
+-- on these streams, with a window of this width, the event takes no memory: it is a refused send, a loss, an expiry, a delivery of
+-- strays, bytes that complete no line, or an event that isn't possible
+abbrev pub TakesNoMemory : ℕ → Streams (ById Call) State → Event → Type 0
+TakesNoMemory width v (Send target call deadline) = length v.world.client.waiting ≡ width
+TakesNoMemory width v UpDeliver = v.world.wire.up ≡ []
+TakesNoMemory width v (UpBytes n) = (cut (up_lines v.world.wire) (v.up_gone + n)).lines ≡ 0
+TakesNoMemory width v (UpLose k) = ⊤
+TakesNoMemory width v (UpRepeat k) = IsNoRepeat k v.up_gone v.world.wire.up
+TakesNoMemory width v DownDeliver = IsStray v.world.client v.world.wire.down
+TakesNoMemory width v (DownBytes n) = AreStrays v.world.client (cut (down_lines v.world.wire) (v.down_gone + n)).lines v.world.wire.down
+TakesNoMemory width v (DownLose k) = ⊤
+TakesNoMemory width v (DownRepeat k) = IsNoRepeat k v.down_gone v.world.wire.down
+TakesNoMemory width v (Expire now) = ⊤
+TakesNoMemory width v RestartClient = IsBusy v.world.wire.up v.world.wire.down
+TakesNoMemory width v RestartInstrument = IsBusy v.world.wire.up v.world.wire.down
 
 -- none of these events takes memory, on the streams that those before it leave
-abbrev pub TakeNone : ℕ → State → List Event → Type 0
-TakeNone width opening events =
-    (i : ℕ) (event : Event) → slice_get events i ≡ Some event → TakesNone width (streamed width opening (take i events)) event
+abbrev pub TakeNoMemory : ℕ → State → List Event → Type 0
+TakeNoMemory width opening events =
+    (i : ℕ) (event : Event) → slice_get events i ≡ Some event → TakesNoMemory width (streamed width opening (take i events)) event

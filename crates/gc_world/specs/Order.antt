@@ -4,23 +4,24 @@ use Rattle.std.specs.Prelude.{◌≡◌, ℕ, ◌+◌, ◌<◌, ◌≤◌, List,
 use Rattle.gc_instrument.specs.State.{KeptReply}
 use Rattle.gc_world.specs.Worlds.{Numbered, Wire}
 
--- each element of a list has this property
+-- each element of a list has this property. It is std's `All` by recursion on the list, because proofs split lists at their front;
+-- `All` speaks of places
 abbrev pub Each : {A : Type 0} → (A → Type 0) → List A → Type 0
 Each P [] = Unit {0}
 Each P (x ∷ xs) = P x × Each P xs
 
--- the numbers never fall from one to the next, and none is below low - 1
+-- the numbers of a list never fall from one to the next, and none is below low - 1
 abbrev pub Rising : ℕ → List ℕ → Type 0
 Rising low [] = Unit {0}
 Rising low (n ∷ ns) = (low ≤ n + 1) × Rising (n + 1) ns
 
--- the numbers of the lines of a queue
+-- the number of each line of a queue, the front line first
 abbrev pub numbers : {Line : Type 0} → List (Numbered Line) → List ℕ
 numbers xs = map (λ x. x.number) xs
 
--- the numbers in flight, from the front of the downward queue to the back of the upward one
-abbrev pub under_way : {Q State : Type 0} → Wire Q State → List ℕ
-under_way w = numbers w.down ++ numbers w.up
+-- the numbers of all lines in flight, from the front of the downward queue to the back of the upward one
+abbrev pub in_flight : {Q State : Type 0} → Wire Q State → List ℕ
+in_flight w = numbers w.down ++ numbers w.up
 
 -- while a reply is kept, some request was executed, and each of the numbers `up` is the one executed last or one of the `width`
 -- above it
@@ -35,6 +36,6 @@ pub record IsOrderly {Q State : Type 0} (width : ℕ) (w : Wire Q State) : Type 
   pub few : length w.sent ≤ length w.settled + width
   -- in each queue the numbers never fall from front to back, no number downward is above one upward, and every number is at
   -- least the count of settlements less one
-  pub order : Rising (length w.settled) (under_way w)
+  pub order : Rising (length w.settled) (in_flight w)
   -- every number is below the count of requests sent
-  pub sent : Each (λ n. n < length w.sent) (under_way w)
+  pub sent : Each (λ n. n < length w.sent) (in_flight w)

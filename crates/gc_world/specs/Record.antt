@@ -8,7 +8,7 @@ use Rattle.gc_world.specs.Faithful.{has_number, begun}
 use Rattle.gc_world.specs.World.{Sent, Numbered, Ends, Wire}
 use Rattle.gc_world.specs.Worlds
 
--- these numbers are at least low, and strictly increase
+-- the numbers of a list strictly increase, and none is below `low`
 abbrev pub Increasing : ℕ → List ℕ → Type 0
 Increasing low [] = Unit {0}
 Increasing low (x ∷ xs) = (low ≤ x) × Increasing (x + 1) xs
@@ -51,7 +51,7 @@ module _ {State : Type 0} (ends : Ends State) where
     pub place : ℕ
     pub made : slice_get w.made place ≡ Some (record { number = n; line = (ends.handed (before j) id request.call).reply })
 
-  -- execution j is that of the entry's request, and the entry's line is the reply that it gave
+  -- this entry, a reply that was made, is the reply of execution j, which is that of the entry's request
   pub record IsReplyAt (w : Wire State) (before : ℕ → State) (entry : Numbered (List ℕ)) : Type 0 where
     pub j : ℕ
     pub executed : slice_get w.executed j ≡ Some entry.number

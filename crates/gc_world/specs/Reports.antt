@@ -1,17 +1,23 @@
 -- What the report of a run is, and how long it can become. This project's own.
 use Rattle.std.specs.Prelude.{◌≡◌, ℕ, ◌≤◌, List, length, map}
+use Rattle.gc_catalogue.specs.declared.call.Call.{Call}
+use Rattle.gc_client.specs.Rule.{Windowed}
 use Rattle.gc_client.specs.Settlements.{AreSettlements}
 use Rattle.gc_instrument.specs.State.{State}
+use Rattle.gc_lines.specs.Assembler.{Kept, StandsFor}
+use Rattle.gc_world.specs.declared.event.Event.{Event}
 use Rattle.gc_world.specs.declared.report.Made.{Made}
 use Rattle.gc_world.specs.declared.report.Report.{Report}
+use Rattle.gc_world.specs.Clients.{played, streamed}
 use Rattle.gc_world.specs.Faithful.{sent_seen}
+use Rattle.gc_world.specs.Streams.{up_lines, down_lines, gone_of}
 use Rattle.gc_world.specs.World.{Numbered, Wire}
 
 -- a reply of the report as the world speaks of it: its number and its line's bytes
 abbrev pub made_seen : Made → Numbered (List ℕ)
 made_seen m = record { number = m.number; line = m.line.items }
 
--- the report has the lists and the counts of this wire
+-- the report has the lists, the instrument's state and the counts of this wire
 pub record IsReport (r : Report) (w : Wire State) : Type 0 where
   pub sent : map sent_seen r.sent ≡ w.sent
   pub executed : r.executed ≡ w.executed
@@ -22,10 +28,28 @@ pub record IsReport (r : Report) (w : Wire State) : Type 0 where
   pub refused : r.refused_sends ≡ w.refused
   pub idle : r.idle_events ≡ w.idle
 
--- no list of the report is longer than this
+-- no list of the report is longer than n
 pub record IsNoLongerThan (n : ℕ) (r : Report) : Type 0 where
   pub sent : length r.sent ≤ n
   pub executed : length r.executed ≤ n
   pub made : length r.made ≤ n
   pub settled : length r.settled ≤ n
   pub starts : length r.starts ≤ n
+
+-- What a run of these events leaves, from this opening state on, with a window of this width.
+
+-- the report is that of the run by ids
+abbrev pub IsReportOf : (width : ℕ) → (opening : State) → List Event → Report → Type 0
+IsReportOf width opening events r = IsReport r (played width opening events).wire
+
+-- the client is that of the run by ids
+abbrev pub IsClientOf : (width : ℕ) → (opening : State) → List Event → Windowed Call → Type 0
+IsClientOf width opening events c = c ≡ record { width = width; ids = (played width opening events).client }
+
+-- the assembler stands for the bytes of the front request that have gone over
+abbrev pub StandsForUp : (width : ℕ) → (opening : State) → List Event → Kept → Type 0
+StandsForUp width opening events kept = StandsFor kept (gone_of (streamed width opening events).up_gone (up_lines (played width opening events).wire))
+
+-- the assembler stands for the bytes of the front reply that have gone over
+abbrev pub StandsForDown : (width : ℕ) → (opening : State) → List Event → Kept → Type 0
+StandsForDown width opening events kept = StandsFor kept (gone_of (streamed width opening events).down_gone (down_lines (played width opening events).wire))

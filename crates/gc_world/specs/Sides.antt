@@ -1,9 +1,12 @@
 -- No part of a promise: what a side carries. A side is what the code keeps of the lines in flight in one direction: their
 -- places in the report, how many bytes of the front line have gone, and the assembler of those bytes.
-use Rattle.std.specs.Prelude.{◌≡◌, ℕ, ◌+◌, ◌<◌, true, false, List, [], ◌∷◌, length, Option, Some, map, slice_get, if◌then◌else◌, nat_lt}
+use Rattle.std.specs.Prelude.{◌≡◌, ℕ, ◌+◌, ◌<◌, true, false, List, [], ◌∷◌, length, take, Option, Some, map, slice_get, if◌then◌else◌, nat_lt}
 use Rattle.std.specs.Option.{option_map}
 use Rattle.gc_lines.specs.Assembler.{Kept, StandsFor}
+use Rattle.gc_lines.specs.Lent.{lent_seen}
 use Rattle.gc_lines.specs.Lines.{IsPlain, with_end}
+use Rattle.gc_lines.specs.declared.frame.Frame.{Frame}
+use Rattle.gc_lines.specs.declared.frame.Lent.{Lent}
 use Rattle.gc_world.specs.declared.direction.Direction.{Direction}
 use Rattle.gc_world.specs.declared.direction.Direction.TheVariants.{Up, Down}
 use Rattle.gc_world.specs.declared.report.Made.{Made}
@@ -11,7 +14,7 @@ use Rattle.gc_world.specs.declared.report.Report.{Report}
 use Rattle.gc_world.specs.declared.report.Sent.{Sent}
 use Rattle.gc_world.specs.declared.side.Side.{Side}
 use Rattle.gc_world.specs.Order.{Each}
-use Rattle.gc_world.specs.Streams.{gone_of, is_begun}
+use Rattle.gc_world.specs.Streams.{gone_of, is_begun, remaining}
 
 -- the text of the line at this place of a direction's list in the report, if the list is so long: `sent` upward, and `made`
 -- downward
@@ -31,10 +34,26 @@ pub record IsFlow (kept : Kept) (gone : ℕ) (texts : List (List ℕ)) : Type 0 
   pub stands : StandsFor kept (gone_of gone (map with_end texts))
   pub plain : Each IsPlain texts
 
--- the texts of a side's lines are these, and its assembler stands for what has gone of them
+-- the queue of a side names these texts in the report, in order, and the side's assembler stands for what has gone of the first
 pub record Carries (d : Direction) (r : Report) (s : Side) (texts : List (List ℕ)) : Type 0 where
   pub names : map (written d r) s.queue ≡ map Some texts
   pub flow : IsFlow s.assembler s.gone texts
+
+-- the side carries some texts in this direction, and more than n bytes of their front line are still to go
+abbrev pub CarriesMoreThan : Direction → Report → Side → ℕ → Type 0
+CarriesMoreThan d r s n = (texts : List (List ℕ)) × Carries d r s texts × (n < remaining s.gone (map with_end texts))
+
+-- whatever texts the side `old` carries in this direction, the assembler and the count of `new` are a flow of them
+abbrev pub KeepsFlow : Direction → Report → (old new : Side) → Type 0
+KeepsFlow d r old new = (texts : List (List ℕ)) → Carries d r old texts → IsFlow new.assembler new.gone texts
+
+-- the assembler stands for the first `gone` bytes of this line with its CR LF
+abbrev pub StandsForPart : Kept → (gone : ℕ) → (line : List ℕ) → Type 0
+StandsForPart kept gone line = StandsFor kept (take gone (with_end line))
+
+-- the lent frame is a line with these bytes
+abbrev pub IsLine : Lent → List ℕ → Type 0
+IsLine lent line = lent_seen lent ≡ Frame.Line (record { items = line })
 
 -- what a loss or a repeat of line k does to a side: this queue takes the place of the old one, if line k is in flight and no
 -- byte of it has gone. Else the count of idle events grows by one, from `before` to `after`

@@ -1,6 +1,6 @@
 -- No part of a promise: what a stage shows of the streams of a run. A stage is what the code keeps while it plays events:
 -- the report so far, the client, and for each direction a side, with the lines in flight in it.
-use Rattle.std.specs.Prelude.{◌≡◌, ℕ, ◌+◌, ◌<◌, List, Option, Some, map, replicate, slice_get}
+use Rattle.std.specs.Prelude.{◌≡◌, ℕ, ◌+◌, ◌<◌, List, Option, Some, Result, IsOk, map, replicate, slice_get}
 use Rattle.gc_catalogue.specs.Calls.{IsFitting}
 use Rattle.gc_catalogue.specs.Texts.{request_line}
 use Rattle.gc_catalogue.specs.declared.call.Call.{Call}
@@ -16,31 +16,32 @@ use Rattle.gc_world.specs.declared.side.Side.{Side}
 use Rattle.gc_world.specs.declared.stage.Stage.{Stage}
 use Rattle.gc_world.specs.Clients.{by_ids, ids_open, ends}
 use Rattle.gc_world.specs.Directions.{deliver, lines, gone, reaches}
+use Rattle.gc_world.specs.Memory.{TakesNoMemory}
 use Rattle.gc_world.specs.Order.{Each, numbers}
 use Rattle.gc_world.specs.Reports.{made_seen, IsReport}
 use Rattle.gc_world.specs.Sides.{IsFlow}
-use Rattle.gc_world.specs.Streams.{Streams, up_texts, down_texts, untouched, cut, flows}
+use Rattle.gc_world.specs.Streams.{Streams, up_texts, down_texts, untouched, cut, flows, remaining}
 use Rattle.gc_world.specs.World.{Request, Numbered, Step, World, happens, run}
 
--- the streams before the first event: the instrument is restarted from this state, and nothing is in flight
-abbrev pub begins : State → Streams (ById Call) State
-begins opening = untouched (ids_open (restarted opening))
+-- the streams of the run by ids before the first event: the instrument is restarted from this state, and nothing is in flight
+abbrev pub streams_at_start : State → Streams (ById Call) State
+streams_at_start opening = untouched (ids_open (restarted opening))
 
 -- the world after one step of the run by ids, with a window of this width
-abbrev pub does : ℕ → World (ById Call) State → Step → World (ById Call) State
-does width w step = happens ends (by_ids width ends) w step
+abbrev pub after_step : ℕ → World (ById Call) State → Step → World (ById Call) State
+after_step width w step = happens ends (by_ids width ends) w step
 
--- the streams after one event of the run by ids, with a window of this width
-abbrev pub goes_on : ℕ → Streams (ById Call) State → Event → Streams (ById Call) State
-goes_on width v e = flows ends (by_ids width ends) v e
+-- the streams after one more event e of the run by ids, with a window of this width
+abbrev pub after_event : ℕ → Streams (ById Call) State → Event → Streams (ById Call) State
+after_event width v e = flows ends (by_ids width ends) v e
 
--- the streams after the next n bytes of a direction
-abbrev pub handed : ℕ → Direction → Streams (ById Call) State → ℕ → Streams (ById Call) State
-handed width d v n =
+-- the streams after the next n bytes of a direction were handed over, by the run by ids with a window of this width
+abbrev pub after_bytes : ℕ → Direction → Streams (ById Call) State → ℕ → Streams (ById Call) State
+after_bytes width d v n =
     let c = cut (lines d v.world.wire) (gone d v + n) in
     reaches d v (run ends (by_ids width ends) (replicate c.lines (deliver d)) v.world) c.gone
 
--- the bytes of a request's line
+-- the bytes of the line of a request in flight, without CR LF
 abbrev pub bytes_of : Request → List ℕ
 bytes_of r = request_line (Some r.id) r.call
 
@@ -53,13 +54,13 @@ pub record IsSentIn (sent : List Sent) (x : Numbered Request) : Type 0 where
   pub digit : x.line.id < IDS
   pub fits : IsFitting x.line.call
 
--- the replies that the places of a queue name
+-- the replies of the report at these places, in order; none at a place past the end
 abbrev pub named : List Made → List ℕ → List (Option (Numbered (List ℕ)))
 named made places = map (slice_get (map made_seen made)) places
 
 -- the report, the queues and the client are those of this world, for a client with a window of this width: the queue upward
 -- has the numbers of the requests in flight, and the queue downward names the replies
-pub record AreOf (width : ℕ) (report : Report) (up down : List ℕ) (client : Windowed Call) (w : World (ById Call) State) : Type 0 where
+pub record AreOfWorld (width : ℕ) (report : Report) (up down : List ℕ) (client : Windowed Call) (w : World (ById Call) State) : Type 0 where
   pub reports : IsReport report w.wire
   pub up_is : up ≡ numbers w.wire.up
   pub down_is : named report.made down ≡ map Some w.wire.down
@@ -81,7 +82,7 @@ seen s = record { report = s.report; up = s.up; down = s.down; client = s.client
 
 -- the report, the two sides and the client are those of these streams
 pub record AreStreamsOf (width : ℕ) (s : Seen) (v : Streams (ById Call) State) : Type 0 where
-  pub lines : AreOf width s.report s.up.queue s.down.queue s.client v.world
+  pub lines : AreOfWorld width s.report s.up.queue s.down.queue s.client v.world
   pub up_is : s.up.gone ≡ v.up_gone
   pub down_is : s.down.gone ≡ v.down_gone
   pub up_flow : IsFlow s.up.assembler s.up.gone (up_texts v.world.wire)
@@ -97,4 +98,17 @@ IsShown s = (width : ℕ) × (v : Streams (ById Call) State) × Shows width s v
 
 -- whatever streams the stage s shows, the stage t, whose client's window is as wide, shows the streams after this event
 abbrev pub Follows : {W : Type 0} → Stage W → Event → Stage W → Type 0
-Follows s e t = (width : ℕ) (v : Streams (ById Call) State) → Shows width s v → Shows width t (goes_on width v e)
+Follows s e t = (width : ℕ) (v : Streams (ById Call) State) → Shows width s v → Shows width t (after_event width v e)
+
+-- the result is `Ok` if the event takes no memory, on whatever streams the stage shows
+abbrev pub IsSpare : {W A E : Type 0} → Stage W → Event → Result A E → Type 0
+IsSpare s e result = (width : ℕ) (v : Streams (ById Call) State) → Shows width s v → TakesNoMemory width v e → IsOk result
+
+-- on whatever streams the stage shows, more than n bytes of the front line of the direction are still to go
+abbrev pub HasMoreThan : {W : Type 0} → Stage W → Direction → ℕ → Type 0
+HasMoreThan s d n = (width : ℕ) (v : Streams (ById Call) State) → Shows width s v → n < remaining (gone d v) (lines d v.world.wire)
+
+-- whatever streams the stage s shows, the stage t, whose client's window is as wide, shows the streams after the next n bytes of the
+-- direction
+abbrev pub FollowsBytes : {W : Type 0} → Stage W → Direction → ℕ → Stage W → Type 0
+FollowsBytes s d n t = (width : ℕ) (v : Streams (ById Call) State) → Shows width s v → Shows width t (after_bytes width d v n)

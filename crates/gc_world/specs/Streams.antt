@@ -11,19 +11,19 @@ use Rattle.gc_world.specs.World.{Ends, Rule, Wire, World, Step, Send, Up_deliver
 -- What is in flight.
 
 module _ {State : Type 0} where
-  -- the text of each line in flight to the instrument, the front line first
+  -- the text of each line in flight to the instrument, without CR LF, the front line first
   abbrev pub up_texts : Wire State → List (List ℕ)
   up_texts w = map (λ x. request_line (Some x.line.id) x.line.call) w.up
 
-  -- the text of each line in flight to the client, the front line first
+  -- the text of each line in flight to the client, without CR LF, the front line first
   abbrev pub down_texts : Wire State → List (List ℕ)
   down_texts w = map (λ x. x.line) w.down
 
-  -- the bytes of each line in flight to the instrument
+  -- the bytes of each line in flight to the instrument, with CR LF, the front line first
   abbrev pub up_lines : Wire State → List (List ℕ)
   up_lines w = map with_end (up_texts w)
 
-  -- the bytes of each line in flight to the client
+  -- the bytes of each line in flight to the client, with CR LF, the front line first
   abbrev pub down_lines : Wire State → List (List ℕ)
   down_lines w = map with_end (down_texts w)
 
@@ -70,8 +70,8 @@ pub record Course : Type 0 where
   pub down_gone : ℕ
 
 -- the course of an event that is this one step, after which `up` and `down` bytes of the two front lines have gone
-abbrev pub moved : Step → ℕ → ℕ → Course
-moved step up down = record { steps = step ∷ []; up_gone = up; down_gone = down }
+abbrev pub of_one_step : Step → ℕ → ℕ → Course
+of_one_step step up down = record { steps = step ∷ []; up_gone = up; down_gone = down }
 
 -- whether the first byte of line k has gone: it is the front line, and some of its bytes have
 abbrev pub is_begun : ℕ → ℕ → Bool
@@ -90,7 +90,8 @@ passed step [] gone n = Nothing ∷ []
 passed step (line ∷ lines) gone zero = Nothing ∷ []
 passed step (line ∷ lines) gone (suc n) = replicate (cut (line ∷ lines) (gone + suc n)).lines step
 
--- how many bytes of the front line have gone once the next n bytes went over
+-- how many bytes of the front line have gone once the next n bytes of a direction went over, with these lines in flight, of the
+-- first of which `gone` bytes had gone before
 abbrev pub left_gone : List (List ℕ) → ℕ → ℕ → ℕ
 left_gone [] gone n = gone
 left_gone (line ∷ lines) gone zero = gone
@@ -98,18 +99,18 @@ left_gone (line ∷ lines) gone (suc n) = (cut (line ∷ lines) (gone + suc n)).
 
 -- the course of an event, with these lines in flight, of whose front lines `up` and `down` bytes have gone
 abbrev pub course : (ups downs : List (List ℕ)) (up down : ℕ) → Event → Course
-course ups downs up down (event.Send target call deadline) = moved (Send target call deadline) up down
-course ups downs up down event.UpDeliver = moved Up_deliver 0 down
+course ups downs up down (event.Send target call deadline) = of_one_step (Send target call deadline) up down
+course ups downs up down event.UpDeliver = of_one_step Up_deliver 0 down
 course ups downs up down (event.UpBytes n) = record { steps = passed Up_deliver ups up n; up_gone = left_gone ups up n; down_gone = down }
-course ups downs up down (event.UpLose k) = moved (at_line k up (Up_lose k)) up down
-course ups downs up down (event.UpRepeat k) = moved (at_line k up (Up_repeat k)) up down
-course ups downs up down event.DownDeliver = moved Down_deliver up 0
+course ups downs up down (event.UpLose k) = of_one_step (at_line k up (Up_lose k)) up down
+course ups downs up down (event.UpRepeat k) = of_one_step (at_line k up (Up_repeat k)) up down
+course ups downs up down event.DownDeliver = of_one_step Down_deliver up 0
 course ups downs up down (event.DownBytes n) = record { steps = passed Down_deliver downs down n; up_gone = up; down_gone = left_gone downs down n }
-course ups downs up down (event.DownLose k) = moved (at_line k down (Down_lose k)) up down
-course ups downs up down (event.DownRepeat k) = moved (at_line k down (Down_repeat k)) up down
-course ups downs up down (event.Expire now) = moved (Expire now) up down
-course ups downs up down event.RestartClient = moved Restart_client up down
-course ups downs up down event.RestartInstrument = moved Restart_instrument up down
+course ups downs up down (event.DownLose k) = of_one_step (at_line k down (Down_lose k)) up down
+course ups downs up down (event.DownRepeat k) = of_one_step (at_line k down (Down_repeat k)) up down
+course ups downs up down (event.Expire now) = of_one_step (Expire now) up down
+course ups downs up down event.RestartClient = of_one_step Restart_client up down
+course ups downs up down event.RestartInstrument = of_one_step Restart_instrument up down
 
 -- Runs.
 

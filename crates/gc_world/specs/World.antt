@@ -1,5 +1,5 @@
--- The world, this project's own: a client and an instrument, the line between them, what may happen on it, and a run. A client of this world
--- asks for calls of the table.
+-- The world, this project's own: a client and an instrument, the line between them, what may happen on it, and a run. A client of
+-- this world asks for calls of the table.
 use Rattle.std.specs.Prelude.{ℕ, List, Option, Some}
 use Rattle.gc_catalogue.specs.declared.call.Call.{Call}
 use Rattle.gc_catalogue.specs.Texts.{request_line}

@@ -71,21 +71,25 @@ pub record Rule (Q Client : Type 0) : Type 0 where
   pub send : Client → ℕ → Q → ℕ → Option (Sending Client)
   -- a reply line, with the number of the request that it belongs to
   pub reply : Client → Numbered (List ℕ) → Settled Q Client
-  -- a moment
+  -- a moment: each waiting request whose deadline it has reached times out
   pub expire : Client → ℕ → Client
+  -- a restart of the client, with the settlements of the requests that waited
   pub restart : Client → Settled Q Client
 
 -- What may happen.
 
--- a step of the world
+-- a step of the world. An upward line goes to the instrument, a downward one to the client; `which` counts a queue's lines from 0 at
+-- its front
 pub data Step (Q : Type 0) : Type 0 where
   Send : (target : ℕ) (call : Q) (deadline : ℕ) → Step Q
+  -- the front line of a queue is handed over whole; a line is lost; a line is repeated directly after itself
   Up_deliver : Step Q
   Up_lose : (which : ℕ) → Step Q
   Up_repeat : (which : ℕ) → Step Q
   Down_deliver : Step Q
   Down_lose : (which : ℕ) → Step Q
   Down_repeat : (which : ℕ) → Step Q
+  -- the client gets this moment
   Expire : (now : ℕ) → Step Q
   Restart_client : Step Q
   Restart_instrument : Step Q
@@ -136,7 +140,7 @@ module _ {Q State : Type 0} where
   with_down w down false = idle w
   with_down w down true = record w { down = down }
 
-  -- the wire after the instrument restarted (true), or as it was
+  -- the wire after the instrument restarted (true), or the wire as it was (false)
   abbrev pub started : Ends Q State → Wire Q State → Bool → Wire Q State
   started ends w false = w
   started ends w true = record w { starts = w.starts ++ length w.executed ∷ []; state = ends.restarted w.state }

@@ -38,14 +38,14 @@ impl<T> Entries<T> {
         }
     }
 
-    /// The entries of a vector. It takes no memory.
+    /// The elements of this vector as entries, in the same order. No memory is allocated.
     pub fn new(entries: Vec<T>) -> Entries<T>
         ensures { result ≡ entries.items }
     {
         Self { entries }
     }
 
-    /// The vector of the entries, for a caller that takes a report apart. It takes no memory.
+    /// The entries as a vector, in order, for a caller that takes a report apart. No memory is allocated.
     pub fn into_vec(self) -> Vec<T>
         ensures { result.items ≡ self }
     {
@@ -210,7 +210,7 @@ impl Entries<Settlement<Call>> {
     }
 }
 
-// Copies a line into an answer that was made with an empty line.
+// Copies a line into an outcome that is an answer with an empty line.
 #[inline]
 fn append_answer(outcome: &mut Outcome, line: &Line)
     requires { (reading : Reading) × (outcome.old ≡ Answered reading (record { items = [] })) }

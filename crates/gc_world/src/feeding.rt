@@ -1,23 +1,22 @@
 //! Feeding: the bytes of a line in flight, and then its CR LF, are handed to the assembler at the far end of their
 //! direction, all at once or in parts, without a copy of the line.
 
-ghost use Rattle.std.specs.Prelude.{◌≡◌, ◌+◌, ◌<◌, ◌≤◌, [], length, take};
+ghost use Rattle.std.specs.Prelude.{◌≡◌, ◌+◌, ◌<◌, ◌≤◌, [], length};
 ghost use Rattle.gc_lines.specs.Assembler.{StandsFor};
-ghost use Rattle.gc_lines.specs.Lent.{lent_seen};
-ghost use Rattle.gc_lines.specs.Lines.{IsPlain, with_end};
-ghost use Rattle.gc_lines.specs.declared.frame.Frame.{Frame};
+ghost use Rattle.gc_lines.specs.Lines.{IsPlain};
+ghost use Rattle.gc_world.specs.Sides.{IsLine, StandsForPart};
 
 use gc_lines::{Assembler, Lent, Line};
 
-/// Feeds the next `n` bytes of a line whose first `gone` bytes have gone. The line's last byte isn't among them, so no line comes
-/// out. `cut` is where the assembler puts the line together.
+/// Feeds the next `n` bytes of a line whose first `gone` bytes have gone. The line's last byte isn't among them, so the line isn't
+/// completed. `cut` is where the assembler puts the line together.
 #[inline(never)]
 pub fn feed_some(assembler: &mut Assembler, line: &[u8], gone: usize, n: usize, cut: &mut Line)
     requires plain { IsPlain line.now }
     requires within { length line.now ≤ 512 }
     requires some { gone + n < length line.now + 2 }
-    requires stands { StandsFor assembler.old (take gone (with_end line.now)) }
-    ensures { StandsFor assembler.new (take (gone + n) (with_end line.now)) }
+    requires stands { StandsForPart assembler.old gone line.now }
+    ensures { StandsForPart assembler.new (gone + n) line.now }
 {
     // Where the bytes go past the line's end, the CR is among them. Where the CR has gone already, n is 0.
     let to = gone + n;
@@ -29,8 +28,8 @@ pub fn feed_some(assembler: &mut Assembler, line: &[u8], gone: usize, n: usize, 
     }
 }
 
-/// Feeds what remains of a line whose first `gone` bytes have gone: the line comes out. `cut` is where the assembler has put
-/// together what went before.
+/// Feeds what remains of a line whose first `gone` bytes have gone, and returns the completed line. `cut` is where the assembler has
+/// put together what went before.
 #[inline(always)]
 pub fn feed_rest<'a>(
     assembler: &mut Assembler,
@@ -41,11 +40,11 @@ pub fn feed_rest<'a>(
     requires plain { IsPlain line.now }
     requires within { length line.now ≤ 512 }
     requires some { gone < length line.now + 2 }
-    requires stands { StandsFor assembler.old (take gone (with_end line.now)) }
-    ensures line { lent_seen result ≡ Frame.Line (record { items = line.now }) }
+    requires stands { StandsForPart assembler.old gone line.now }
+    ensures line { IsLine result line.now }
     ensures start { StandsFor assembler.new [] }
 {
-    // No byte of the line has gone: it is lent as it is.
+    // No byte of the line has gone, so the line is lent as it is.
     if assembler.at_start() {
         return Lent::Line(line);
     }

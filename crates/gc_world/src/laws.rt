@@ -3,7 +3,7 @@
 //! A request's number is its place among the requests sent, counted from 0. A reply in flight has the number of its request.
 //! In the run by ids the client knows requests by ids of one digit; in the run by numbers it is given each reply's number.
 
-ghost use Rattle.gc_world.specs.FirstReply.{BooksFirstReply, FirstReplyIsLate, IsNeverBoth, IsOneOrOther, NoSecondReply};
+ghost use Rattle.gc_world.specs.FirstReply.{BooksFirstReply, FirstReplyIsLate, IsNeverInTimeAndTooLate, IsInTimeOrTooLate, NoSecondReply};
 ghost use Rattle.gc_world.specs.Laws.{KeepsOrder, KeepsRecent, RunsAgree, SettlesInOrder, BooksItsOwn, RepliesAreFine, RecordsExecutions};
 ghost use Rattle.gc_world.specs.declared.direction.Direction.{Direction};
 ghost use Rattle.gc_world.specs.Pieces.{BytesAdd, BytesEnd};
@@ -52,8 +52,8 @@ pub fn executions_are_recorded()
 pub fn first_reply_is_booked()
     ensures in_time { BooksFirstReply }
     ensures late { FirstReplyIsLate }
-    ensures one_or_other { IsOneOrOther }
-    ensures never_both { IsNeverBoth }
+    ensures one_or_other { IsInTimeOrTooLate }
+    ensures never_both { IsNeverInTimeAndTooLate }
     ensures first_alone { NoSecondReply }
 {}
 

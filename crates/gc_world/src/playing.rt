@@ -1,12 +1,9 @@
 //! Playing a list of events on a real client and a real instrument.
 
-ghost use Rattle.std.specs.Prelude.{◌≡◌, ◌≤◌, length, IfOk, IsOk};
-ghost use Rattle.gc_lines.specs.Assembler.{StandsFor};
+ghost use Rattle.std.specs.Prelude.{◌≤◌, length, IfOk, IsOk};
 ghost use Rattle.gc_world.specs.Faithful.{ActsOnce, Faithful};
-ghost use Rattle.gc_world.specs.Clients.{played, streamed};
-ghost use Rattle.gc_world.specs.Memory.{TakeNone};
-ghost use Rattle.gc_world.specs.Streams.{up_lines, down_lines, gone_of};
-ghost use Rattle.gc_world.specs.Reports.{IsReport, IsNoLongerThan};
+ghost use Rattle.gc_world.specs.Memory.{TakeNoMemory};
+ghost use Rattle.gc_world.specs.Reports.{IsReportOf, IsClientOf, IsNoLongerThan, StandsForDown, StandsForUp};
 
 use crate::event::Event;
 use crate::report::Report;
@@ -16,8 +13,8 @@ use gc_client::{Client, WINDOW, Window};
 use gc_instrument::Instrument;
 use std::alloc::{AllocError, Global};
 
-/// Plays the events in order, from a restarted instrument and a new client over this window that lets `width` requests
-/// wait, and hands back what they led to, and the client as the last event leaves it.
+/// Plays the events in order, from a restarted instrument and a new client that lets `width` requests wait in this window.
+/// Returns the report of the run, and the client as the last event leaves it.
 ///
 /// The report is that of the world's run by ids, and it is faithful: the settlements correspond one for one and in order to
 /// the requests sent; each answer that the client booked is a line that the instrument made on executing that very request,
@@ -38,8 +35,8 @@ use std::alloc::{AllocError, Global};
 /// Each end has an assembler before it and gets the lines that come out of it. Each of the two assemblers in the report
 /// holds those bytes of the front line of its direction that have gone over. Where none have, it is as a new one.
 ///
-/// It fails only where memory for a growth was refused; then nothing is handed back. Where none of the events takes memory,
-/// it doesn't fail.
+/// `Err`: memory for a longer list or queue was refused; then nothing is returned. If none of the events takes memory, the
+/// result is `Ok`.
 pub fn play_width<W: Window<Asked = Call>>(
     alloc: Global,
     instrument: Instrument,
@@ -49,13 +46,13 @@ pub fn play_width<W: Window<Asked = Call>>(
 ) -> Result<(Report, Client<W>), AllocError>
     requires least { 1 ≤ width }
     requires most { width ≤ WINDOW }
-    ensures report { IfOk result (λ done. IsReport done.0 (played width instrument events.now).wire) }
-    ensures client { IfOk result (λ done. done.1 ≡ record { width = width; ids = (played width instrument events.now).client }) }
-    ensures up { IfOk result (λ done. StandsFor done.0.up (gone_of (streamed width instrument events.now).up_gone (up_lines (played width instrument events.now).wire))) }
-    ensures down { IfOk result (λ done. StandsFor done.0.down (gone_of (streamed width instrument events.now).down_gone (down_lines (played width instrument events.now).wire))) }
+    ensures report { IfOk result (λ done. IsReportOf width instrument events.now done.0) }
+    ensures client { IfOk result (λ done. IsClientOf width instrument events.now done.1) }
+    ensures up { IfOk result (λ done. StandsForUp width instrument events.now done.0.up) }
+    ensures down { IfOk result (λ done. StandsForDown width instrument events.now done.0.down) }
     ensures faithful { IfOk result (λ done. Faithful width instrument events.now done.0) }
     ensures once { IfOk result (λ done. ActsOnce instrument done.0) }
-    ensures spare { TakeNone width instrument events.now → IsOk result }
+    ensures spare { TakeNoMemory width instrument events.now → IsOk result }
     ensures few { IfOk result (λ done. IsNoLongerThan (length events.now) done.0) }
 {
     let mut stage = Stage::new(alloc, instrument, window, width, count_sends(events));
@@ -73,20 +70,20 @@ fn count_sends(events: &[Event]) -> usize {
         .count()
 }
 
-/// Plays the events as `play_width` does, with a client that lets seven requests wait: the widest window there is.
+/// Plays the events as `play_width` does, with the widest window there is: the client lets seven requests wait.
 pub fn play<W: Window<Asked = Call>>(
     alloc: Global,
     instrument: Instrument,
     window: W,
     events: &[Event],
 ) -> Result<(Report, Client<W>), AllocError>
-    ensures report { IfOk result (λ done. IsReport done.0 (played WINDOW instrument events.now).wire) }
-    ensures client { IfOk result (λ done. done.1 ≡ record { width = WINDOW; ids = (played WINDOW instrument events.now).client }) }
-    ensures up { IfOk result (λ done. StandsFor done.0.up (gone_of (streamed WINDOW instrument events.now).up_gone (up_lines (played WINDOW instrument events.now).wire))) }
-    ensures down { IfOk result (λ done. StandsFor done.0.down (gone_of (streamed WINDOW instrument events.now).down_gone (down_lines (played WINDOW instrument events.now).wire))) }
+    ensures report { IfOk result (λ done. IsReportOf WINDOW instrument events.now done.0) }
+    ensures client { IfOk result (λ done. IsClientOf WINDOW instrument events.now done.1) }
+    ensures up { IfOk result (λ done. StandsForUp WINDOW instrument events.now done.0.up) }
+    ensures down { IfOk result (λ done. StandsForDown WINDOW instrument events.now done.0.down) }
     ensures faithful { IfOk result (λ done. Faithful WINDOW instrument events.now done.0) }
     ensures once { IfOk result (λ done. ActsOnce instrument done.0) }
-    ensures spare { TakeNone WINDOW instrument events.now → IsOk result }
+    ensures spare { TakeNoMemory WINDOW instrument events.now → IsOk result }
     ensures few { IfOk result (λ done. IsNoLongerThan (length events.now) done.0) }
 {
     play_width(alloc, instrument, window, WINDOW as u8, events)

@@ -2,11 +2,9 @@
 
 ghost use Rattle.std.specs.Prelude.{◌≡◌, ◌+◌, ◌<◌, ◌≤◌, ◌^◌, ◌∷◌, ℕ, List, [], Some, OnOk, IsOk, length, map};
 ghost use Rattle.gc_lines.specs.Assembler.{StandsFor};
-ghost use Rattle.gc_lines.specs.Lent.{lent_seen};
 ghost use Rattle.gc_lines.specs.Lines.{with_end};
-ghost use Rattle.gc_lines.specs.declared.frame.Frame.{Frame};
 ghost use Rattle.gc_world.specs.Memory.{IsNoRepeat};
-ghost use Rattle.gc_world.specs.Sides.{Carries, Changes, IsFlow, written};
+ghost use Rattle.gc_world.specs.Sides.{Carries, CarriesMoreThan, Changes, IsFlow, IsLine, KeepsFlow, written};
 ghost use Rattle.gc_world.specs.Streams.{is_begun, remaining};
 ghost use Rattle.gc_world.specs.Worlds.{without, doubled};
 
@@ -20,9 +18,10 @@ use std::alloc::{AllocError, Global};
 /// The lines in flight in one direction. Their bytes are in the report.
 #[derive(Drop)]
 pub struct Side {
+    /// The places of these lines in the report's list, the front line's first.
     pub queue: Queue,
 
-    /// How many bytes of the front line have gone.
+    /// How many bytes of the front line have gone over.
     pub gone: usize,
 
     /// The assembler at the far end.
@@ -54,10 +53,11 @@ impl Side {
         }
     }
 
-    /// Feeds the next `n` bytes of the front line to the assembler. They don't complete the line.
+    /// Feeds the next `n` bytes of the front line to the assembler: fewer than remain, so they don't complete the line. `cut` is
+    /// where the assembler puts the line together.
     pub fn begin(&mut self, direction: Direction, report: &Report, n: usize, cut: &mut Line)
-        requires { (texts : List (List ℕ)) × Carries direction report.now self.old texts × (n < remaining self.old.gone (map with_end texts)) }
-        ensures flow { (texts : List (List ℕ)) → Carries direction report.now self.old texts → IsFlow self.new.assembler self.new.gone texts }
+        requires { CarriesMoreThan direction report.now self.old n }
+        ensures flow { KeepsFlow direction report.now self.old self.new }
         ensures gone { self.new.gone ≡ self.old.gone + n }
         ensures queue { self.new.queue ≡ self.old.queue }
     {
@@ -69,12 +69,13 @@ impl Side {
         self.gone += n;
     }
 
-    /// Feeds what remains of this line, which was taken from the front of the queue, to the assembler: the line comes out.
+    /// Feeds the assembler what remains of this line, which was taken from the front of the queue, and returns the line that the
+    /// assembler completes. `cut` is where the assembler has put together what went before.
     #[inline(always)]
     pub fn finish<'a>(&mut self, line: &'a [u8], cut: &'a mut Line) -> Lent<'a>
         requires flow { (texts : List (List ℕ)) × IsFlow self.old.assembler self.old.gone (line.now ∷ texts) }
         requires within { length line.now ≤ 512 }
-        ensures line { lent_seen result ≡ Frame.Line (record { items = line.now }) }
+        ensures line { IsLine result line.now }
         ensures start { StandsFor self.new.assembler [] }
         ensures gone { self.new.gone ≡ 0 }
         ensures queue { self.new.queue ≡ self.old.queue }
@@ -84,7 +85,8 @@ impl Side {
         frame
     }
 
-    /// Line k is lost. Where there is none, or its first byte has gone, only `idle` grows, by one.
+    /// Takes line k, counted from 0 at the front, out of the queue: it is lost. If there is no line k, or its first byte has gone,
+    /// only `idle` changes: it grows by one.
     pub fn lose(&mut self, k: usize, idle: &mut usize)
         requires { idle.old + 1 < 2 ^ 64 }
         ensures { Changes k (without k self.old.queue) self.old self.new idle.old idle.new }
@@ -98,7 +100,8 @@ impl Side {
         }
     }
 
-    /// Line k comes twice. Where there is none, or its first byte has gone, only `idle` grows, by one. `Err`: memory was refused.
+    /// Puts line k, counted from 0 at the front, in once more, directly after itself. If there is no line k, or its first byte has
+    /// gone, only `idle` changes: it grows by one. `Err`: memory was refused.
     pub fn repeat(&mut self, k: usize, idle: &mut usize) -> Result<(), AllocError>
         requires { idle.old + 1 < 2 ^ 64 }
         ensures changes { OnOk result (Changes k (doubled k self.old.queue) self.old self.new idle.old idle.new) }

@@ -6,8 +6,8 @@ ghost use Rattle.gc_client.specs.Rule.{ById};
 ghost use Rattle.gc_instrument.specs.State.{State, IsFittingState, restarted};
 ghost use Rattle.gc_world.specs.declared.event.Event.{Event};
 ghost use Rattle.gc_world.specs.Directions.{bytes, delivery, gone, lines};
-ghost use Rattle.gc_world.specs.Memory.{IsBusy, TakesNone};
-ghost use Rattle.gc_world.specs.Stages.{begins, Shows, IsShown, Follows, handed};
+ghost use Rattle.gc_world.specs.Memory.{IsBusy};
+ghost use Rattle.gc_world.specs.Stages.{streams_at_start, Shows, IsShown, Follows, FollowsBytes, HasMoreThan, IsSpare};
 ghost use Rattle.gc_world.specs.Streams.{Streams, remaining};
 
 use crate::direction::Direction;
@@ -22,18 +22,22 @@ use gc_instrument::Instrument;
 use gc_lines::{Assembler, Lent, Line};
 use std::alloc::{AllocError, Global};
 
-/// What the events so far leave.
+/// The state of a run after the events so far: the report, both directions of the line, and the client. The instrument is in
+/// the report.
 #[derive(Drop)]
 pub struct Stage<W: Window<Asked = Call>> {
     /// The report so far. Its assemblers are those of the two sides only once all is played.
     pub report: Report,
+    /// The requests in flight.
     pub up: Side,
+    /// The replies in flight.
     pub down: Side,
     pub client: Client<W>,
 
-    /// Two values that all events use, made once because they are large: `cut` is where a line is put together that goes over in
-    /// pieces, and `settled` is what the last reply settled.
+    // Two buffers that all events use, made once because they are large.
+    /// The buffer in which an assembler puts together a line that goes over in pieces.
     pub cut: Line,
+    /// What the last reply settled.
     pub settled: ArrayVec<Settlement<Call>, WINDOW>,
 }
 
@@ -49,7 +53,7 @@ impl<W: Window<Asked = Call>> Stage<W> {
     ) -> Stage<W>
         requires least { 1 ≤ width }
         requires most { width ≤ WINDOW }
-        ensures shows { Shows width result (begins instrument) }
+        ensures shows { Shows width result (streams_at_start instrument) }
         ensures fits { IsFittingState (restarted instrument) }
     {
         instrument.restart();
@@ -74,13 +78,14 @@ impl<W: Window<Asked = Call>> Stage<W> {
         }
     }
 
-    /// Lets one event happen. It fails only where memory for a growth was refused.
+    /// Plays one event: what it does to the line, the two ends and the report. An event that isn't possible is only counted.
+    /// `Err`: memory for a longer list or queue was refused.
     pub fn happen(&mut self, event: &Event) -> Result<(), AllocError>
         requires refused { self.old.report.refused_sends + 1 < 2 ^ 64 }
         requires idle { self.old.report.idle_events + 1 < 2 ^ 64 }
         requires shown { IsShown self.old }
         ensures follows { OnOk result (Follows self.old event.now self.new) }
-        ensures spare { (width : ℕ) (v : Streams (ById Call) State) → Shows width self.old v → TakesNone width v event.now → IsOk result }
+        ensures spare { IsSpare self.old event.now result }
     {
         match *event {
             Event::Send(target, ref call, deadline) => self.send(target, call, deadline)?,
@@ -99,7 +104,7 @@ impl<W: Window<Asked = Call>> Stage<W> {
         Ok(())
     }
 
-    /// The report, with the assemblers of the two sides, and the client.
+    /// Takes the stage apart when all events are played: returns the report, with the assemblers of the two sides, and the client.
     #[inline(always)]
     pub fn ended(self) -> (Report, Client<W>)
         ensures report { result.0 ≡ record self.report { up = self.up.assembler; down = self.down.assembler } }
@@ -132,8 +137,8 @@ impl<W: Window<Asked = Call>> Stage<W> {
         self.report.sent.push_sent(target, call, &self.cut)
     }
 
-    // Hands the front request to the instrument, puts the reply at the back of the downward queue, and notes both in the
-    // report. Where no request is in flight, the event is only counted.
+    // Hands the front request to the instrument, and puts the reply at the back of the downward queue. The report gets the reply,
+    // and the request's number if it was executed. If no request is in flight, the event is only counted.
     #[inline(always)]
     fn up_deliver(&mut self) -> Result<(), AllocError>
         requires idle { self.old.report.idle_events + 1 < 2 ^ 64 }
@@ -162,14 +167,14 @@ impl<W: Window<Asked = Call>> Stage<W> {
         Ok(())
     }
 
-    // Hands the front reply to the client, and puts what it settles into the report. Where no reply is in flight, the event
-    // is only counted.
+    // Hands the front reply to the client, and appends the requests that it settles to the report. If no reply is in flight, the
+    // event is only counted.
     #[inline(always)]
     fn down_deliver(&mut self) -> Result<(), AllocError>
         requires idle { self.old.report.idle_events + 1 < 2 ^ 64 }
         requires shown { IsShown self.old }
         ensures follows { OnOk result (Follows self.old Event.DownDeliver self.new) }
-        ensures spare { (width : ℕ) (v : Streams (ById Call) State) → Shows width self.old v → TakesNone width v Event.DownDeliver → IsOk result }
+        ensures spare { IsSpare self.old Event.DownDeliver result }
     {
         let Some(place) = self.down.queue.take_front() else {
             self.report.idle_events += 1;
@@ -194,7 +199,7 @@ impl<W: Window<Asked = Call>> Stage<W> {
         requires idle { self.old.report.idle_events + 1 < 2 ^ 64 }
         requires shown { IsShown self.old }
         ensures follows { OnOk result (Follows self.old (bytes direction n) self.new) }
-        ensures spare { (width : ℕ) (v : Streams (ById Call) State) → Shows width self.old v → TakesNone width v (bytes direction n) → IsOk result }
+        ensures spare { IsSpare self.old (bytes direction n) result }
     {
         let mut left = n;
         let mut remaining = self.remaining(direction);
@@ -219,7 +224,7 @@ impl<W: Window<Asked = Call>> Stage<W> {
         requires idle { self.old.report.idle_events + 1 < 2 ^ 64 }
         requires shown { IsShown self.old }
         ensures follows { OnOk result (Follows self.old (delivery direction) self.new) }
-        ensures spare { (width : ℕ) (v : Streams (ById Call) State) → Shows width self.old v → TakesNone width v (delivery direction) → IsOk result }
+        ensures spare { IsSpare self.old (delivery direction) result }
     {
         match direction {
             Direction::Up => self.up_deliver(),
@@ -242,8 +247,8 @@ impl<W: Window<Asked = Call>> Stage<W> {
     // complete it.
     fn begin(&mut self, direction: Direction, n: usize)
         requires shown { IsShown self.old }
-        requires some { (width : ℕ) (v : Streams (ById Call) State) → Shows width self.old v → n < remaining (gone direction v) (lines direction v.world.wire) }
-        ensures { (width : ℕ) (v : Streams (ById Call) State) → Shows width self.old v → Shows width self.new (handed width direction v n) }
+        requires some { HasMoreThan self.old direction n }
+        ensures { FollowsBytes self.old direction n self.new }
     {
         match direction {
             Direction::Up => self.up.begin(Direction::Up, &self.report, n, &mut self.cut),

@@ -3,30 +3,22 @@
 
 ghost use Rattle.std.specs.Prelude.{◌≡◌};
 ghost use Rattle.gc_instrument.specs.Numbers.{temperature};
-ghost use Rattle.gc_instrument.specs.Execution.{Gives, Executes, done, told, is_date, commanded, measured, pointed, turned_over, searched};
+ghost use Rattle.gc_instrument.specs.Execution.{Gives, Executes, done, distance_outcome, is_date, commanded, measured, pointed, turned_over, searched};
 
 use super::Instrument;
+use crate::codes::{INVALID_PARAMETER, NO_DISTANCE, NO_TARGET};
 use crate::measurement::{first_at, first_within};
 use crate::pointing::Pointing;
 use gc_catalogue::{Answer, Call, DateTime, Station};
 use gc_values::Decimal;
 
-/// The manual's return code for an invalid parameter.
-const INVALID_PARAMETER: u16 = 2;
-
-/// The return code where angles are known and no distance is.
-const NO_DISTANCE: u16 = 1285;
-
-/// The return code where no target is met.
-const NO_TARGET: u16 = 8710;
-
 impl Instrument {
     ghost use Rattle.gc_catalogue.specs.declared.call.Call.TheVariants.{SetPrecision, SetDate, SetStation, SetHeight, GetAngle, SimpleMea, QuickDist, SetPrism, MeasDistance};
     ghost use Rattle.gc_catalogue.specs.declared.answer.Answer.TheVariants.{Nothing, Name, Place, Angles, Measured, MeasuredMode};
 
-    /// Carries out a call, and gives the return code and the answer, which is `Answer::Nothing`
-    /// where the code isn't 0: 2 for a value that isn't allowed, 1285 where no distance is known,
-    /// 8710 where no target is met. The stored values keep all their places, whatever the precision.
+    /// Carries out a call, and returns the return code and the answer. The code is 0, 2 for a value that
+    /// isn't allowed, 1285 if no distance is known, or 8710 if no target is found; with a code other than
+    /// 0 the answer is `Answer::Nothing`. Values are stored with all their places, whatever the precision.
     pub fn execute(&mut self, call: &Call) -> (u16, Answer)
         ensures { Executes self.old call.now self.new result.0 result.1 }
     {
@@ -35,7 +27,7 @@ impl Instrument {
         (rc, answer)
     }
 
-    // Carries out a call, and gives the return code. An answer other than `Answer::Nothing` is written into `answer`.
+    // Carries out a call, and returns the return code. An answer other than `Answer::Nothing` is written into `answer`.
     #[inline(always)]
     #[tactic(auto, unfolding(crate::specs::Execution::exec))]
     pub(super) fn carry_out(&mut self, call: &Call, answer: &mut Answer) -> u16
@@ -57,7 +49,7 @@ impl Instrument {
                 *answer = Answer::Long(self.serial);
                 0
             }
-            Call::InstrumentName => self.tell_name(answer),
+            Call::InstrumentName => self.answer_name(answer),
             Call::SetDate(date) => self.set_date(*date),
             Call::GetDate => {
                 *answer = Answer::Date(self.settings.date);
@@ -72,7 +64,7 @@ impl Instrument {
                 0
             }
             Call::DoMeasure { command, .. } => self.measure_as(*command),
-            Call::GetStation => self.tell_station(answer),
+            Call::GetStation => self.answer_station(answer),
             Call::SetStation(station) => self.set_station(station),
             Call::GetHeight => {
                 *answer = Answer::Height(self.settings.height);
@@ -102,7 +94,7 @@ impl Instrument {
         }
     }
 
-    // Sets the number of places, 0 to 15. Another number is refused.
+    // Sets the precision, 0 to 15 places. Another number is refused.
     #[tactic(auto, unfolding(crate::specs::Execution::exec))]
     fn set_precision(&mut self, places: i16) -> u16
         ensures { Executes self.old (SetPrecision places) self.new result Nothing }
@@ -115,7 +107,7 @@ impl Instrument {
         }
     }
 
-    // Sets the date and time. Those that the clock doesn't take are refused.
+    // Sets the date and time, if they pass `is_date`. Others are refused.
     #[tactic(auto, unfolding(crate::specs::Execution::exec))]
     #[inline(never)]
     fn set_date(&mut self, date: DateTime) -> u16
@@ -131,7 +123,7 @@ impl Instrument {
 
     // Answers the instrument's name.
     #[inline(never)]
-    fn tell_name(&self, answer: &mut Answer) -> u16
+    fn answer_name(&self, answer: &mut Answer) -> u16
         ensures { Gives (done self.now (Name self.now.name)) self.now result answer.new }
     {
         *answer = Answer::Name(self.name);
@@ -140,7 +132,7 @@ impl Instrument {
 
     // Answers the station's coordinates and the height of the instrument over it.
     #[inline(never)]
-    fn tell_station(&self, answer: &mut Answer) -> u16
+    fn answer_station(&self, answer: &mut Answer) -> u16
         ensures { Gives (done self.now (Place self.now.station)) self.now result answer.new }
     {
         *answer = Answer::Place(self.settings.station);
@@ -166,7 +158,7 @@ impl Instrument {
         0
     }
 
-    // Measures (1), clears the distance (3), or does nothing (0), as commanded. Another command is refused.
+    // Carries out a command of TMC_DoMeasure: 0 does nothing, 1 measures, 3 clears the distance. Another command is refused.
     #[inline(never)]
     fn measure_as(&mut self, command: i32) -> u16
         ensures { Gives (commanded self.old command) self.new result Nothing }
@@ -193,7 +185,7 @@ impl Instrument {
         self.settings.distance = target.map(|target| target.distance);
     }
 
-    // Answers the angles.
+    // Answers the horizontal direction and the vertical angle.
     #[inline(never)]
     fn angles(&self, answer: &mut Answer) -> u16
         ensures { Gives (done self.now (Angles self.now.pointing.hz self.now.pointing.v))
@@ -208,7 +200,7 @@ impl Instrument {
     #[inline(never)]
     fn simple_measurement(&self, answer: &mut Answer) -> u16
         requires { answer.old ≡ Nothing }
-        ensures { Gives (told self.now (λ d. Measured self.now.pointing.hz self.now.pointing.v d)
+        ensures { Gives (distance_outcome self.now (λ d. Measured self.now.pointing.hz self.now.pointing.v d)
             self.now.distance) self.now result answer.new }
     {
         let Some(distance) = self.settings.distance else {
@@ -219,7 +211,7 @@ impl Instrument {
         0
     }
 
-    // Measures, and answers as `simple_measurement` does.
+    // Measures the distance, and answers the angles and the distance. Where no target is met, the code is 1285, without an answer.
     #[tactic(auto, unfolding(crate::specs::Execution::exec))]
     #[inline(never)]
     fn quick_distance(&mut self, answer: &mut Answer) -> u16
@@ -273,7 +265,7 @@ impl Instrument {
         0
     }
 
-    // Turns the telescope over, which clears the distance. The angles stay.
+    // Changes the face, which clears the distance. The angles stay.
     #[inline(never)]
     fn change_face(&mut self) -> u16
         ensures { Gives (done (turned_over self.old) Nothing) self.new result Nothing }
@@ -283,8 +275,8 @@ impl Instrument {
         0
     }
 
-    // Turns the telescope to the first target within the areas, which clears the distance. Where there is none, the code is 8710 and
-    // nothing changes. A negative area is refused.
+    // Turns the telescope to the first target whose angles differ from its own by at most these areas, which clears the distance. If
+    // there is none, the code is 8710 and nothing changes. A negative area is refused.
     #[inline(never)]
     fn fine_adjust(&mut self, area_hz: &Decimal, area_v: &Decimal) -> u16
         ensures { Gives (searched self.old area_hz.now area_v.now) self.new result Nothing }
@@ -311,7 +303,7 @@ fn temperature() -> Decimal
     Decimal::literal(21, 0)
 }
 
-// Whether the clock takes this date and time. Lengths of months aren't looked at.
+// Whether the clock can be set to this date and time: each value is in its range, with 31 days in every month.
 fn is_date(date: &DateTime) -> bool
     ensures { result ≡ is_date date.now }
 {

@@ -1,4 +1,4 @@
-//! What an instrument keeps of the last request that carried an id and was executed.
+//! The stored reply: the id and the reply of the last request that carried an id and was executed.
 
 ghost use Rattle.std.specs.Prelude.{◌≡◌, ◌≤◌, None, IfSome, length};
 ghost use Rattle.std.specs.Option.{option_map};
@@ -10,11 +10,12 @@ use std::marker::Model;
 const ROOM: usize = 512;
 
 /// The id of a request and the line of its reply, or nothing. The line is written in place. Bytes of a longer earlier line
-/// stay after it, because each request would pay for blanking them.
+/// stay after it, since clearing them would cost each request time.
 #[derive(Debug, Drop)]
 pub struct Kept {
     id: Option<u8>,
     bytes: [u8; ROOM],
+    // How many bytes the line has.
     len: usize,
 }
 
@@ -31,7 +32,7 @@ impl Model for Kept {
 }
 
 impl Kept {
-    /// Keeps neither an id nor a line.
+    /// Makes a `Kept` in which nothing is stored.
     pub fn nothing() -> Kept
         ensures { result ≡ None }
     {
@@ -42,7 +43,7 @@ impl Kept {
         }
     }
 
-    /// The id that is kept, if one is.
+    /// The stored id. `None`: nothing is stored.
     #[tactic(auto, using(crate::proofs::Keeping::id_kept))]
     pub fn id(&self) -> Option<u8>
         ensures { result ≡ option_map (λ k. k.id) self.now }
@@ -50,14 +51,14 @@ impl Kept {
         self.id
     }
 
-    /// Forgets the id and the line.
+    /// Discards the id and the line.
     pub fn forget(&mut self)
         ensures { self.new ≡ None }
     {
         self.id = None;
     }
 
-    /// The line that is kept for this id. `None`: there is no id, or none is kept, or another one is.
+    /// The stored line, if it is stored with this id. `None`: `id` is `None`, nothing is stored, or the stored id is another one.
     #[tactic(auto, using(crate::proofs::Keeping::none_asked, crate::proofs::Keeping::none_kept, crate::proofs::Keeping::same_kept, crate::proofs::Keeping::other_kept))]
     #[inline]
     pub fn line_of(&self, id: Option<u8>) -> Option<&[u8]>
@@ -77,7 +78,7 @@ impl Kept {
         }
     }
 
-    /// Keeps a request's id and the line of its reply. Where the request carried no id, nothing changes.
+    /// Stores a request's id and the line of its reply. If the request had no id, nothing changes.
     #[inline]
     pub fn keep(&mut self, id: Option<u8>, line: &[u8])
         requires { length line.now ≤ 512 }

@@ -1,5 +1,5 @@
-//! What the instrument replies to a line: nothing where it is no request, 3081 or 3080 where it names
-//! no call, the kept reply where it carries the kept id, and else what carrying out the call gave.
+//! What the instrument replies to a line: nothing if the line is no request, the communication code 3081 or
+//! 3080 if the request names no call, the stored reply if it has the stored id, and else the call's answer.
 
 ghost use Rattle.std.specs.Prelude.{◌≡◌, ◌<◌, ◌≤◌, ◌+◌, ℕ, Some, length};
 ghost use Rattle.std.specs.Option.{option_map, ForSome};
@@ -8,31 +8,26 @@ ghost use Rattle.gc_lines.specs.Answering.{AppendsAnswer};
 ghost use Rattle.gc_lines.specs.Requests.{request_seen};
 ghost use Rattle.gc_catalogue.specs.Calls.{IsFitting};
 ghost use Rattle.gc_catalogue.specs.Texts.{request_line};
-ghost use Rattle.gc_instrument.specs.Replying.{IsReplied, IsExchanged, AppendsReply, AppendsCall, AppendsExecuted, com_code};
+ghost use Rattle.gc_instrument.specs.Replying.{IsReplied, IsExchanged, AppendsReply, AppendsCall, AppendsExchange, AppendsExecuted, com_code};
 
 use super::Instrument;
+use crate::codes::{UNKNOWN_PROCEDURE, WRONG_PARAMETERS};
 use arrayvec::ArrayVec;
 use gc_catalogue::{Answer, Call, CallFault, decode_call_into, encode_answer_onto};
 use gc_lines::{Line, Request, append, push_reply, read_request};
 
-/// The communication code for a procedure that isn't in the catalogue.
-const UNKNOWN_PROCEDURE: u16 = 3081;
-
-/// The communication code for parameters that can't be read.
-const WRONG_PARAMETERS: u16 = 3080;
-
 impl Instrument {
     ghost use Rattle.gc_catalogue.specs.declared.call.Call.{Call};
 
-    /// The reply to a line, if it is a request.
+    /// The reply to a line. `None`: the line is no request.
     ///
     /// The call is carried out, and its reply has the request's id, or 0, and doubles with the precision that is in force
     /// after the call. A procedure that isn't in the catalogue is answered with the communication code 3081, and parameters
     /// that can't be read with 3080; then nothing changes, as with a line that is no request.
     ///
-    /// The id and the reply of the last request that carried an id and was carried out are kept. A
-    /// request that names a call and carries that id is a repeat of it: it gets the kept line, and
-    /// nothing is carried out. A request without an id is never a repeat, and what is kept stays.
+    /// The id and the reply of the last request that carried an id and was carried out are stored. A
+    /// request that names a call and carries that id is a repeat of it: it gets the stored reply, and
+    /// nothing is carried out. A request without an id is never a repeat, and leaves what is stored.
     #[tactic(auto, using(crate::proofs::Answering::replied_alone, crate::proofs::Answering::exchanged_alone))]
     pub fn on_line(&mut self, line: &Line) -> Option<Line>
         ensures replied { IsReplied self.old line.now.items self.new (option_map (λ r. r.items) result) }
@@ -48,16 +43,14 @@ impl Instrument {
         }
     }
 
-    /// Appends the reply to a line to `out`, if the line is a request, and says whether it is one.
-    /// Else `out` stays as it is. The reply is that of [`Instrument::on_line`].
+    /// Appends the reply to a line to `out`, and returns `true`. If the line is no request, it returns
+    /// `false`, and `out` is unchanged. The reply is that of [`Instrument::on_line`].
     #[inline(always)]
     pub fn reply_onto<const N: usize>(&mut self, line: &[u8], out: &mut ArrayVec<u8, N>) -> bool
         requires { array_vec_len out.old + 512 ≤ N }
         ensures replied { AppendsAnswer (IsReplied self.old line.now self.new) out.old.items out.new.items result }
         ensures bound { length out.new.items ≤ length out.old.items + 512 }
-        ensures exchanged { (id : ℕ) (call : Call) → id < 8 → IsFitting call
-            → line.now ≡ request_line (Some id) call
-            → AppendsAnswer (IsExchanged self.old id call self.new) out.old.items out.new.items result }
+        ensures exchanged { AppendsExchange self.old line.now self.new out.old.items out.new.items result }
     {
         match read_request(line) {
             Ok(request) => {
@@ -68,7 +61,7 @@ impl Instrument {
         }
     }
 
-    // Appends the reply to a request: with the communication code 3081 or 3080 where it names no call, and else that of
+    // Appends the reply to a request: with the communication code 3081 or 3080 if it names no call, and else that of
     // `answer_call`.
     #[inline]
     fn reply_to<const N: usize>(&mut self, request: &Request<'_>, out: &mut ArrayVec<u8, N>)
@@ -84,7 +77,7 @@ impl Instrument {
         }
     }
 
-    // Appends the reply to a call: the kept one to a repeat, and else a new one, which is kept where the request carries an id.
+    // Appends the reply to a call: the stored one to a repeat, and else a new one, which is stored if the request has an id.
     #[inline]
     fn answer_call<const N: usize>(
         &mut self,
@@ -120,7 +113,7 @@ impl Instrument {
     }
 }
 
-// The communication code that says why a request names no call.
+// The communication code for a request that names no call: 3081 if no procedure has its number, 3080 if its parameters can't be read.
 fn com_code(fault: CallFault) -> u16
     ensures { result ≡ com_code fault }
 {

@@ -1,21 +1,24 @@
-//! What calls set in an instrument, and how these settings begin.
+//! The values of an instrument that calls set, and those that it starts with.
 
 use crate::face::Face;
 use crate::pointing::Pointing;
 use gc_catalogue::{DateTime, Station};
 use gc_values::Decimal;
 
-/// The part of an instrument that calls change. Lengths are in metres. `height` is that of the reflector, and `distance` the
-/// slope distance that was measured last, if there is one.
+/// The part of an instrument that calls change. Lengths are in metres, angles in radians.
 #[derive(Clone, Copy, Debug)]
 pub struct Settings {
+    /// The number of places to which doubles are rounded in replies, 0 to 15.
     pub precision: u8,
     pub station: Station,
+    /// The height of the reflector.
     pub height: Decimal,
     pub face: Face,
     pub pointing: Pointing,
+    /// The slope distance that was measured last, unless it was cleared.
     pub distance: Option<Decimal>,
     pub date: DateTime,
+    /// The type of the prism.
     pub prism: i32,
 }
 
@@ -25,7 +28,7 @@ impl Settings {
     ghost use Rattle.gc_instrument.specs.State.{origin, ahead, first_date};
     ghost use Rattle.gc_instrument.specs.declared.face.Face.TheVariants.{Normal};
 
-    /// The settings at the start, with this precision: zeros, the normal face, no distance, and the date 1996-07-25 16:19:47.
+    /// The settings at the start, with this precision: zeros, the normal face, no distance, the date 1996-07-25 16:19:47, prism type 0.
     pub fn opening(precision: u8) -> Settings
         ensures { result ≡ record {
           precision = precision;

@@ -1,6 +1,6 @@
 use Rattle.std.proofs.Common.{◌≡◌, true, false, not, length, ap, ◌∙◌, arith}
 use Rattle.gc_client.specs.Rule.{is_expiring}
-use Rattle.gc_client.proofs.Expiry.{due_done, due_told, not_due_done, not_due_told, is_due, is_not_due, is_given_up}
+use Rattle.gc_client.proofs.Expiry.{due_done, due_listed, not_due_done, not_due_listed, is_due, is_not_due, is_given_up}
 use Rattle.gc_client.proofs.client.Client.expire.Goals as goal
 use Rattle.gc_client.proofs.client.Client.expire.Goals.{then-p-now+then-not-p, else-p-now, else-p-now-via-then-p-now+else-not-p, else-p-now-via-else-p-now}
 
@@ -17,7 +17,7 @@ loop-k-preserved g c =
           let due : is_expiring now p ≡ true = is_due now p w.if-p-now.true (ap not w.if-not-p.true) in
           record {
             done = ap (λ s. pendings s.window) w.self-inside-is ∙ due_done now k ws _ p before.done c.get-p.ensures _ due w.give_up.ensures;
-            told = ap (λ t. t.items) w.targets-is ∙ w.push.ensures.items ∙ due_told now k ws _ p before.done c.get-p.ensures _ before.told due;
+            listed = ap (λ t. t.items) w.targets-is ∙ w.push.ensures.items ∙ due_listed now k ws _ p before.done c.get-p.ensures _ before.listed due;
             count = let len = ap (λ t. length t.items) w.targets-is in omega (arith, len, w.push.ensures.len, before.count);
             next = ap (λ s. s.next) w.self-inside-is ∙ before.next;
             width = ap (λ s. s.width) w.self-inside-is ∙ before.width;
@@ -29,7 +29,7 @@ loop-k-preserved g c =
           ] in
           record {
             done = ap (λ s. pendings s.window) w.self-inside-is ∙ not_due_done now k ws _ p before.done c.get-p.ensures kept;
-            told = ap (λ t. t.items) w.targets-is ∙ not_due_told now k ws _ p before.done c.get-p.ensures _ before.told kept;
+            listed = ap (λ t. t.items) w.targets-is ∙ not_due_listed now k ws _ p before.done c.get-p.ensures _ before.listed kept;
             count = let len = ap (λ t. length t.items) w.targets-is in omega (arith, len, before.count);
             next = ap (λ s. s.next) w.self-inside-is ∙ before.next;
             width = ap (λ s. s.width) w.self-inside-is ∙ before.width;

@@ -9,7 +9,7 @@ invariant-loop-k g l =
     let pendings = g.W.Window.pendings in
     record {
       done : pendings l.self-inside.window ≡ expired_up_to l.now l.k l.fn.self.ids.waiting;
-      told : l.targets.items ≡ expiring l.now (take l.k l.fn.self.ids.waiting);
+      listed : l.targets.items ≡ expiring l.now (take l.k l.fn.self.ids.waiting);
       count : length l.targets.items ≤ l.k;
       next : l.self-inside.next ≡ l.fn.self.ids.next;
       width : l.self-inside.width ≡ l.fn.self.width;

@@ -2,7 +2,7 @@ use Rattle.std.proofs.Common.{◌≡◌, ◌+◌, ◌<◌, true, [], ◌∷◌, 
 use Rattle.std.proofs.lemmas.List.{take_all}
 use Rattle.arrayvec.specs.ArrayVec.{ArrayVec}
 use Rattle.gc_client.specs.declared.settlement.Settlement.{Settlement}
-use Rattle.gc_client.specs.Rule.{Windowed, lost, met, settle, id_settled}
+use Rattle.gc_client.specs.Rule.{Windowed, lost, settled_by_line, settle, id_settled}
 use Rattle.gc_client.specs.Settlements.{AreSettledBy}
 use Rattle.gc_client.proofs.Ends.{settle_is, fewer_left}
 use Rattle.gc_client.proofs.Lists.{left_turn, none_there}
@@ -26,12 +26,12 @@ returns-clause-settled g c =
     let old = c.lose.new.settled.items in
     let places : length old ≡ k + 1 = c.lose.ensures.places ∙ c.make_places.ensures in
     let lt : k < length old = omega (arith, places) in
-    let ruled = map lost (take k ws) ++ met p line ∷ [] in
+    let ruled = map lost (take k ws) ++ settled_by_line p line ∷ [] in
     elim c.match-get_mut.branch [
       | in-Some w ↦
           let s = w.set_replied.new.settlement in
           let all = take_all (k + 1) (set old k s) (omega (arith, places, length-set old k s)) in
-          let are = subst (λ ss. AreSettledBy says ss ruled) all (one_written says old k (map lost (take k ws)) s (met p line) lt c.lose.ensures.settled w.set_replied.ensures) in
+          let are = subst (λ ss. AreSettledBy says ss ruled) all (one_written says old k (map lost (take k ws)) s (settled_by_line p line) lt c.lose.ensures.settled w.set_replied.ensures) in
           let by_rule = subst (λ rs. AreSettledBy says (set old k s) rs)
           (sym (settle_is k line ws p _ (sym c.lose.ensures.left ∙ c.take_first-p.ensures))
           ∙ ap (λ (d : Windowed _). settle k line d.ids.waiting) c.self.view_is) are in

@@ -2,11 +2,11 @@ use Rattle.std.proofs.Common.{◌<◌, inl, inr, sym, subst, arith}
 use Rattle.gc_catalogue.specs.declared.call.Call.{Call}
 use Rattle.gc_client.specs.Rule.{ById}
 use Rattle.gc_scenes.specs.SceneState.{SceneState}
-use Rattle.gc_scene_world.specs.SceneStages.{seen, way, AreStreamsOf}
+use Rattle.gc_scene_world.specs.SceneStages.{seen, world_direction, AreStreamsOf}
 use Rattle.gc_world.specs.Streams.{Streams}
 use Rattle.gc_scene_world.proofs.Handed.{reached, reaches_next, reaches_end, runs_dry, in_flight}
 use Rattle.gc_world.proofs.Handed.{runs_out}
-use Rattle.gc_scene_world.proofs.Shown.{streams_idle_bytes, up_count}
+use Rattle.gc_scene_world.proofs.Shown.{streams_idle_bytes, up_length}
 use Rattle.gc_scene_world.proofs.stage.Stage.bytes.Goals as goal
 use Rattle.gc_scene_world.proofs.stage.Stage.bytes.Goals.{then-n-eq0-via-then-n-eq0, then-n-eq0-via-else-n-eq0+then-remaining-eq0}
 
@@ -15,8 +15,9 @@ returns-then-n-eq0 c =
     let s = seen c.args.self.now in
     let left = c.remaining-remaining in
     elim c.then-n-eq0.branch [
-      | then-n-eq0-via-then-n-eq0 w ↦ λ width v h. streams_idle_bytes width s v h (way c.args.direction) c.args.n left.result (left.ensures width v h) (inl w.if-n-eq0.true)
-      | then-n-eq0-via-else-n-eq0+then-remaining-eq0 w ↦ λ width v h. streams_idle_bytes width s v h (way c.args.direction) c.args.n left.result (left.ensures width v h) (inr w.if-remaining-eq0.true)
+      | then-n-eq0-via-then-n-eq0 w ↦ λ width v h. streams_idle_bytes width s v h (world_direction c.args.direction) c.args.n left.result (left.ensures width v h) (inl w.if-n-eq0.true)
+      | then-n-eq0-via-else-n-eq0+then-remaining-eq0 w ↦ λ width v h.
+          streams_idle_bytes width s v h (world_direction c.args.direction) c.args.n left.result (left.ensures width v h) (inr w.if-remaining-eq0.true)
     ]
 
 pub loop-left-init : goal.loop-left-init
@@ -36,15 +37,15 @@ deliver-requires-clause-executed c =
       at.shows.counts.executed,
       h.counts.executed,
       at.room.executed,
-      up_count width (seen c.loop-left.self) at.now at.shows,
-      up_count width (seen c.args.self.now) v h,
+      up_length width (seen c.loop-left.self) at.now at.shows,
+      up_length width (seen c.args.self.now) v h,
     )
 
 pub deliver-requires-clause-made : goal.deliver-requires-clause-made
 deliver-requires-clause-made c =
     let (width, v, h) = c.requires.shown in
     let at = c.loop-left.invariant.follows width v h in
-    omega (arith, c.requires.room.made, at.shows.counts.made, h.counts.made, at.room.made, up_count width (seen c.loop-left.self) at.now at.shows, up_count width (seen c.args.self.now) v h)
+    omega (arith, c.requires.room.made, at.shows.counts.made, h.counts.made, at.room.made, up_length width (seen c.loop-left.self) at.now at.shows, up_length width (seen c.args.self.now) v h)
 
 pub deliver-requires-clause-idle : goal.deliver-requires-clause-idle
 deliver-requires-clause-idle c =

@@ -18,10 +18,10 @@ returns-then-ways-2 c =
 pub returns-then-ways-3 : goal.returns-then-ways-3
 returns-then-ways-3 c =
     let s = seeing c.args.targets.now c.args.self.now in
-    let x : Executed = record { state = seeing c.args.targets.now c.take_along.new.self; rc = c.take_along.result; answer = c.take_along.new.answer } in
+    let x : Executed = record { state = seeing c.args.targets.now c.take_distance.new.self; rc = c.take_distance.result; answer = c.take_distance.new.answer } in
     rw c.in-SimpleMea.is (record {
-      gives = take_row c.args.ways.now c.args.now s c.in-SimpleMea.wait c.in-SimpleMea.mode x c.if-ways-3.true (c.take_along.ensures.gives c.args.targets.now);
-      same = c.take_along.ensures.same;
+      gives = take_row c.args.ways.now c.args.now s c.in-SimpleMea.wait c.in-SimpleMea.mode x c.if-ways-3.true (c.take_distance.ensures.gives c.args.targets.now);
+      same = c.take_distance.ensures.same;
     })
 
 pub returns-in-None : goal.returns-in-None

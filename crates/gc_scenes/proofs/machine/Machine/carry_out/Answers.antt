@@ -1,7 +1,7 @@
 use Rattle.std.proofs.Common.{rules, ◌∙◌, ℤ, FitsSigned, w32, refl, subst}
 use Rattle.std.proofs.lemmas.Int.{to_z-of_z}
 use Rattle.gc_catalogue.specs.declared.answer.Answer.TheVariants.{MeasuredMode}
-use Rattle.gc_instrument.specs.Execution.{Gives, told, measured}
+use Rattle.gc_instrument.specs.Execution.{Gives, distance_outcome, measured}
 use Rattle.gc_scenes.specs.Machine.{seeing}
 use Rattle.gc_scenes.proofs.Rows.{row_command, row_simple, row_quick_of, row_distance, row_position, row_face, row_adjust}
 use Rattle.gc_scenes.proofs.machine.Machine.carry_out.Goals as goal
@@ -23,7 +23,7 @@ pub returns-in-MeasDistance : goal.returns-in-MeasDistance
 returns-in-MeasDistance c =
     let fits : FitsSigned w32 c.in-MeasDistance.mode = search rules in
     let s = seeing c.args.targets.now c.args.self.now in
-    let h = subst (λ (m : ℤ). Gives (told (measured s) (λ d. MeasuredMode s.pointing.hz s.pointing.v d m) (measured s).distance) (seeing c.args.targets.now c.measured_distance.new.self)
+    let h = subst (λ (m : ℤ). Gives (distance_outcome (measured s) (λ d. MeasuredMode s.pointing.hz s.pointing.v d m) (measured s).distance) (seeing c.args.targets.now c.measured_distance.new.self)
     c.measured_distance.result c.measured_distance.new.answer) (to_z-of_z w32 c.in-MeasDistance.mode fits) c.measured_distance.ensures.gives in
     rw c.in-MeasDistance.is (record { gives = row_distance s c.in-MeasDistance.mode ∙ h; same = c.measured_distance.ensures.same })
 

@@ -3,9 +3,9 @@ use Rattle.gc_catalogue.specs.declared.call.Call.{Call}
 use Rattle.gc_client.specs.Rule.{ById}
 use Rattle.gc_instrument.specs.State.{State}
 use Rattle.gc_world.specs.Directions.{delivery}
-use Rattle.gc_world.specs.Stages.{seen, goes_on, AreStreamsOf}
+use Rattle.gc_world.specs.Stages.{seen, after_event, AreStreamsOf}
 use Rattle.gc_world.specs.Streams.{Streams}
-use Rattle.gc_world.proofs.Handed.{reached, reaches_next, next_spares, reaches_end, runs_dry, under_way, runs_out}
+use Rattle.gc_world.proofs.Handed.{reached, reaches_next, next_spares, reaches_end, runs_dry, bytes_handed, runs_out}
 use Rattle.gc_world.proofs.Shown.{streams_idle_bytes}
 use Rattle.gc_world.proofs.Sparing.{not_both}
 use Rattle.gc_world.proofs.stage.Stage.bytes.Goals as goal
@@ -50,7 +50,7 @@ returns-in_err-deliver-clause-spare g c =
 pub remaining-remaining-requires-in-loop-left : goal.remaining-remaining-requires-in-loop-left
 remaining-remaining-requires-in-loop-left g c =
     let at = c.loop-left.invariant.follows c.requires.shown.0 c.requires.shown.1 c.requires.shown.2 in
-    (c.requires.shown.0, goes_on c.requires.shown.0 at.now (delivery c.args.direction), c.in_ok-deliver.ensures.follows c.requires.shown.0 at.now at.shows)
+    (c.requires.shown.0, after_event c.requires.shown.0 at.now (delivery c.args.direction), c.in_ok-deliver.ensures.follows c.requires.shown.0 at.now at.shows)
 
 pub loop-left-smaller : goal.loop-left-smaller
 loop-left-smaller g c =
@@ -84,7 +84,7 @@ returns-then-left-remaining-clause-follows g c =
     let first = c.remaining-remaining in
     λ width v h.
     let at = c.loop-left.invariant.follows width v h in
-    subst (λ (x : Streams (ById Call) State). AreStreamsOf width u x) (sym (under_way width c.args.direction v c.args.n first.result (first.ensures width v h) c.if-n-eq0.false
+    subst (λ (x : Streams (ById Call) State). AreStreamsOf width u x) (sym (bytes_handed width c.args.direction v c.args.n first.result (first.ensures width v h) c.if-n-eq0.false
     c.if-remaining-eq0.false))
     (reaches_end width c.args.direction t v c.args.n c.loop-left.left at u (c.begin.ensures width at.now at.shows))
 
@@ -94,7 +94,7 @@ returns-else-left-remaining-clause-follows g c =
     let first = c.remaining-remaining in
     λ width v h.
     let at = c.loop-left.invariant.follows width v h in
-    subst (λ (x : Streams (ById Call) State). AreStreamsOf width t x) (sym (under_way width c.args.direction v c.args.n first.result (first.ensures width v h) c.if-n-eq0.false
+    subst (λ (x : Streams (ById Call) State). AreStreamsOf width t x) (sym (bytes_handed width c.args.direction v c.args.n first.result (first.ensures width v h) c.if-n-eq0.false
     c.if-remaining-eq0.false))
     (runs_dry width c.args.direction t v c.args.n c.loop-left.left at
     (sym (c.loop-left.invariant.remaining width at.now at.shows) ∙ runs_out c.completes.result c.loop-left.remaining c.loop-left.left c.completes.ensures

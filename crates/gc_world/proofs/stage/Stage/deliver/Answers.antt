@@ -2,7 +2,7 @@ use Rattle.std.proofs.Common.{sym, subst}
 use Rattle.std.specs.Prelude.{OnOk}
 use Rattle.gc_world.specs.declared.direction.Direction.{Direction}
 use Rattle.gc_world.specs.Directions.{delivery}
-use Rattle.gc_world.specs.Memory.{TakesNone}
+use Rattle.gc_world.specs.Memory.{TakesNoMemory}
 use Rattle.gc_world.specs.Stages.{Follows}
 use Rattle.gc_world.proofs.stage.Stage.deliver.Goals as goal
 
@@ -12,4 +12,4 @@ returns-in-Up-clause-follows g c =
 
 pub returns-in-Down-clause-spare : goal.returns-in-Down-clause-spare
 returns-in-Down-clause-spare g c =
-    λ width v h t. c.down_deliver.ensures.spare width v h (subst (λ (d : Direction). TakesNone width v (delivery d)) c.in-Down.is t)
+    λ width v h t. c.down_deliver.ensures.spare width v h (subst (λ (d : Direction). TakesNoMemory width v (delivery d)) c.in-Down.is t)
