@@ -1,20 +1,20 @@
--- What has happened on a line, with one thing more.
+-- The events on a line, and one more.
 use Rattle.std.proofs.Common.{◌≡◌, ◌⊎◌, inl, inr, ℕ, ◌≤◌, List, [], ◌∷◌, ◌++◌, length, map, Option, Some, None, refl, sym, ◌∙◌, ap, subst}
 use Rattle.std.proofs.lemmas.List.{map-append, append-nil}
 use Rattle.gc_lines.specs.Lines.{IsPlain, with_end}
 use Rattle.gc_links.specs.Acts.{Act, Put, Gave}
 use Rattle.gc_links.specs.declared.link.Moment.{Moment}
-use Rattle.gc_scenes.specs.SceneState.{SceneState, scene_restarted, at}
+use Rattle.gc_scenes.specs.SceneState.{SceneState, scene_restarted, at_moment}
 use Rattle.gc_rehearsal.specs.Carrying.{Lines, Happening, Call, Reaches, Restarts, Passes, Repeats_up, Repeats_down, Loses_up, Loses_down, Loses_front, Does, IsQuiet, Leads, LeadAll, MaySendOut, IsRepeated, acts_of, HasComeTo}
 use Rattle.gc_rehearsal.specs.Queues.{texts, MayAddLine, MayRepeat, Answers}
 use Rattle.gc_rehearsal.specs.declared.flight.Flight.{Flight}
 
--- where `hs` lead from `l` to `m`, and one thing more from `m` to `n`, all of it leads from `l` to `n`
+-- where the events `hs` lead from `l` to `m`, and one more leads from `m` to `n`, all of them lead from `l` to `n`
 lead_on : (hs : List Happening) (h : Happening) (l m n : Lines) → LeadAll l hs m → Leads m h n → LeadAll l (hs ++ h ∷ []) n
 lead_on [] h l m n all one = (n, subst (λ x. Leads x h n) all one, refl)
 lead_on (g ∷ hs) h l m n all one = (all.0, all.1, lead_on hs h all.0 m n all.2 one)
 
--- the acts of what happens, and of one thing more
+-- the acts of events and one more are those of the events, and then that of the last, if it is an act
 acts_on : (hs : List Happening) (h : Happening) → acts_of (hs ++ h ∷ []) ≡ acts_of hs ++ acts_of (h ∷ [])
 acts_on [] h = refl
 acts_on (Call act ∷ hs) h = ap (λ l. act ∷ l) (acts_on hs h)
@@ -27,11 +27,11 @@ acts_on (Loses_up ∷ hs) h = acts_on hs h
 acts_on (Loses_down ∷ hs) h = acts_on hs h
 acts_on (Loses_front ∷ hs) h = acts_on hs h
 
--- these lines, this way and that, and this instrument
+-- these lines in flight, up and down, and the instrument in this state
 abbrev pub lines : List (List ℕ) → List (List ℕ) → SceneState → Lines
 lines up down state = record { up = up; down = down; state = state }
 
--- one thing more has happened, and the acts are those before and its own
+-- with one more event, the acts are those before and then that of the event, if it is an act
 one_more_happened : (acts : List Act) (h : Happening) (l m : Lines) → HasComeTo acts l → Leads l h m → HasComeTo (acts ++ acts_of (h ∷ [])) m
 one_more_happened acts h l m c one = record {
   start = c.start;
@@ -41,33 +41,33 @@ one_more_happened acts h l m c one = record {
   leads = lead_on c.happened h (lines [] [] c.start) l m c.leads one;
 }
 
--- one thing more has happened, which is no act, so that the acts are the same
+-- with one more event that is no act, the acts are the same
 one_more_unseen : (acts : List Act) (h : Happening) (l m : Lines) → acts_of (h ∷ []) ≡ [] → HasComeTo acts l → Leads l h m → HasComeTo acts m
 one_more_unseen acts h l m none c one = subst (λ x. HasComeTo x m) (ap (λ x. acts ++ x) none ∙ append-nil acts) (one_more_happened acts h l m c one)
 
--- nothing has happened
+-- before any event there are no acts, and no lines are in flight
 pub nothing_happened : (state : SceneState) → state.base.kept ≡ None → HasComeTo [] (lines [] [] state)
 nothing_happened state none = record { start = state; happened = []; none = none; acts_are = refl; leads = refl }
 
--- a quiet act does nothing
+-- a quiet act leaves the lines as they are
 quiet_does : (act : Act) (l : Lines) → IsQuiet act → Does l act l
 quiet_does (Put bytes) l q = absurd q
 quiet_does (Gave bytes moment) l q = absurd q
 quiet_does act l q = refl
 
--- a quiet act was made
+-- with one more quiet act, the lines are the same
 pub noted : (acts : List Act) (act : Act) (l : Lines) → IsQuiet act → HasComeTo acts l → HasComeTo (acts ++ act ∷ []) l
 noted acts act l q c = one_more_happened acts (Call act) l l c (quiet_does act l q)
 
--- bytes were put that don't arrive
+-- with one more write whose bytes don't arrive, the lines are the same
 pub put_lost : (acts : List Act) (bytes : List ℕ) (l : Lines) → HasComeTo acts l → HasComeTo (acts ++ Put bytes ∷ []) l
 put_lost acts bytes l c = one_more_happened acts (Call (Put bytes)) l l c (inl refl)
 
--- the lines of a queue with one more behind
+-- the lines of a queue with one more at its back are those of the queue, and then that one
 pub texts_on : (flights : List Flight) (flight : Flight) → texts (flights ++ flight ∷ []) ≡ texts flights ++ flight.line.items ∷ []
 texts_on flights flight = map-append (λ (f : Flight). f.line.items) flights (flight ∷ [])
 
--- bytes were put that may arrive
+-- with one more write, whose bytes are lost or are a line at the back of the queue up, the acts are still those of a line
 pub put_may : (acts : List Act) (bytes : List ℕ) (up up' : List Flight) (down : List (List ℕ)) (state : SceneState) → MayAddLine up bytes up'
     → HasComeTo acts (lines (texts up) down state) → HasComeTo (acts ++ Put bytes ∷ []) (lines (texts up') down state)
 put_may acts bytes up up' down state (inl same) c =
@@ -77,36 +77,36 @@ put_may acts bytes up up' down state (inr x) c =
     let new = ap texts x.2 ∙ texts_on up x.0 in
     one_more_happened acts (Call (Put bytes)) l (lines (texts up') down state) c (inr (x.0.line.items, x.1, ap (λ q. lines q down state) new))
 
--- the request that set out last may come twice
+-- where the last request may come twice, the acts are still those of a line
 pub repeats_up : (acts : List Act) (up up' : List Flight) (down : List (List ℕ)) (state : SceneState) → MayRepeat up up'
     → HasComeTo acts (lines (texts up) down state) → HasComeTo acts (lines (texts up') down state)
 repeats_up acts up up' down state (inl same) c = subst (λ x. HasComeTo acts (lines (texts x) down state)) (sym same) c
 repeats_up acts up up' down state (inr x) c = one_more_unseen acts Repeats_up (lines (texts up) down state) (lines (texts up') down state) refl c (texts up', x, refl)
 
--- the reply that set out last may come twice
+-- where the last reply may come twice, the acts are still those of a line
 pub repeats_down : (acts : List Act) (up : List (List ℕ)) (down down' : List Flight) (state : SceneState) → MayRepeat down down'
     → HasComeTo acts (lines up (texts down) state) → HasComeTo acts (lines up (texts down') state)
 repeats_down acts up down down' state (inl same) c = subst (λ x. HasComeTo acts (lines up (texts x) state)) (sym same) c
 repeats_down acts up down down' state (inr x) c = one_more_unseen acts Repeats_down (lines up (texts down) state) (lines up (texts down') state) refl c (texts down', x, refl)
 
--- all requests are lost
+-- where all requests are lost, the acts are still those of a line
 pub loses_up : (acts : List Act) (up up' : List (List ℕ)) (down : List (List ℕ)) (state : SceneState) → up' ≡ [] → HasComeTo acts (lines up down state) → HasComeTo acts (lines up' down state)
 loses_up acts up up' down state none c = one_more_unseen acts Loses_up (lines up down state) (lines up' down state) refl c (ap (λ q. lines q down state) none)
 
--- all replies are lost
+-- where all replies are lost, the acts are still those of a line
 pub loses_down : (acts : List Act) (up down down' : List (List ℕ)) (state : SceneState) → down' ≡ [] → HasComeTo acts (lines up down state) → HasComeTo acts (lines up down' state)
 loses_down acts up down down' state none c = one_more_unseen acts Loses_down (lines up down state) (lines up down' state) refl c (ap (λ q. lines up q state) none)
 
--- the instrument starts anew
+-- where the instrument restarts, the acts are still those of a line
 pub restarts : (acts : List Act) (up down : List (List ℕ)) (state state' : SceneState) → state' ≡ scene_restarted state → HasComeTo acts (lines up down state) → HasComeTo acts (lines up down state')
 restarts acts up down state state' is c = one_more_unseen acts Restarts (lines up down state) (lines up down state') refl c (ap (λ s. lines up down s) is)
 
--- the instrument's clock comes to a moment
-pub passes : (acts : List Act) (moment : ℕ) (up down : List (List ℕ)) (state state' : SceneState) → state' ≡ at moment state
+-- where the instrument's clock is set to a moment, the acts are still those of a line
+pub passes : (acts : List Act) (moment : ℕ) (up down : List (List ℕ)) (state state' : SceneState) → state' ≡ at_moment moment state
     → HasComeTo acts (lines up down state) → HasComeTo acts (lines up down state')
 passes acts moment up down state state' is c = one_more_unseen acts (Passes moment) (lines up down state) (lines up down state') refl c (ap (λ s. lines up down s) is)
 
--- a request may be handed to the instrument
+-- where the request in front is handed to the instrument, or nothing changes, the acts are still those of a line
 pub reaches : (acts : List Act) (up down up' down' : List Flight) (state state' : SceneState) → Answers state up down state' up' down'
     → HasComeTo acts (lines (texts up) (texts down) state) → HasComeTo acts (lines (texts up') (texts down') state')
 reaches acts up down up' down' state state' (inl same) c =
@@ -116,13 +116,13 @@ reaches acts up down up' down' state state' (inr x) c =
     one_more_unseen acts Reaches (lines (texts up) (texts down) state) (lines (texts up') (texts down') state') refl c
     (record { line = x.0.line.items; reply = x.2.reply; front = ap texts x.1; played = x.2.played; sends = x.2.sends })
 
--- the reply in front is lost
+-- where the reply in front is lost, the acts are still those of a line
 pub loses_front : (acts : List Act) (up : List (List ℕ)) (down down' : List Flight) (flight : Flight) (state : SceneState) → down ≡ flight ∷ down'
     → HasComeTo acts (lines up (texts down) state) → HasComeTo acts (lines up (texts down') state)
 loses_front acts up down down' flight state front c =
     one_more_unseen acts Loses_front (lines up (texts down) state) (lines up (texts down') state) refl c (flight.line.items, ap texts front, refl)
 
--- the reply in front was read
+-- with one more read, which gave the reply in front whole, the acts are still those of a line
 pub gives : (acts : List Act) (bytes : List ℕ) (moment : Moment) (up : List (List ℕ)) (down down' : List Flight) (flight : Flight) (state : SceneState) → down ≡ flight ∷ down'
     → bytes ≡ with_end flight.line.items → HasComeTo acts (lines up (texts down) state) → HasComeTo (acts ++ Gave bytes moment ∷ []) (lines up (texts down') state)
 gives acts bytes moment up down down' flight state front is c =

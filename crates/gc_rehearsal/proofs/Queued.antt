@@ -21,7 +21,7 @@ last_of flights last some is =
     let all : suc n ≡ length flights = omega (arith, some) in
     sym (take-length flights) ∙ ap (λ k. take k flights) (sym all) ∙ take-suc flights n last (omega (arith, some)) ∙ ap (λ x. take n flights ++ x ∷ []) (sym is)
 
--- the last line of a queue may come twice
+-- where a copy of the last line of a queue may have been put at its back, the queue is the same, or has its last line twice
 pub repeated : (old new : List Flight) (last again : Flight) → 0 < length old → last ≡ get_or old (length old - 1) last → again.line.items ≡ last.line.items → MayAdd old again new
     → MayRepeat old new
 repeated old new last again some is same (inl none) = inl none

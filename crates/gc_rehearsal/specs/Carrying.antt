@@ -1,46 +1,48 @@
 -- What happens on a line that keeps order, this project's own: requests up to an instrument and replies down from it, each the line
--- without its CR LF. Each line arrives whole or not at all, and behind those that set out before it; where one comes twice, it
--- comes directly behind itself.
+-- without its CR LF. Each line arrives whole or not at all, and after those that were sent before it; one that comes twice comes
+-- the second time directly after the first.
 use Rattle.std.specs.Prelude.{◌≡◌, ◌⊎◌, ℕ, ◌≤◌, List, [], ◌∷◌, ◌++◌, length, Option, Some, None}
 use Rattle.gc_lines.specs.Lines.{IsPlain, with_end}
 use Rattle.gc_links.specs.Acts.{Act, Told, Untold, Put, Cut, Gave, Silent, Ended, Broke, Closed, Opened, Unopened}
 use Rattle.gc_scenes.specs.SceneReplying.{IsPlayed}
-use Rattle.gc_scenes.specs.SceneState.{SceneState, scene_restarted, at}
+use Rattle.gc_scenes.specs.SceneState.{SceneState, scene_restarted, at_moment}
 
--- the lines under way, the one that set out first in front, and the instrument
+-- the lines in flight up and down, the one that was sent first in front, and the instrument
 pub record Lines : Type 0 where
   pub up : List (List ℕ)
   pub down : List (List ℕ)
   pub state : SceneState
 
--- one thing that happens
+-- one event on a line
 pub data Happening : Type 0 where
-  -- a call of the link came to this
+  -- a call of the link, with its result
   Call : (act : Act) → Happening
-  -- the request in front is handed to the instrument; its reply, if there is one, sets out or is lost
+  -- the request in front is handed to the instrument; its reply, if there is one, is sent or lost
   Reaches : Happening
   -- the instrument restarts
   Restarts : Happening
-  -- the instrument's clock comes to this moment
+  -- the instrument's clock is set to this moment
   Passes : (moment : ℕ) → Happening
-  -- the line that set out last comes twice: a request, or a reply
+  -- the request (`Repeats_up`) or the reply (`Repeats_down`) that was sent last comes twice
   Repeats_up : Happening
   Repeats_down : Happening
-  -- all requests under way are lost, or all replies
+  -- all requests in flight (`Loses_up`), or all replies in flight (`Loses_down`), are lost
   Loses_up : Happening
   Loses_down : Happening
   -- the reply in front is lost
   Loses_front : Happening
 
--- bytes were put: nothing of them arrives, or they are a line with its CR LF, which sets out
+-- a write of these bytes leads from the lines `l` to the lines `m`: nothing of them arrives, or they are a line with its CR LF, which is
+-- sent up
 abbrev pub IsPut : Lines → List ℕ → Lines → Type 0
 IsPut l bytes m = (m ≡ l) ⊎ ((line : List ℕ) × (bytes ≡ with_end line) × (m ≡ record l { up = l.up ++ line ∷ [] }))
 
--- bytes were given: they are the reply in front, whole
+-- a read of these bytes leads from the lines `l` to the lines `m`: they are the reply in front, whole, with its CR LF
 abbrev pub IsGiven : Lines → List ℕ → Lines → Type 0
 IsGiven l bytes m = (line : List ℕ) × (rest : List (List ℕ)) × (l.down ≡ line ∷ rest) × (bytes ≡ with_end line) × (m ≡ record l { down = rest })
 
--- what an act of the link does to the lines: a put and a given piece as above, and any other act nothing
+-- an act of the link leads from the lines `l` to the lines `m`: a whole write by `IsPut`, a read of bytes by `IsGiven`, and any other act
+-- changes nothing
 abbrev pub Does : Lines → Act → Lines → Type 0
 Does l (Put bytes) m = IsPut l bytes m
 Does l (Gave bytes moment) m = IsGiven l bytes m
@@ -54,7 +56,7 @@ Does l Closed m = m ≡ l
 Does l Opened m = m ≡ l
 Does l Unopened m = m ≡ l
 
--- an act that changes nothing on the line: no bytes were put whole, and none were given
+-- an act that changes nothing on the line: neither a whole write nor a read of bytes
 abbrev pub IsQuiet : Act → Type 0
 IsQuiet (Put bytes) = ⊥
 IsQuiet (Gave bytes moment) = ⊥
@@ -68,13 +70,13 @@ IsQuiet Closed = Unit {0}
 IsQuiet Opened = Unit {0}
 IsQuiet Unopened = Unit {0}
 
--- the replies under way, once the instrument gave `reply`, or none: as before, or with the reply at the back, if it is one line of
--- at most 512 bytes
+-- the replies in flight after the instrument made `reply` (`None`: it made none) are `new`: as before, or with the reply at the back, if
+-- it is one line of at most 512 bytes
 abbrev pub MaySendOut : List (List ℕ) → Option (List ℕ) → List (List ℕ) → Type 0
 MaySendOut down None new = new ≡ down
 MaySendOut down (Some line) new = (new ≡ down) ⊎ (IsPlain line × (length line ≤ 512) × (new ≡ down ++ line ∷ []))
 
--- the request in front reached the instrument, which did with it what it does with such a line
+-- the request in front reached the instrument, which executed it; the reply, if it made one, was sent or lost
 pub record HasReached (l m : Lines) : Type 0 where
   pub line : List ℕ
   pub reply : Option (List ℕ)
@@ -82,28 +84,28 @@ pub record HasReached (l m : Lines) : Type 0 where
   pub played : IsPlayed l.state line m.state reply
   pub sends : MaySendOut l.down reply m.down
 
--- the same lines with the last one twice
+-- `new` are the same lines, with the last one twice
 abbrev pub IsRepeated : List (List ℕ) → List (List ℕ) → Type 0
 IsRepeated lines new = (front : List (List ℕ)) × (line : List ℕ) × (lines ≡ front ++ line ∷ []) × (new ≡ lines ++ line ∷ [])
 
--- what happens leads from the lines `l` to the lines `m`
+-- an event leads from the lines `l` to the lines `m`
 abbrev pub Leads : Lines → Happening → Lines → Type 0
 Leads l (Call act) m = Does l act m
 Leads l Reaches m = HasReached l m
 Leads l Restarts m = m ≡ record l { state = scene_restarted l.state }
-Leads l (Passes moment) m = m ≡ record l { state = at moment l.state }
+Leads l (Passes moment) m = m ≡ record l { state = at_moment moment l.state }
 Leads l Repeats_up m = (up : List (List ℕ)) × IsRepeated l.up up × (m ≡ record l { up = up })
 Leads l Repeats_down m = (down : List (List ℕ)) × IsRepeated l.down down × (m ≡ record l { down = down })
 Leads l Loses_up m = m ≡ record l { up = [] }
 Leads l Loses_down m = m ≡ record l { down = [] }
 Leads l Loses_front m = (line : List ℕ) × (l.down ≡ line ∷ m.down) × (m ≡ record l { down = m.down })
 
--- all of these happen, in order
+-- these events, in order, lead from the first lines to the last
 abbrev pub LeadAll : Lines → List Happening → Lines → Type 0
 LeadAll l [] m = m ≡ l
 LeadAll l (h ∷ hs) m = (n : Lines) × Leads l h n × LeadAll n hs m
 
--- the acts among what happens
+-- the acts of the link among these events
 abbrev pub acts_of : List Happening → List Act
 acts_of [] = []
 acts_of (Call act ∷ hs) = act ∷ acts_of hs
@@ -116,8 +118,8 @@ acts_of (Loses_up ∷ hs) = acts_of hs
 acts_of (Loses_down ∷ hs) = acts_of hs
 acts_of (Loses_front ∷ hs) = acts_of hs
 
--- these acts are those of a line on which nothing was under way at first, and whose instrument kept no reply; it has now come to
--- these lines
+-- these acts are those of a line that keeps order, on which nothing was in flight at first, and whose instrument stored no reply then; it
+-- has now come to these lines
 pub record HasComeTo (acts : List Act) (lines : Lines) : Type 0 where
   pub start : SceneState
   pub happened : List Happening
@@ -125,6 +127,6 @@ pub record HasComeTo (acts : List Act) (lines : Lines) : Type 0 where
   pub acts_are : acts_of happened ≡ acts
   pub leads : LeadAll (record { up = []; down = []; state = start }) happened lines
 
--- these acts are those of such a line
+-- these acts are those of a line that keeps order, whatever lines it has now come to (`HasComeTo`)
 abbrev pub IsOfLine : List Act → Type 0
 IsOfLine acts = (lines : Lines) × HasComeTo acts lines

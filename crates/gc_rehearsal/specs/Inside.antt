@@ -1,4 +1,4 @@
--- No part of a promise: what the fields of the carried lines are to contracts.
+-- Not cited by theorems: how contracts see the fields of `Carried`.
 use Rattle.std.specs.Prelude.{List}
 use Rattle.gc_links.specs.Acts.{Act}
 use Rattle.gc_rehearsal.specs.Carrying.{Lines, HasComeTo}
@@ -9,10 +9,10 @@ use Rattle.gc_rehearsal.specs.declared.carried.Carried.TheInside.{Inside}
 abbrev pub acts_in : Inside → List Act
 acts_in c = c.history.acts
 
--- the lines under way, and the instrument
+-- the lines in flight, and the instrument
 abbrev pub lines_in : Inside → Lines
 lines_in c = record { up = texts c.up.items; down = texts c.down.items; state = c.instrument }
 
--- the acts led to these lines
+-- the acts so far have led to the lines that are in flight now (`HasComeTo`)
 abbrev pub KeepsToLine : Inside → Type 0
 KeepsToLine c = HasComeTo c.history.acts (lines_in c)

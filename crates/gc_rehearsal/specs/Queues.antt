@@ -1,4 +1,4 @@
--- No part of a promise: what the functions of a queue do to the lines in it, the one that set out first in front.
+-- Not cited by theorems: what the functions of a queue do to the lines in it, the one that was sent first in front.
 use Rattle.std.specs.Prelude.{◌≡◌, ◌⊎◌, ℕ, ◌≤◌, List, [], ◌∷◌, ◌++◌, length, map, Option, Some, None}
 use Rattle.gc_lines.specs.Lines.{IsPlain, with_end}
 use Rattle.gc_scenes.specs.SceneReplying.{IsPlayed}
@@ -22,11 +22,12 @@ MayAddLine old bytes new = (new ≡ old) ⊎ ((flight : Flight) × (bytes ≡ wi
 abbrev pub MayRepeat : List Flight → List Flight → Type 0
 MayRepeat old new = (new ≡ old) ⊎ IsRepeated (texts old) (texts new)
 
--- the queue is the same, or has this reply at its back, if it is one line of at most 512 bytes
+-- the lines of the queue are the same, or have this reply at their back, if it is one line of at most 512 bytes
 abbrev pub Sends : List Flight → List ℕ → List Flight → Type 0
 Sends old reply new = MaySendOut (texts old) (Some reply) (texts new)
 
--- this request was handed to the instrument. Its reply, if there is one, is at the back of the queue down, or lost
+-- this request was handed to the instrument, whose state was `state` and is now `state'`. Its reply, if there is one, was put at the back
+-- of the replies in flight, which were `down` and are now `down'`, or is lost
 pub record Handed (request : Flight) (state : SceneState) (down : List Flight) (state' : SceneState) (down' : List Flight) : Type 0 where
   pub reply : Option (List ℕ)
   pub played : IsPlayed state request.line.items state' reply

@@ -1,4 +1,4 @@
-//! What a line carries: the lines under way, and the instrument at its end. Each method is one thing that happens on the line.
+//! What the line of a rehearsal carries: the lines in flight, and the instrument at its end. Each method is one event on the line.
 
 ghost use Rattle.std.specs.Prelude.{◌≡◌, ◌≤◌, ◌+◌, [], ◌∷◌, ◌++◌, List, length, take, IfSome, MatchOption};
 ghost use Rattle.gc_links.specs.Acts.{Act, Put, Gave};
@@ -7,23 +7,23 @@ ghost use Rattle.gc_rehearsal.specs.Carrying.{IsOfLine, IsQuiet};
 ghost use Rattle.gc_rehearsal.specs.Queues.{Answers, Sends};
 
 use crate::flight::{
-    Flight, Origin, add, add_request, copied, due, repeat_last, room_of, write_into,
+    Flight, Origin, add, add_request, bytes_with_end, copied, due, repeat_last, write_into,
 };
-use gc_lines::{Line, is_plain};
+use gc_lines::{Line, is_plain, read_request};
 use gc_links::{History, Moment, Note};
 use gc_scenes::SceneInstrument;
 use std::alloc::Global;
 use std::collections::VecDeque;
 use std::marker::Model;
 
-/// The requests and the replies under way, the one that set out first in front, and the instrument. Contracts see it as the acts of
-/// its link: what its calls came to, in order.
+/// The requests and the replies in flight, the one that was sent first in front, and the instrument. Contracts see this value as the acts
+/// of the link so far: the results of its calls, in order.
 #[derive(Drop)]
 pub(crate) struct Carried {
     instrument: SceneInstrument,
     up: VecDeque<Flight>,
     down: VecDeque<Flight>,
-    // The line that the instrument made last, and the request on which it did. No line where it keeps none.
+    // The last reply that the instrument stored, empty if it has stored none since its restart, and the request that it answered.
     made: Line,
     origin: Origin,
     history: History,
@@ -46,7 +46,7 @@ impl Model for Carried {
 }
 
 impl Carried {
-    /// Nothing is under way, and the instrument is restarted.
+    /// A line with nothing in flight and no acts, at whose end this instrument is, restarted.
     pub fn new(alloc: Global, mut instrument: SceneInstrument) -> Carried
         ensures { result ≡ [] }
     {
@@ -65,25 +65,25 @@ impl Carried {
         }
     }
 
-    /// The acts are those of a line.
+    /// The acts so far are those of a line that keeps order and loses lines whole (`IsOfLine`). A theorem, without effect.
     pub fn is_of_line(&self)
         ensures { IsOfLine self.now }
     {
-        // Something of it has to be read for its invariant to be known.
+        // The invariant of `Carried` is known once one of its fields is read.
         let _ = &self.history;
     }
 
-    /// When the request in front arrives.
+    /// When the next request arrives. `None`: no request is in flight.
     pub fn request_due(&self) -> Option<u64> {
         due(&self.up)
     }
 
-    /// When the reply in front arrives.
+    /// When the next reply arrives. `None`: no reply is in flight.
     pub fn reply_due(&self) -> Option<u64> {
         due(&self.down)
     }
 
-    /// A call of the link came to this. It changes nothing on the line.
+    /// Adds an act that changes nothing on the line: the result of a call that neither wrote a whole request nor read a reply.
     pub fn note(&mut self, note: &Note<'_>)
         requires { IsQuiet (act_of note.now) }
         ensures { self.new ≡ self.old ++ act_of note.now ∷ [] }
@@ -91,14 +91,15 @@ impl Carried {
         self.history = self.history.then(note);
     }
 
-    /// These bytes were put, and nothing of them arrives: they are lost, or no line.
+    /// Adds the act of a write of these bytes, of which nothing arrives: they are lost, or aren't a line.
     pub fn put_nothing(&mut self, bytes: &[u8])
         ensures { self.new ≡ self.old ++ Put bytes.now ∷ [] }
     {
         self.history = self.history.then(&Note::Put(bytes));
     }
 
-    /// These bytes were put: a request, if they are a line, of this number, at the moment `sent`, which arrives at the moment `arrives`.
+    /// Adds the act of a write of these bytes at the moment `sent`. If they are a line with its CR LF, it is the request with the number
+    /// `request`, and arrives at the moment `arrives`, unless memory is refused for it.
     pub fn put(&mut self, bytes: &[u8], arrives: u64, request: u64, sent: u64)
         ensures { self.new ≡ self.old ++ Put bytes.now ∷ [] }
     {
@@ -106,35 +107,35 @@ impl Carried {
         self.history = self.history.then(&Note::Put(bytes));
     }
 
-    /// The request that set out last arrives once more, directly behind itself.
+    /// Lets the request that was sent last arrive twice, the second time directly after the first.
     pub fn repeat_request(&mut self)
         ensures { self.new ≡ self.old }
     {
         repeat_last(&mut self.up);
     }
 
-    /// The reply that set out last arrives once more, directly behind itself.
+    /// Lets the reply that was sent last arrive twice, the second time directly after the first.
     pub fn repeat_reply(&mut self)
         ensures { self.new ≡ self.old }
     {
         repeat_last(&mut self.down);
     }
 
-    /// All requests under way are lost.
+    /// Drops all requests in flight.
     pub fn lose_requests(&mut self)
         ensures { self.new ≡ self.old }
     {
         self.up.clear();
     }
 
-    /// All replies under way are lost.
+    /// Drops all replies in flight.
     pub fn lose_replies(&mut self)
         ensures { self.new ≡ self.old }
     {
         self.down.clear();
     }
 
-    /// The instrument restarts.
+    /// Restarts the instrument.
     pub fn restart(&mut self)
         ensures { self.new ≡ self.old }
     {
@@ -142,15 +143,15 @@ impl Carried {
         self.made = Line::new();
     }
 
-    /// The instrument's clock goes on to this moment, in milliseconds since the line was made.
+    /// Lets time pass at the instrument: sets its clock to this moment, in milliseconds since the line was made.
     pub fn pass(&mut self, moment: u64)
         ensures { self.new ≡ self.old }
     {
-        self.instrument.at(moment);
+        self.instrument.set_moment(moment);
     }
 
-    /// The request in front is handed to the instrument. Its reply, if there is one, sets out where it isn't lost. Returns whether
-    /// there is one.
+    /// Hands the next request to the instrument. Its reply, if it makes one, is sent and arrives at the moment `arrives`, unless `lost`.
+    /// Returns whether it made a reply; `false` if no request is in flight.
     pub fn reach(&mut self, lost: bool, arrives: u64) -> bool
         ensures { self.new ≡ self.old }
     {
@@ -165,15 +166,15 @@ impl Carried {
         )
     }
 
-    /// The reply in front is read, whole and with its CR LF, into the front of `buf`, at this moment. `None`: there is none, or
-    /// `buf` has no room for it, and it is lost.
+    /// Reads the next reply, whole and with its CR LF, into the front of `buf`, at this moment, and returns it. `None`: no reply is in
+    /// flight, or `buf` has no room for it, and it is lost.
     pub fn give(&mut self, buf: &mut [u8], moment: Moment) -> Option<Flight>
         ensures gave { MatchOption result (self.new ≡ self.old)
             (λ flight. self.new ≡ self.old ++ Gave (take (length flight.line.items + 2) buf.new) moment ∷ []) }
         ensures within { IfSome result (λ flight. length flight.line.items + 2 ≤ length buf.new) }
     {
         let flight = self.down.pop_front()?;
-        let n = room_of(&flight.line);
+        let n = bytes_with_end(&flight.line);
         if buf.len() < n {
             return None;
         }
@@ -183,8 +184,9 @@ impl Carried {
     }
 }
 
-// Hands the request in front to the instrument. Its reply, if there is one, goes to the back of the queue down, where it isn't lost.
-// Returns whether there is one.
+// Hands the first request of the queue `up` to the instrument. Its reply, if it makes one, goes to the back of the queue `down`, and
+// arrives at the moment `arrives`, unless `lost`. `made` and `origin` are the stored reply and its request (`note_origin`). Returns whether
+// the instrument made a reply; `false` if `up` is empty.
 fn answer(
     instrument: &mut SceneInstrument,
     up: &mut VecDeque<Flight>,
@@ -199,24 +201,58 @@ fn answer(
     let Some(request) = up.pop_front() else {
         return false;
     };
+    let id = id_of(request.line.as_slice());
+    let was_stored = has_stored(instrument, id);
     let mut reply = Line::new();
     if !instrument.reply_onto(request.line.as_slice(), &mut reply) {
         return false;
     }
-    note_origin(made, origin, &reply, request.origin);
-    send(down, reply, lost, arrives, origin);
+    let is_stored = has_stored(instrument, id);
+    let answered = note_origin(made, origin, &reply, request.origin, was_stored, is_stored);
+    send(down, reply, lost, arrives, &answered);
     true
 }
 
-// Notes on which request a line was made. A line that is the same as the last one was made on the request of then: it is sent again.
-fn note_origin(made: &mut Line, origin: &mut Origin, reply: &Line, request: Origin) {
-    if made.as_slice() != reply.as_slice() {
-        *made = copied(reply.as_slice());
-        *origin = request;
+// The id of a request's line. `None`: it has no id, or is no request.
+fn id_of(line: &[u8]) -> Option<u8> {
+    match read_request(line) {
+        Ok(request) => request.id,
+        Err(_) => None,
     }
 }
 
-// Puts a reply at the back of the queue down, where it isn't lost. A line with a CR or an LF in it is none, and is lost.
+// Whether the instrument has stored a reply with this id. It hasn't for `None`.
+fn has_stored(instrument: &SceneInstrument, id: Option<u8>) -> bool {
+    match (instrument.kept_id(), id) {
+        (Some(stored), Some(id)) => stored == id,
+        _ => false,
+    }
+}
+
+// The request that a reply answers. If a reply with the id of `request` was stored when that request arrived, and the reply is the stored
+// line `made`, it is that one sent again, and answers the request `origin` as it did then; otherwise it answers `request`. A reply that is
+// stored now and wasn't before becomes `made`, and its request `origin`.
+fn note_origin(
+    made: &mut Line,
+    origin: &mut Origin,
+    reply: &Line,
+    request: Origin,
+    was_stored: bool,
+    is_stored: bool,
+) -> Origin {
+    if was_stored {
+        if made.as_slice() == reply.as_slice() {
+            return origin.copy();
+        }
+    } else if is_stored {
+        *made = copied(reply.as_slice());
+        *origin = request.copy();
+    }
+    request
+}
+
+// Puts a reply to the request `origin`, which arrives at the moment `arrives`, at the back of the queue `down`, unless `lost`. A reply with
+// a CR or an LF in it is no line, and is lost.
 fn send(down: &mut VecDeque<Flight>, reply: Line, lost: bool, arrives: u64, origin: &Origin)
     ensures { Sends down.old.items reply.items down.new.items }
 {

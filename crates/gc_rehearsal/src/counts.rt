@@ -3,9 +3,9 @@
 /// How often each of these happened since a line was made. A count that has reached the greatest `u64` stays there.
 #[derive(Clone, Copy, Debug, PartialEq, Eq)]
 pub struct Counts {
-    /// Requests that were put whole.
+    /// Requests that were written whole.
     pub requests: u64,
-    /// Requests of which only a part went out.
+    /// Requests of which only a part was sent.
     pub cut: u64,
     /// Requests that reached the instrument. One that arrives twice counts twice.
     pub executed: u64,
@@ -13,20 +13,20 @@ pub struct Counts {
     pub replies: u64,
     /// Lines that were lost one by one, in either direction. Those that a close loses aren't counted.
     pub lost: u64,
-    /// Lines that came twice, in either direction.
+    /// Lines that arrive twice, in either direction.
     pub repeated: u64,
-    /// How often the line held up what set out after.
+    /// How often the line held up the lines after one.
     pub holds: u64,
-    /// Connections that the line closed.
+    /// Fates that closed the connection, at once or at a later moment.
     pub closes: u64,
-    /// Connections that were refused.
+    /// How often the line began to refuse connections.
     pub refusals: u64,
     /// Restarts of the instrument.
     pub restarts: u64,
 }
 
 impl Counts {
-    /// Nothing has happened.
+    /// All counts 0.
     pub(crate) fn new() -> Counts {
         Counts {
             requests: 0,

@@ -1,4 +1,4 @@
-//! What a rehearsed line keeps beside what it carries: its clock, its connection, when lines arrive, its counts, and the truths.
+//! The state of a rehearsed line beside the lines in flight: its clock, its connection, when lines arrive, its counts, and the truths.
 
 use crate::chance::Fate;
 use crate::counts::Counts;
@@ -7,7 +7,7 @@ use crate::truth::Truth;
 use gc_links::Moment;
 use std::alloc::Global;
 
-/// What comes next on a line.
+/// The next event on a line.
 #[derive(Clone, Copy, Debug, PartialEq, Eq)]
 pub(crate) enum Next {
     /// A request reaches the instrument at this moment.
@@ -23,27 +23,34 @@ pub(crate) enum Next {
 /// The clock of a line, its connection, its counts and the truths. Moments are in milliseconds since the line was made.
 #[derive(Debug, Drop)]
 pub(crate) struct Course {
+    // The present moment.
     pub now: u64,
     // Milliseconds between 1970 and the moment 0.
     start: u64,
-    // When the present run began: from there its deadlines count.
+    // When the present run began: its moments count from there.
     began: u64,
-    // Whether there is a connection, and when the other end closes it.
+    // Whether the station has a connection.
     is_open: bool,
+    // When the other end closes the connection, if it does.
     ends: Option<u64>,
-    // Until when no connection can be made, and until when no line arrives that sets out now.
+    // Until when no connection can be made.
     refused: u64,
+    // Until when no line arrives that is sent now.
     held: u64,
-    // When the last request arrives, and when the last reply.
+    // When the last request arrives.
     last_request: u64,
+    // When the last reply arrives.
     last_reply: u64,
+    // How often each event happened.
     pub counts: Counts,
+    // The truths of the replies that reads gave in the present run.
     pub truths: Vec<Truth>,
-    pub untold: u64,
+    // How many truths are missing, because memory was refused for them.
+    pub missing_truths: u64,
 }
 
 impl Course {
-    /// The moment 0, `utc` milliseconds after 1970, without a connection.
+    /// The state at the moment 0, which is `utc` milliseconds after 1970, without a connection.
     pub fn new(alloc: Global, utc: u64) -> Course {
         Course {
             now: 0,
@@ -57,17 +64,17 @@ impl Course {
             last_reply: 0,
             counts: Counts::new(),
             truths: Vec::new(alloc),
-            untold: 0,
+            missing_truths: 0,
         }
     }
 
-    /// A run begins now.
+    /// Begins a run: its moments count from now, and the truths so far are dropped.
     pub fn begin(&mut self) {
         self.began = self.now;
         self.truths.clear();
     }
 
-    /// The moment now, counted from the beginning of the run.
+    /// The present moment, since the beginning of the run and since 1970.
     pub fn moment(&self) -> Moment {
         Moment {
             elapsed: self.now.saturating_sub(self.began),
@@ -76,12 +83,12 @@ impl Course {
         }
     }
 
-    /// The moment so many milliseconds from now.
+    /// The moment `millis` milliseconds from now.
     pub fn from_now(&self, millis: u64) -> u64 {
         self.now.saturating_add(millis)
     }
 
-    /// The clock goes on to this moment, if it isn't later already.
+    /// Sets the clock to this moment, unless it is later already.
     pub fn come_to(&mut self, moment: u64) {
         self.now = self.now.max(moment);
     }
@@ -94,8 +101,9 @@ impl Course {
         }
     }
 
-    /// What comes next up to the moment `limit`, where the next request and the next reply arrive at these moments. Of what comes at the
-    /// same moment, a request is first, then the end, and then a reply. Replies and the end come only while there is a connection.
+    /// The next event up to the moment `limit`, if the next request and the next reply arrive at these moments (`None`: none is in flight).
+    /// Of events at the same moment a request is first, then the end, and then a reply. Replies and the end come only while there is a
+    /// connection.
     pub fn next(&self, request: Option<u64>, reply: Option<u64>, limit: u64) -> Next {
         let mut at = limit;
         let mut next = Next::Nothing;
@@ -121,8 +129,9 @@ impl Course {
         next
     }
 
-    // When a line with this fate arrives that sets out now, behind one that arrives at `last`.
-    fn arrival(&mut self, fate: Fate, last: u64) -> u64 {
+    // Schedules a line that is sent now with this fate: returns the moment at which it arrives, which isn't before `last`, the one at which
+    // the line before it arrives. Counts the hold, the loss and the repetition of the fate.
+    fn schedule(&mut self, fate: Fate, last: u64) -> u64 {
         if fate.hold > 0 {
             self.counts.holds = self.counts.holds.saturating_add(1);
             self.held = self.held.max(self.from_now(fate.hold));
@@ -135,9 +144,10 @@ impl Course {
         self.from_now(fate.delay).max(last).max(self.held)
     }
 
-    /// When a request arrives that sets out now. It counts as put.
-    pub fn request_arrives(&mut self, fate: Fate) -> u64 {
-        let arrives = self.arrival(fate, self.last_request);
+    /// Schedules a request that is sent now with this fate: returns the moment at which it arrives, and counts the request as written
+    /// whole, and its fate.
+    pub fn schedule_request(&mut self, fate: Fate) -> u64 {
+        let arrives = self.schedule(fate, self.last_request);
         if !fate.lost {
             self.last_request = arrives;
         }
@@ -145,9 +155,10 @@ impl Course {
         arrives
     }
 
-    /// When a reply arrives that sets out now. Its request counts as executed.
-    pub fn reply_arrives(&mut self, fate: Fate) -> u64 {
-        let arrives = self.arrival(fate, self.last_reply);
+    /// Schedules a reply that is sent now with this fate: returns the moment at which it arrives, and counts its request as executed, and
+    /// its fate. If the fate closes the connection, the other end closes it at that moment.
+    pub fn schedule_reply(&mut self, fate: Fate) -> u64 {
+        let arrives = self.schedule(fate, self.last_reply);
         if !fate.lost {
             self.last_reply = arrives;
         }
@@ -158,13 +169,14 @@ impl Course {
         arrives
     }
 
-    /// A request is cut, because the connection closes now.
+    /// Lets the other end close the connection now, in the middle of a request, and counts that request as cut.
     pub fn cut(&mut self) {
         self.counts.cut = self.counts.cut.saturating_add(1);
         self.end_at(self.now);
     }
 
-    // The other end closes the connection at this moment, unless it closes it earlier.
+    // Lets the other end close the connection at this moment, or earlier if it does so already, and counts the close. Nothing happens
+    // without a connection.
     fn end_at(&mut self, moment: u64) {
         if !self.is_open {
             return;
@@ -176,13 +188,13 @@ impl Course {
         };
     }
 
-    /// There is a connection now.
+    /// Makes a connection. A close by the other end that was still to come is dropped.
     pub fn open(&mut self) {
         self.is_open = true;
         self.ends = None;
     }
 
-    /// There is no connection now.
+    /// Ends the connection. A close by the other end that was still to come is dropped.
     pub fn close(&mut self) {
         self.is_open = false;
         self.ends = None;
@@ -193,23 +205,23 @@ impl Course {
         self.now < self.refused
     }
 
-    /// No connection can be made for so many milliseconds from now on.
+    /// Refuses connections for this many milliseconds from now on, and counts that as one refusal.
     pub fn refuse(&mut self, millis: u64) {
         self.refused = self.from_now(millis);
         self.counts.refusals = self.counts.refusals.saturating_add(1);
     }
 
-    /// The instrument restarted.
+    /// Counts a restart of the instrument.
     pub fn count_restart(&mut self) {
         self.counts.restarts = self.counts.restarts.saturating_add(1);
     }
 
-    /// A reply was lost, because the reader had no room for it.
+    /// Counts a reply that is lost because the reader has no room for it.
     pub fn count_lost(&mut self) {
         self.counts.lost = self.counts.lost.saturating_add(1);
     }
 
-    /// A reply was given now. Its truth is kept, if memory is granted; else it counts as untold.
+    /// Counts a reply that a read gives now, and stores its truth. If memory is refused for the truth, it counts as missing.
     pub fn keep_truth(&mut self, flight: Flight) {
         self.counts.replies = self.counts.replies.saturating_add(1);
         let Flight {
@@ -225,7 +237,7 @@ impl Course {
             reply: line,
         };
         if self.truths.push(truth).is_err() {
-            self.untold = self.untold.saturating_add(1);
+            self.missing_truths = self.missing_truths.saturating_add(1);
         }
     }
 }

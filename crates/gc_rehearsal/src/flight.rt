@@ -1,4 +1,4 @@
-//! A line under way, one way or the other, and the queue of those of one direction.
+//! Lines in flight, in either direction, and the queue of those of one direction.
 
 ghost use Rattle.std.specs.Prelude.{◌≡◌, ◌≤◌, ◌<◌, ◌+◌, [], length, take, IfSome};
 ghost use Rattle.gc_lines.specs.Lines.{with_end};
@@ -7,16 +7,19 @@ ghost use Rattle.gc_rehearsal.specs.Queues.{MayAdd, MayAddLine, MayRepeat};
 use gc_lines::{Line, append};
 use std::collections::VecDeque;
 
-/// Where a reply comes from, or what a request is: which request that was put whole, when, and its line without CR LF.
+/// The request that a line in flight comes from: of a request in flight that request itself, and of a reply the request that it answers.
 #[derive(Debug, Drop)]
 pub(crate) struct Origin {
+    // Its number among the requests that were written whole, from 0.
     pub request: u64,
+    // When it was written, in milliseconds since the link was made.
     pub sent: u64,
+    // Its line without CR LF.
     pub asked: Line,
 }
 
 impl Origin {
-    /// The same once more.
+    /// A copy of this request, with its line.
     pub fn copy(&self) -> Origin {
         Origin {
             request: self.request,
@@ -26,15 +29,18 @@ impl Origin {
     }
 }
 
-/// A line under way, without its CR LF, and when it arrives, in milliseconds since the link was made.
+/// A line in flight.
 #[derive(Debug, Drop)]
 pub(crate) struct Flight {
+    // The line without its CR LF.
     pub line: Line,
+    // When it arrives, in milliseconds since the link was made.
     pub arrives: u64,
+    // The request that it is, or answers.
     pub origin: Origin,
 }
 
-/// A line of these bytes, of which a line has at most 512.
+/// A line with these bytes.
 pub(crate) fn copied(bytes: &[u8]) -> Line
     requires { length bytes.now ≤ 512 }
     ensures { result.items ≡ bytes.now }
@@ -44,7 +50,7 @@ pub(crate) fn copied(bytes: &[u8]) -> Line
     line
 }
 
-/// The line of these bytes, if they are a line with its CR LF, of at most 512 bytes.
+/// The line in these bytes, without its CR LF. `None`: the bytes don't end in CR LF, or the line has more than 512 bytes.
 pub(crate) fn line_of(bytes: &[u8]) -> Option<&[u8]>
     ensures { IfSome result (λ line. (bytes.now ≡ with_end line.now) × (length line.now ≤ 512)) }
 {
@@ -52,15 +58,16 @@ pub(crate) fn line_of(bytes: &[u8]) -> Option<&[u8]>
     if line.len() <= 512 { Some(line) } else { None }
 }
 
-/// Puts a line at the back of a queue. Where memory for it is refused, it is lost.
+/// Puts a line at the back of a queue. If memory is refused, the line is lost.
 pub(crate) fn add(queue: &mut VecDeque<Flight>, flight: Flight)
     ensures { MayAdd queue.old.items flight queue.new.items }
 {
     let _ = queue.push_back(flight);
 }
 
-/// Puts the line of these bytes at the back of a queue, as the request of this number that was put at the moment `sent`. Bytes that
-/// are no line are lost.
+/// Puts the line of these bytes at the back of a queue, as a request in flight: its number is `request`, it was written at the moment
+/// `sent`, and it arrives at the moment `arrives`. Bytes that are no line (`line_of`) are lost, and so is a line for which memory is
+/// refused.
 pub(crate) fn add_request(
     queue: &mut VecDeque<Flight>,
     bytes: &[u8],
@@ -85,7 +92,7 @@ pub(crate) fn add_request(
     add(queue, flight);
 }
 
-/// Puts the last line of a queue at its back once more, directly behind itself. Where memory for it is refused, it isn't there.
+/// Puts a copy of the last line of a queue at its back. Without a line, or if memory is refused, the queue stays as it is.
 pub(crate) fn repeat_last(queue: &mut VecDeque<Flight>)
     ensures { MayRepeat queue.old.items queue.new.items }
 {
@@ -100,7 +107,7 @@ pub(crate) fn repeat_last(queue: &mut VecDeque<Flight>)
     add(queue, again);
 }
 
-/// When the line in front of a queue arrives.
+/// When the first line of a queue arrives. `None`: the queue is empty.
 pub(crate) fn due(queue: &VecDeque<Flight>) -> Option<u64> {
     match queue.front() {
         Some(flight) => Some(flight.arrives),
@@ -109,7 +116,7 @@ pub(crate) fn due(queue: &VecDeque<Flight>) -> Option<u64> {
 }
 
 /// How many bytes a line has with its CR LF.
-pub(crate) fn room_of(line: &Line) -> usize
+pub(crate) fn bytes_with_end(line: &Line) -> usize
     ensures { result ≡ length line.now.items + 2 }
 {
     line.len() + 2

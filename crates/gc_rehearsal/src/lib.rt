@@ -1,7 +1,7 @@
-//! The line of a rehearsal: a link in memory, in simulated time, at whose other end the instrument of a scene stands.
+//! The line of a rehearsal: a link in memory, in simulated time, at whose other end the instrument of a scene is.
 //!
 //! [`Rehearsed`] is a [`Link`](gc_links::Link) as a socket is, so that a station runs over it unchanged. A [`Chance`] decides what
-//! becomes of each line. Whatever it decides, lines keep their order, and each is lost whole or arrives whole, once or more times
+//! happens to each line. Whatever it decides, lines keep their order, and each is lost whole or arrives whole, once or more times
 //! directly one after the other.
 #![tactic(auto)]
 

@@ -1,7 +1,7 @@
-//! The line of a rehearsal as a link: what its chance is asked, and what each call returns.
+//! The line of a rehearsal as a link: which decisions each call takes from the chance, and what it returns.
 
 ghost use Rattle.std.specs.Prelude.{◌≡◌, ◌<◌, ◌++◌, ◌∷◌, [], length};
-ghost use Rattle.gc_links.specs.Acts.{Cut, IsPart, Put, put_as};
+ghost use Rattle.gc_links.specs.Acts.{Cut, IsPart, Put, put_act};
 ghost use Rattle.gc_rehearsal.specs.Carrying.{IsOfLine};
 ghost use Rattle.gc_rehearsal.specs.Reading.{MayRead, Reads};
 
@@ -15,22 +15,22 @@ use gc_links::{Came, Link, Moment, Note};
 use gc_scenes::SceneInstrument;
 use std::alloc::Global;
 
-/// A link in memory, in simulated time, at whose other end the instrument of a scene stands. Its chance decides what becomes of
+/// A link in memory, in simulated time, at whose other end the instrument of a scene is. Its chance decides what happens to
 /// each line. It has no clock of the system and no socket: time goes by in reads alone, and in [`Rehearsed::wait`].
 ///
 /// A read gives one line with its CR LF. A line that the reader's buffer has no room for is lost whole, and so is one of more than
 /// 512 bytes.
 #[derive(Drop)]
 pub struct Rehearsed<C> {
-    /// What decides what becomes of each line.
+    /// Decides what happens to each line.
     pub chance: C,
     carried: Carried,
     course: Course,
 }
 
 impl<C> Rehearsed<C> {
-    /// A link without a connection, with nothing under way, and with the instrument restarted. It has been 0 milliseconds since its
-    /// start, which was `utc` milliseconds after 1970.
+    /// A link without a connection, with nothing in flight, and with the instrument restarted. Its start, the moment 0, is `utc`
+    /// milliseconds after 1970.
     pub fn new(alloc: Global, chance: C, instrument: SceneInstrument, utc: u64) -> Rehearsed<C>
         ensures { result.carried ≡ [] }
     {
@@ -41,7 +41,8 @@ impl<C> Rehearsed<C> {
         }
     }
 
-    /// What its calls came to is what comes of a line that keeps order and loses lines whole, whatever its chance decided.
+    /// The results of its calls are those of a line that keeps order and loses lines whole (`IsOfLine`), whatever its chance decided. A
+    /// theorem, without effect.
     pub fn is_of_line(&self)
         ensures { IsOfLine self.now.carried }
     {
@@ -53,7 +54,7 @@ impl<C> Rehearsed<C> {
         self.course.now
     }
 
-    /// How often each thing happened.
+    /// How often each event happened.
     pub fn counts(&self) -> Counts {
         self.course.counts
     }
@@ -63,26 +64,27 @@ impl<C> Rehearsed<C> {
         self.course.truths.as_slice()
     }
 
-    /// A run begins now: the moments that it reads are counted from here, and the truths so far are forgotten.
+    /// Begins a run: its moments count from now, and the truths so far are dropped.
     pub fn begin(&mut self)
         ensures { self.new.carried ≡ self.old.carried }
     {
         self.course.begin();
     }
 
-    /// How many truths couldn't be kept, because memory was refused.
-    pub fn untold(&self) -> u64 {
-        self.course.untold
+    /// How many truths are missing, because memory was refused for them.
+    pub fn missing_truths(&self) -> u64 {
+        self.course.missing_truths
     }
 
-    // What comes next up to the moment `limit`.
+    // The next event up to the moment `limit`.
     fn next(&self, limit: u64) -> Next {
         let request = self.carried.request_due();
         let reply = self.carried.reply_due();
         self.course.next(request, reply, limit)
     }
 
-    // Nothing comes until the moment `limit`. `buf` is there for the clause alone.
+    // A read during which nothing comes until the moment `limit`: sets the clock to it, and returns silence. `buf` is there for the clause
+    // alone.
     fn be_silent(&mut self, limit: u64, buf: &[u8]) -> Came
         ensures { Reads self.old.carried self.new.carried result buf.now }
     {
@@ -93,7 +95,8 @@ impl<C> Rehearsed<C> {
         Came::Silence(moment)
     }
 
-    // The other end closes the connection at this moment. `buf` is there for the clause alone.
+    // A read during which the other end closes the connection at this moment: sets the clock to it, and returns the end. `buf` is there for
+    // the clause alone.
     fn end(&mut self, moment: u64, buf: &[u8]) -> Came
         ensures { Reads self.old.carried self.new.carried result buf.now }
     {
@@ -103,7 +106,7 @@ impl<C> Rehearsed<C> {
         Came::End
     }
 
-    // The reply in front arrives at this moment, and is given. `None`: `buf` has no room for it, and it is lost.
+    // Gives the next reply, which arrives at this moment, and sets the clock to it. `None`: `buf` has no room for the reply, which is lost.
     fn give(&mut self, moment: u64, buf: &mut [u8]) -> Option<Came>
         ensures { MayRead self.old.carried self.new.carried result buf.new }
     {
@@ -120,8 +123,8 @@ impl<C> Rehearsed<C> {
 }
 
 impl<C: Chance> Rehearsed<C> {
-    /// Lets this many milliseconds go by, as while no station runs. Requests that are under way reach the instrument meanwhile, and
-    /// nothing is read.
+    /// Lets this many milliseconds go by, as while no station runs. Requests in flight reach the instrument meanwhile, and nothing is
+    /// read. The loop has a bound, so that it ends whatever the queue does.
     pub fn wait(&mut self, millis: u64)
         ensures { self.new.carried ≡ self.old.carried }
     {
@@ -135,7 +138,7 @@ impl<C: Chance> Rehearsed<C> {
         self.course.come_to(limit);
     }
 
-    // The instrument restarts, if the chance says so.
+    // Restarts the instrument, if the chance says so.
     fn restart(&mut self)
         ensures { self.new.carried ≡ self.old.carried }
     {
@@ -145,7 +148,8 @@ impl<C: Chance> Rehearsed<C> {
         }
     }
 
-    // The request in front reaches the instrument at this moment, or now, if that is later. Its reply sets out.
+    // Hands the next request to the instrument at this moment, or now if that is later, and sends its reply with a fate of the chance. The
+    // instrument is restarted before that, if the chance says so.
     fn reach(&mut self, moment: u64)
         ensures { self.new.carried ≡ self.old.carried }
     {
@@ -153,14 +157,14 @@ impl<C: Chance> Rehearsed<C> {
         self.restart();
         self.carried.pass(self.course.now);
         let fate = self.chance.fate();
-        let arrives = self.course.reply_arrives(fate);
+        let arrives = self.course.schedule_reply(fate);
         let answered = self.carried.reach(fate.lost, arrives);
         if answered && fate.repeated && !fate.lost {
             self.carried.repeat_reply();
         }
     }
 
-    // What comes next up to the moment `limit` happens. `None`: the read goes on.
+    // Carries out the next event of a read up to the moment `limit`, and returns its result. `None`: the read goes on.
     fn step(&mut self, limit: u64, buf: &mut [u8]) -> Option<Came>
         ensures { MayRead self.old.carried self.new.carried result buf.new }
     {
@@ -175,7 +179,7 @@ impl<C: Chance> Rehearsed<C> {
         }
     }
 
-    // A request is put whole, with this fate.
+    // Sends a whole request, which is lost, or arrives at the moment `arrives`, twice if `repeated`.
     fn send(&mut self, bytes: &[u8], lost: bool, repeated: bool, arrives: u64)
         ensures { self.new.carried ≡ self.old.carried ++ Put bytes.now ∷ [] }
     {
@@ -190,7 +194,7 @@ impl<C: Chance> Rehearsed<C> {
         }
     }
 
-    // A request is cut, because the connection closes. Returns how many of its bytes went out.
+    // Cuts a request, because the other end closes the connection now. Returns how many of its bytes were sent, which aren't all.
     fn cut(&mut self, bytes: &[u8]) -> usize
         requires { 0 < length bytes.now }
         ensures tells { self.new.carried ≡ self.old.carried ++ Cut bytes.now result ∷ [] }
@@ -202,22 +206,23 @@ impl<C: Chance> Rehearsed<C> {
         n
     }
 
-    // A request is put: it sets out, or the connection closes at it, and it is cut.
+    // Sends a request with a fate of the chance. `Err(n)`: the other end closed the connection, and of the request only the first n bytes
+    // were sent.
     fn put_request(&mut self, bytes: &[u8]) -> Result<(), usize>
         requires { 0 < length bytes.now }
-        ensures tells { self.new.carried ≡ self.old.carried ++ put_as result bytes.now ∷ [] }
+        ensures tells { self.new.carried ≡ self.old.carried ++ put_act result bytes.now ∷ [] }
         ensures part { IsPart result bytes.now }
     {
         let fate = self.chance.fate();
         if fate.closes {
             return Err(self.cut(bytes));
         }
-        let arrives = self.course.request_arrives(fate);
+        let arrives = self.course.schedule_request(fate);
         self.send(bytes, fate.lost, fate.repeated, arrives);
         Ok(())
     }
 
-    // Whether a connection can't be made now.
+    // Whether a connection is refused now: by an earlier refusal that still lasts, or by one that the chance decides now.
     fn is_refused(&mut self) -> bool
         ensures { self.new.carried ≡ self.old.carried }
     {
@@ -232,7 +237,7 @@ impl<C: Chance> Rehearsed<C> {
         true
     }
 
-    // What is under way is lost, where the chance says so.
+    // Drops the requests in flight unless the chance keeps them, and then the replies in flight unless it keeps those.
     fn lose(&mut self)
         ensures { self.new.carried ≡ self.old.carried }
     {
@@ -250,13 +255,15 @@ impl<C: Chance> Link for Rehearsed<C> {
 
     ghost acts = { λ r. Some r.carried };
 
+    // The present moment of the line.
     fn now(&mut self) -> Result<Moment, PortFailed> {
         let moment = self.course.moment();
         self.carried.note(&Note::Told(moment));
         Ok(moment)
     }
 
-    // Gives the next reply, whole. Where there is no connection, it only waits. It waits for a millisecond at least.
+    // Returns the next reply, whole, or the end of the connection, or silence once `millis` milliseconds, but at least one, have gone by.
+    // Without a connection it only waits.
     fn read(&mut self, buf: &mut [u8], millis: u64) -> Came {
         let limit = self.course.from_now(millis.max(1));
         for _ in 0..u64::MAX {
@@ -268,7 +275,8 @@ impl<C: Chance> Link for Rehearsed<C> {
         self.be_silent(limit, buf)
     }
 
-    // A line feed clears the instrument's receiver, and is no request.
+    // Sends a request, which a close may cut; nothing is sent without a connection. A line feed alone clears the instrument's receiver,
+    // and is no request.
     fn put(&mut self, bytes: &[u8]) -> Result<(), usize> {
         if !self.course.is_up() {
             self.carried.note(&Note::Cut(bytes, 0));
@@ -281,13 +289,14 @@ impl<C: Chance> Link for Rehearsed<C> {
         self.put_request(bytes)
     }
 
-    // What is under way is lost, or arrives later.
+    // Closes the connection. The lines in flight are lost, or arrive later, as the chance decides.
     fn close(&mut self) {
         self.course.close();
         self.lose();
         self.carried.note(&Note::Closed);
     }
 
+    // Makes a connection, unless it is refused.
     fn open(&mut self) -> Result<(), PortFailed> {
         if self.is_refused() {
             self.carried.note(&Note::Unopened);

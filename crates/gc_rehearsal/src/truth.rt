@@ -2,13 +2,13 @@
 
 use gc_lines::Line;
 
-/// A reply line that a read gave, and the request on whose execution the instrument made it. Where the instrument sent an older
-/// line again, that is the request of then. Times are in milliseconds since the line was made.
+/// A reply that a read gave, and the request on whose execution the instrument made it. If the instrument sent an older reply again, it is
+/// the request that this reply was made on. Times are in milliseconds since the line was made.
 #[derive(Debug, Drop)]
 pub struct Truth {
-    /// Which request it was: its place among all that were put whole, from 0.
+    /// Which request it was: its number among all that were written whole, from 0.
     pub request: u64,
-    /// When that request was put.
+    /// When that request was written.
     pub sent: u64,
     /// When a read gave the reply.
     pub given: u64,
