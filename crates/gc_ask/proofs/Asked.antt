@@ -1,9 +1,10 @@
 -- What was asked so far, command after command. Throughout, `done` are the commands asked so far, `given` the bytes that the
 -- link gave, `left` those of them that weren't looked at yet, and `more` the bytes that come next. `a` and `b` are what the
 -- link had taken at first and has taken now, `c` and `d` the same of the sink; a mark (`b'`, `d'`) stands for a step later.
-use Rattle.std.proofs.Common.{◌≡◌, ℕ, ◌+◌, ◌<◌, Bool, true, ltb, List, [], ◌∷◌, ◌++◌, length, take, map, Option, Some, None, refl, sym, ap, ◌∙◌, subst, arith, append_assoc, append-nil, length-append}
+use Rattle.std.proofs.Common.{◌≡◌, ℕ, ◌+◌, ◌<◌, Bool, true, ltb, List, [], ◌∷◌, ◌++◌, length, take, map, Option, Some, None, refl, sym, ap, ◌∙◌, subst, arith, append_assoc, append-nil}
 use Rattle.std.specs.Io.KnownBytes.{Appends}
 use Rattle.std.proofs.lemmas.Bool.{ltb-true}
+use Rattle.std.proofs.lemmas.List.{length_push}
 use Rattle.gc_lines.specs.Answering.{all_of}
 use Rattle.gc_lines.specs.Assembler.{Kept, StandsFor}
 use Rattle.gc_lines.specs.Frames.{lines, rest_of, rest_behind}
@@ -12,11 +13,11 @@ use Rattle.gc_lines.proofs.InOrder.{all_of-append}
 use Rattle.gc_lines.proofs.Known.{Appends-append, Appends-nil, Appends-is}
 use Rattle.gc_catalogue.specs.declared.call.Call.{Call}
 use Rattle.gc_client.specs.declared.settlement.Settlement
-use Rattle.gc_client.specs.Rule.{ById, Settlement, heard, fits, hears, met, place_in}
+use Rattle.gc_client.specs.Rule.{ById, Settlement, heard, fits, hears, settled_by_line, place_in}
 use Rattle.gc_client.specs.Settlements.{settlement_seen}
-use Rattle.gc_ask.specs.Asking.{asked_for, idle, waiting_for, Reply, first_reply, settled_by, asked_from, asked, request_text, request_texts, lost_of, LinkEnd, IsNext, AsksAll, TellsPart}
+use Rattle.gc_ask.specs.Asking.{asked_for, idle, waiting_for, Reply, first_reply, settled_by, asked_from, asked, request_text, request_texts, lost_of, LinkEnd, IsNext, AsksAll, WritesPart}
 use Rattle.gc_texts.specs.declared.commands.Command.{Command}
-use Rattle.gc_texts.specs.Settlements.{settlement_line, settlement_lines, lines_from, ToldPart}
+use Rattle.gc_texts.specs.Settlements.{settlement_line, settlement_lines, lines_from, WrotePartOfSettlements}
 use Rattle.gc_ask.specs.Listening.{lines_behind, IsCut, Settles, StopsAt}
 use Rattle.gc_texts.proofs.SettlementLines.{lines_one}
 use Rattle.gc_ask.proofs.FirstReplies.{lines_behind-append, first_reply-at}
@@ -24,18 +25,19 @@ use Rattle.gc_ask.proofs.FirstReplies.{lines_behind-append, first_reply-at}
 -- One request that waits.
 
 -- a number that a test finds to be below 1 is 0
-one_waits : (n p : ℕ) (b : Bool) → b ≡ ltb p 1 → b ≡ true → p ≡ 0
-one_waits n p b is e = omega (arith, ltb-true p 1 (sym is ∙ e))
+zero_if_below_one : (p : ℕ) (b : Bool) → b ≡ ltb p 1 → b ≡ true → p ≡ 0
+zero_if_below_one p b is e = omega (arith, ltb-true p 1 (sym is ∙ e))
 
 -- a line that fits the client which waits for request k settles that request alone, and nothing waits any more
 pub hears_one : (k : ℕ) (c : Command) (line : List ℕ) → fits (waiting_for k c) (heard line) ≡ true
-    → ((hears (waiting_for k c) line (heard line)).settlements ≡ met (asked_for c) line ∷ []) × ((hears (waiting_for k c) line (heard line)).client ≡ idle (k + 1))
+    → ((hears (waiting_for k c) line (heard line)).settlements ≡ settled_by_line (asked_for c) line ∷ []) × ((hears (waiting_for k c) line (heard line)).client ≡ idle (k + 1))
 hears_one k c line fit = by_id (heard line) fit where
   -- whatever id is heard, where it fits, the request that waits is settled, and nothing waits any more
-  by_id : (o : Option ℕ) → fits (waiting_for k c) o ≡ true → ((hears (waiting_for k c) line o).settlements ≡ met (asked_for c) line ∷ []) × ((hears (waiting_for k c) line o).client ≡ idle (k + 1))
+  by_id : (o : Option ℕ) → fits (waiting_for k c) o ≡ true
+      → ((hears (waiting_for k c) line o).settlements ≡ settled_by_line (asked_for c) line ∷ []) × ((hears (waiting_for k c) line o).client ≡ idle (k + 1))
   by_id None e = (cc)
   by_id (Some id) e =
-      let first : place_in (waiting_for k c) id ≡ 0 = one_waits 0 _ _ refl e in
+      let first : place_in (waiting_for k c) id ≡ 0 = zero_if_below_one _ _ refl e in
       rw first (refl, refl)
 
 -- Requests and settlements in order.
@@ -60,10 +62,6 @@ pub lines_last : (settled : List (Settlement Call)) (k : ℕ) (next : Settlement
 lines_last settled k next is =
     let place : 0 + length settled ≡ k = omega (arith, is) in
     lines_one 0 settled next ∙ ap (λ n. settlement_lines settled ++ settlement_line n next) place ∙ ap (λ t. settlement_lines settled ++ t) (sym (append-nil (settlement_line k next)))
-
--- one more element makes a list longer by 1
-length_one : {A : Type 0} (xs : List A) (x : A) → length (xs ++ x ∷ []) ≡ length xs + 1
-length_one xs x = length-append xs (x ∷ [])
 
 -- The bytes that came.
 
@@ -138,7 +136,7 @@ first_is rest bytes left kept from to settled s = ap (first_reply from) s.seen �
 -- what the client settled is that one request, by that line, and then it waits for nothing
 pub settled_is : (k : ℕ) (command : Command) (rest bytes left : List ℕ) (kept : Kept) (to : ById Call) (settled : List (Settlement.Settlement Call))
     (s : Settles (waiting_for k command) (record { rest = rest; bytes = bytes; left = left; kept = kept; client = to; settled = settled }))
-    → (map settlement_seen settled ≡ met (asked_for command) s.line ∷ []) × (to ≡ idle (k + 1))
+    → (map settlement_seen settled ≡ settled_by_line (asked_for command) s.line ∷ []) × (to ≡ idle (k + 1))
 settled_is k command rest bytes left kept to settled s =
     let one = hears_one k command s.line s.fits in
     (s.settles.seen ∙ one.0, s.client ∙ one.1)
@@ -157,7 +155,7 @@ pub asked_with : (done : List Command) (given left : List ℕ) (kept : Kept) (cl
       settled =
           settled;
     }))
-    → asked (done ++ command ∷ []) (given ++ more) ≡ at.settled ++ met (asked_for command) s.line ∷ []
+    → asked (done ++ command ∷ []) (given ++ more) ≡ at.settled ++ settled_by_line (asked_for command) s.line ∷ []
 asked_with done given left kept client a b c d more at command left' kept' to settled s =
     let found = first_is at.now (left ++ more) left' kept' (waiting_for (length done) command) to settled s in
     asked_on done given left kept client a b c d more at command [] (Some (record { line = s.line; later = lines_behind [] left' })) found
@@ -173,10 +171,10 @@ pub course_more : (done : List Command) (command : Command) (given left more lef
 course_more done command given left more left' kept kept' client to a b b' c d d' settled at s sent told =
     let k = length done in
     let is = settled_is k command _ _ _ _ _ _ s in
-    let next = met (asked_for command) s.line in
+    let next = settled_by_line (asked_for command) s.line in
     let front : List (List ℕ) = s.front ++ s.line ∷ [] in
     let came = more_came given left more at.now at.looked at.seen at.rests in
-    let place : k + 1 ≡ length (done ++ command ∷ []) = sym (length_one done command) in
+    let place : k + 1 ≡ length (done ++ command ∷ []) = sym (length_push done command) in
     record {
       now = [];
       looked = at.looked ++ front;
@@ -184,7 +182,7 @@ course_more done command given left more left' kept kept' client to a b b' c d d
       stands = s.stands;
       seen = came.0 ∙ ap (λ zs. at.looked ++ zs) (s.seen ∙ sym (append_assoc s.front (s.line ∷ []) (lines_behind [] left'))) ∙ sym (append_assoc at.looked front (lines_behind [] left'));
       rests = came.1 ∙ s.rests;
-      count = length_one at.settled next ∙ ap (λ n. n + 1) at.count ∙ place;
+      count = length_push at.settled next ∙ ap (λ n. n + 1) at.count ∙ place;
       asks = λ others later.
           let found : first_reply (waiting_for k command) (front ++ later) ≡ Some (record { line = s.line; later = later }) =
           ap (first_reply (waiting_for k command)) (append_assoc s.front (s.line ∷ []) later) ∙ first_reply-at (waiting_for k command) s.front s.line later s.none s.fits in
@@ -210,7 +208,7 @@ course_all commands given left kept client a b c d at =
     record {
       settled = ap length all ∙ at.count;
       sent = at.link;
-      told = Appends-is _ _ _ _ (ap settlement_lines (sym all)) at.sink;
+      sink_took = Appends-is _ _ _ _ (ap settlement_lines (sym all)) at.sink;
     }
 
 -- where the next command was sent, and is lost, asking stops there (`StopsAt`)
@@ -229,7 +227,7 @@ course_stops alone commands done later command given left more kept client a b b
       settled = ap length so ∙ at.count;
       none = λ is. ap (λ xs. asked xs (given ++ more)) order ∙ asked_on done given left kept client a b c d more at command later None (none is) ∙ append-nil at.settled ∙ sym so;
       sent = Appends-is _ _ _ _ (sym (all_texts_one done command)) (Appends-append _ _ _ _ _ at.link sent);
-      told = Appends-is _ _ _ _ (sym (lines_last at.settled (length done) (lost_of command) at.count)
+      sink_took = Appends-is _ _ _ _ (sym (lines_last at.settled (length done) (lost_of command) at.count)
           ∙ ap (λ zs. settlement_lines (zs ++ lost_of command ∷ [])) (sym so)) (Appends-append _ _ _ _ _ at.sink told);
     }
 
@@ -252,17 +250,17 @@ course_cut alone commands done later command given left more kept client a b b' 
       bytes = bytes;
       cut = subst (λ n. alone ≡ true → (bytes ≡ part) × (part < length (request_text n command))) (sym is) cut;
       sent = Appends-is _ _ _ _ (ap (λ n. all_of (request_texts 0 done) ++ take bytes (request_text n command)) (sym is)) (Appends-append _ _ _ _ _ at.link sent);
-      told = Appends-is _ _ _ _ (sym (lines_last at.settled (length done) (lost_of command) at.count)
+      sink_took = Appends-is _ _ _ _ (sym (lines_last at.settled (length done) (lost_of command) at.count)
           ∙ ap (λ zs. settlement_lines (zs ++ lost_of command ∷ [])) (sym so)) (Appends-append _ _ _ _ _ at.sink told);
     }
 
--- where the sink failed as it took the line of the next settlement, asking ended there (`TellsPart`)
+-- where the sink failed as it took the line of the next settlement, asking ended there (`WritesPart`)
 pub course_tells : (commands done later : List Command) (command : Command) (given left more : List ℕ) (kept : Kept) (client : ById Call)
     (a b b' c d d' : Option (List ℕ)) (bytes : ℕ) (next : Settlement Call) (over : LinkEnd → Type 0) (link : LinkEnd)
     → (at : Course done given left kept client a b c d) → commands ≡ done ++ command ∷ later
     → over link → (asked done (given ++ more) ≡ at.settled → IsNext done command (given ++ more) next link)
-    → Appends b b' (take bytes (request_text (length done) command)) → ToldPart (length done) (next ∷ []) d d'
-    → TellsPart commands (given ++ more) (record { link_old = a; link_new = b'; sink_old = c; sink_new = d' }) over
+    → Appends b b' (take bytes (request_text (length done) command)) → WrotePartOfSettlements (length done) (next ∷ []) d d'
+    → WritesPart commands (given ++ more) (record { link_old = a; link_new = b'; sink_old = c; sink_new = d' }) over
 course_tells commands done later command given left more kept client a b b' c d d' bytes next over link at order ends is sent told =
     let so : asked done (given ++ more) ≡ at.settled = asked_so done given left kept client a b c d more at in
     let alone = alone_in told.earlier told.later told.next next told.order in
@@ -281,7 +279,7 @@ course_tells commands done later command given left more kept client a b b' c d 
       next_is = is so;
       part = told.part;
       not_all = subst (λ (t : List ℕ). told.part < length t) (the_line same alone.1) told.not_all;
-      told = Appends-is _ _ _ _ (ap (λ zs. settlement_lines zs ++ take told.part (settlement_line (length done) next)) (sym so))
+      sink_took = Appends-is _ _ _ _ (ap (λ zs. settlement_lines zs ++ take told.part (settlement_line (length done) next)) (sym so))
           (Appends-append _ _ _ _ _ at.sink (Appends-is _ _ _ _ (ap (λ (xs : List (Settlement Call)). lines_from (length done) xs ++ take told.part
           (settlement_line (length done + length told.earlier) told.next)) alone.0 ∙ ap (take told.part) (the_line same alone.1)) told.took));
     } where

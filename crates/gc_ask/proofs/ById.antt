@@ -1,7 +1,7 @@
 -- A request that waits alone is settled by its id.
 use Rattle.std.proofs.Common.{◌≡◌, ℕ, ◌+◌, ◌-◌, ◌%◌, ◌<◌, true, false, cond, List, [], ◌∷◌, ◌++◌, Option, Some, None, IfSome, refl, ap, ◌∙◌, subst, arith}
 use Rattle.gc_catalogue.specs.declared.call.Call.{Call}
-use Rattle.gc_client.specs.Ids.{IsWindow, Waits}
+use Rattle.gc_client.specs.Ids.{IsWithinLimits, Waits}
 use Rattle.gc_client.specs.Rule.{heard, fits, Settlement}
 use Rattle.gc_client.proofs.Digits.{fits_where_it_waits, heard_by_grammar}
 use Rattle.gc_ask.specs.Asking.{waiting_for, first_reply, settled_by, asked_from}
@@ -11,7 +11,7 @@ use Rattle.gc_ask.proofs.Asked.{hears_one}
 use Rattle.gc_ask.proofs.FirstReplies.{first_reply-at}
 
 -- a client that waits for one request has a window that the rule allows
-one_window : (k : ℕ) (c : Command) → IsWindow (waiting_for k c)
+one_window : (k : ℕ) (c : Command) → IsWithinLimits (waiting_for k c)
 one_window k c = record { digit = omega arith; few = omega arith }
 
 -- the rule's id of the oldest request that waits, where request k is the only one, is k modulo 8
@@ -36,7 +36,7 @@ fits_only k c line fit = by_id (heard line) refl fit where
   the_id : (id : ℕ) → heard line ≡ Some id → Waits (waiting_for k c) id → id ≡ k % 8
   the_id id e (place, below, same) = omega (arith, below, same)
 
-  -- by the id that is heard: where it fits, it is that of request k
+  -- an id that is heard and fits is that of request k
   by_id : (o : Option ℕ) → heard line ≡ o → fits (waiting_for k c) o ≡ true → o ≡ Some (k % 8)
   by_id None e f = (cc)
   by_id (Some id) e f = ap Some (the_id id e ((fits_where_it_waits (waiting_for k c) id (one_window k c) (heard_digit line id e)).0 f))

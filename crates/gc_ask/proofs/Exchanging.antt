@@ -10,7 +10,7 @@ use Rattle.gc_lines.specs.Assembler.{Kept}
 use Rattle.gc_lines.proofs.Known.{Appends-is}
 use Rattle.gc_catalogue.specs.declared.call.Call.{Call}
 use Rattle.gc_client.specs.declared.settlement.Settlement.{Settlement}
-use Rattle.gc_client.specs.Rule.{ById, met, restarts}
+use Rattle.gc_client.specs.Rule.{ById, settled_by_line, restarts}
 use Rattle.gc_client.specs.Rule
 use Rattle.gc_client.specs.Settlements.{AreSettlements, settlement_seen}
 use Rattle.gc_ask.specs.Asking.{asked_for, first_reply, waiting_for, request_text, lost_of, EndsWith, LinkEnd, LinkEnds, Written}
@@ -22,14 +22,14 @@ use Rattle.gc_ask.proofs.Ends.{Sound, both_end}
 use Rattle.gc_texts.specs.declared.commands.Command.{Command}
 use Rattle.gc_texts.specs.declared.fault.RunFault.{RunFault}
 use Rattle.gc_texts.specs.declared.fault.RunFault.TheVariants.{Read, Write, TooManyReads, LinkClosed, Output}
-use Rattle.gc_texts.specs.Settlements.{lines_from, Told, ToldPart}
+use Rattle.gc_texts.specs.Settlements.{lines_from, WroteSettlements, WrotePartOfSettlements}
 use Rattle.gc_texts.specs.WholeTexts.{Input}
 
 -- What a link took of a request.
 
 -- where a text was taken whole, its first bytes were taken, as many as it has
-whole : (a b : Option (List ℕ)) (text : List ℕ) → Appends a b text → Appends a b (take (length text) text)
-whole a b text sent = Appends-is _ _ _ _ (sym (take_all (length text) text (omega arith))) sent
+taken_as_front : (a b : Option (List ℕ)) (text : List ℕ) → Appends a b text → Appends a b (take (length text) text)
+taken_as_front a b text sent = Appends-is _ _ _ _ (sym (take_all (length text) text (omega arith))) sent
 
 -- the client's end took of a request that it wrote, or failed to write, what `TakesRequest` says
 pub takes_sent : (alone : Bool) (place : ℕ) (text : List ℕ) (a b : Option (List ℕ)) (x y : Bool) (r : LinkEnd)
@@ -42,7 +42,7 @@ takes_sent alone place text a b x y (Err other) s = absurd s
 pub takes_answered : (alone : Bool) (place : ℕ) (text : List ℕ) (a b : Option (List ℕ)) (r : LinkEnd) → (alone ≡ true → ⊥) → Appends a b text
     → CountsReplies place r → TakesRequest alone place text a b r
 takes_answered alone place text a b (Ok u) two sent of = sent
-takes_answered alone place text a b (Err (Write count part)) two sent of = (of, (length text, whole a b text sent, λ so. absurd (two so)))
+takes_answered alone place text a b (Err (Write count part)) two sent of = (of, (length text, taken_as_front a b text sent, λ so. absurd (two so)))
 takes_answered alone place text a b (Err other) two sent of = (sent, two)
 
 -- One command.
@@ -62,7 +62,7 @@ exchanged alone place command from h a b old new after r sent is heard ends = by
   missed : first_reply from (lines_behind h.rest h.bytes) ≡ None → alone ≡ true → first_reply (waiting_for place command) (lines_behind h.rest h.bytes) ≡ None
   missed none so = subst (λ (c : ById Call). first_reply c (lines_behind h.rest h.bytes) ≡ None) is none
 
-  -- by how the waiting ended, the exchange ended so
+  -- however the waiting for the reply ended, the exchange ended in the same way
   by_end : (r : LinkEnd) → HearsReply from h r → ReadEnds old new after r → Exchanges alone place command h a b r
   by_end (Ok u) heard ends = (sent, subst (λ (c : ById Call). Settles c h) is heard)
   by_end (Err (Write count part)) heard ends = absurd ends
@@ -82,7 +82,7 @@ lost_alone place command to settled now waits are is = ap (map settlement_seen) 
 sent_part : (alone : Bool) (place : ℕ) (command : Command) (h : Heard) (a b : Option (List ℕ)) (e : RunFault) → Exchanges alone place command h a b (Err e)
     → (part : ℕ) × Appends a b (take part (request_text place command))
 sent_part alone place command h a b (Write count part) x = (x.0.1.0, x.0.1.1)
-sent_part alone place command h a b other x = (length (request_text place command), whole a b (request_text place command) x.0)
+sent_part alone place command h a b other x = (length (request_text place command), taken_as_front a b (request_text place command) x.0)
 
 -- what was heard, but with this client in place of the one then
 abbrev with_client : Heard → ById Call → Heard
@@ -93,44 +93,44 @@ pub asks_lost : (alone : Bool) (place : ℕ) (command : Command) (h : Heard) (to
     (over : LinkEnd → Type 0) → (over (Err Output) → ⊥) → over (Err e)
     → Exchanges alone place command h w.link_old w.link_new (Err e) → AreSettlements lost (restarts h.client).settlements → now ≡ lost
     → Appends w.sink_old w.sink_new (lines_from place (map settlement_seen now)) → AsksOne alone place command (with_client h to) w over (Err e)
-asks_lost alone place command h to lost now w e over none ends x are is told =
-    by_fault e ends x (Appends-is _ _ _ _ (ap (lines_from place) (lost_alone place command h.client lost now (still_waits alone place command h w.link_old w.link_new e x) are is)) told) where
+asks_lost alone place command h to lost now w e over none ends x are is wrote =
+    by_fault e ends x (Appends-is _ _ _ _ (ap (lines_from place) (lost_alone place command h.client lost now (still_waits alone place command h w.link_old w.link_new e x) are is)) wrote) where
       -- by the fault e of the exchange: asking ended with it
       by_fault : (e : RunFault) → over (Err e) → Exchanges alone place command h w.link_old w.link_new (Err e)
           → Appends w.sink_old w.sink_new (lines_from place (lost_of command ∷ [])) → AsksOne alone place command (with_client h to) w over (Err e)
-      by_fault (Write count part) ends x told = (x.0, told)
-      by_fault Output ends x told = absurd (none ends)
-      by_fault other ends x told = (x.0, x.1, told)
+      by_fault (Write count part) ends x wrote = (x.0, wrote)
+      by_fault Output ends x wrote = absurd (none ends)
+      by_fault other ends x wrote = (x.0, x.1, wrote)
 
 -- where a fault came, and the sink failed as it took the line of the lost command, asking this command ended with the fault of the sink
-pub asks_untold : (alone : Bool) (place : ℕ) (command : Command) (h : Heard) (to : ById Call) (lost now : List (Settlement Call)) (w : Written) (x y : Bool)
+pub asks_sink_failed : (alone : Bool) (place : ℕ) (command : Command) (h : Heard) (to : ById Call) (lost now : List (Settlement Call)) (w : Written) (x y : Bool)
     (e f : RunFault) (over : LinkEnd → Type 0) → over (Err e)
     → Exchanges alone place command h w.link_old w.link_new (Err e) → AreSettlements lost (restarts h.client).settlements → now ≡ lost
-    → Told place (map settlement_seen now) w.sink_old w.sink_new x y (Err f) → AsksOne alone place command (with_client h to) w over (Err f)
-asks_untold alone place command h to lost now w x y e f over ends ex are is told =
-    by_fault f (subst (λ (zs : List (Rule.Settlement Call)). Told place zs w.sink_old w.sink_new x y (Err f))
-    (lost_alone place command h.client lost now (still_waits alone place command h w.link_old w.link_new e ex) are is) told) where
+    → WroteSettlements place (map settlement_seen now) w.sink_old w.sink_new x y (Err f) → AsksOne alone place command (with_client h to) w over (Err f)
+asks_sink_failed alone place command h to lost now w x y e f over ends ex are is wrote =
+    by_fault f (subst (λ (zs : List (Rule.Settlement Call)). WroteSettlements place zs w.sink_old w.sink_new x y (Err f))
+    (lost_alone place command h.client lost now (still_waits alone place command h w.link_old w.link_new e ex) are is) wrote) where
       -- by the fault f of the writing, which is the sink's: asking ended with it
-      by_fault : (f : RunFault) → Told place (lost_of command ∷ []) w.sink_old w.sink_new x y (Err f) → AsksOne alone place command (with_client h to) w over (Err f)
+      by_fault : (f : RunFault) → WroteSettlements place (lost_of command ∷ []) w.sink_old w.sink_new x y (Err f) → AsksOne alone place command (with_client h to) w over (Err f)
       by_fault Output t = let sent = sent_part alone place command h w.link_old w.link_new e ex in inr (e, ends, (sent.0, sent.1, t.0))
       by_fault other t = absurd t
 
 -- where a reply settled the request, and its line was written, or the sink failed, asking this command ended as that writing did
-pub asks_told : (alone : Bool) (place : ℕ) (command : Command) (h : Heard) (now : List (Settlement Call)) (w : Written) (x y : Bool) (over : LinkEnd → Type 0) (r : LinkEnd)
+pub asks_written : (alone : Bool) (place : ℕ) (command : Command) (h : Heard) (now : List (Settlement Call)) (w : Written) (x y : Bool) (over : LinkEnd → Type 0) (r : LinkEnd)
     → over (Ok tt) → Appends w.link_old w.link_new (request_text place command) → Settles (waiting_for place command) h → now ≡ h.settled
-    → Told place (map settlement_seen now) w.sink_old w.sink_new x y r → AsksOne alone place command h w over r
-asks_told alone place command h now w x y over (Ok u) link sent s is told =
-    (sent, s, subst (λ (zs : List (Settlement Call)). Appends w.sink_old w.sink_new (lines_from place (map settlement_seen zs))) is told.0)
-asks_told alone place command h now w x y over (Err Output) link sent s is told =
-    inl (link, sent, s, subst (λ (zs : List (Settlement Call)). ToldPart place (map settlement_seen zs) w.sink_old w.sink_new) is told.0)
-asks_told alone place command h now w x y over (Err other) link sent s is told = absurd told
+    → WroteSettlements place (map settlement_seen now) w.sink_old w.sink_new x y r → AsksOne alone place command h w over r
+asks_written alone place command h now w x y over (Ok u) link sent s is wrote =
+    (sent, s, subst (λ (zs : List (Settlement Call)). Appends w.sink_old w.sink_new (lines_from place (map settlement_seen zs))) is wrote.0)
+asks_written alone place command h now w x y over (Err Output) link sent s is wrote =
+    inl (link, sent, s, subst (λ (zs : List (Settlement Call)). WrotePartOfSettlements place (map settlement_seen zs) w.sink_old w.sink_new) is wrote.0)
+asks_written alone place command h now w x y over (Err other) link sent s is wrote = absurd wrote
 
 -- where the use of the link ended well, asking a command ended as the writing of its settlement did
-pub ends_told : (over : LinkEnd → Type 0) (place : ℕ) (settled : List (Rule.Settlement Call)) (c d : Option (List ℕ)) (x y : Bool) (r : LinkEnd) → over (Ok tt)
-    → Told place settled c d x y r → EndsWith over x y r
-ends_told over place settled c d x y (Ok u) ends told = (ends, told.1)
-ends_told over place settled c d x y (Err Output) ends told = (told.1, (Ok tt, ends))
-ends_told over place settled c d x y (Err other) ends told = absurd told
+pub ends_written : (over : LinkEnd → Type 0) (place : ℕ) (settled : List (Rule.Settlement Call)) (c d : Option (List ℕ)) (x y : Bool) (r : LinkEnd) → over (Ok tt)
+    → WroteSettlements place settled c d x y r → EndsWith over x y r
+ends_written over place settled c d x y (Ok u) ends wrote = (ends, wrote.1)
+ends_written over place settled c d x y (Err Output) ends wrote = (wrote.1, (Ok tt, ends))
+ends_written over place settled c d x y (Err other) ends wrote = absurd wrote
 
 -- where the link had a fault, and the line of the lost command was written, asking the command ended with that fault
 pub ends_lost : (over : LinkEnd → Type 0) (x y : Bool) (e : RunFault) → (over (Err Output) → ⊥) → over (Err e) → y ≡ x → EndsWith over x y (Err e)
@@ -138,10 +138,10 @@ ends_lost over x y Output none ends same = absurd (none ends)
 ends_lost over x y other none ends same = (ends, same)
 
 -- where the sink failed as it took the line of the lost command, asking the command ended with the fault of the sink
-pub ends_untold : (over : LinkEnd → Type 0) (place : ℕ) (settled : List (Rule.Settlement Call)) (c d : Option (List ℕ)) (x y : Bool) (e f : RunFault) → over (Err e)
-    → Told place settled c d x y (Err f) → EndsWith over x y (Err f)
-ends_untold over place settled c d x y e Output ends told = (told.1, (Err e, ends))
-ends_untold over place settled c d x y e other ends told = absurd told
+pub ends_sink_failed : (over : LinkEnd → Type 0) (place : ℕ) (settled : List (Rule.Settlement Call)) (c d : Option (List ℕ)) (x y : Bool) (e f : RunFault) → over (Err e)
+    → WroteSettlements place settled c d x y (Err f) → EndsWith over x y (Err f)
+ends_sink_failed over place settled c d x y e Output ends wrote = (wrote.1, (Err e, ends))
+ends_sink_failed over place settled c d x y e other ends wrote = absurd wrote
 
 -- The run.
 
@@ -178,12 +178,12 @@ run_fault alone commands done later command place given left more left' kept kep
       by_fault Output (inl o) ends =
           let is = settled_is (length done) command _ _ _ _ _ _ o.2 in
           let text = request_text (length done) command in
-          let next = met (asked_for command) o.2.line in
+          let next = settled_by_line (asked_for command) o.2.line in
           course_tells commands done later command given left more kept client a b b' c d d' (length text) next (BothEnd c0 p' i0 q') (Ok tt) at order
           (both_end c0 p p' i0 q q' (Ok tt) gc gi o.0)
           (λ so. asked_with done given left kept client a b c d more at command _ _ _ _ o.2 ∙ ap (λ zs. zs ++ next ∷ []) (sym so))
-          (whole b b' text o.1)
-          (subst (λ (zs : List (Rule.Settlement Call)). ToldPart (length done) zs d d') is.0 o.3)
+          (taken_as_front b b' text o.1)
+          (subst (λ (zs : List (Rule.Settlement Call)). WrotePartOfSettlements (length done) zs d d') is.0 o.3)
       by_fault Output (inr o) ends =
           course_tells commands done later command given left more kept client a b b' c d d' o.2.0 (lost_of command) (BothEnd c0 p' i0 q') (Err o.0) at order
           (both_end c0 p p' i0 q q' (Err o.0) gc gi o.1) (λ so. refl) o.2.1 o.2.2

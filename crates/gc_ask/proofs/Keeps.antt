@@ -9,7 +9,7 @@ use Rattle.gc_lines.specs.declared.served.TheConstants.{WRITE_FAILED}
 use Rattle.gc_texts.specs.Faults.{run_fault_number}
 use Rattle.gc_texts.specs.declared.fault.RunFault.TheVariants as fault
 use Rattle.gc_lines.proofs.Known.{Appends-append, Appends-nil, Appends-is}
-use Rattle.gc_ask.specs.Keeping.{End, Grows, Kept, caller_line, told_of, told_from}
+use Rattle.gc_ask.specs.Keeping.{End, Grows, Kept, caller_line, end_line, end_lines}
 use Rattle.gc_ask.specs.declared.callers.CallerFault.TheVariants.{Write, Socket}
 
 -- where the ends that are known grew by some, and then by others, they grew by both in this order
@@ -25,14 +25,14 @@ grows_none None = tt
 grows_none (Some a) = sym (append-nil a)
 
 -- what is written of one more connection comes after the others'
-pub told_more : (n : ℕ) (ends : List End) (end : End) → told_from n (ends ++ end ∷ []) ≡ told_from n ends ++ told_of (n + length ends) end
-told_more n [] end =
+pub end_lines_append : (n : ℕ) (ends : List End) (end : End) → end_lines n (ends ++ end ∷ []) ≡ end_lines n ends ++ end_line (n + length ends) end
+end_lines_append n [] end =
     let at : n ≡ n + 0 = omega arith in
-    append-nil (told_of n end) ∙ ap (λ (m : ℕ). told_of m end) at
-told_more n (first ∷ later) end =
+    append-nil (end_line n end) ∙ ap (λ (m : ℕ). end_line m end) at
+end_lines_append n (first ∷ later) end =
     let at : n + 1 + length later ≡ n + suc (length later) = omega arith in
-    ap (λ xs. told_of n first ++ xs) (told_more (n + 1) later end ∙ ap (λ (m : ℕ). told_from (n + 1) later ++ told_of m end) at)
-    ∙ sym (append_assoc (told_of n first) (told_from (n + 1) later) (told_of (n + suc (length later)) end))
+    ap (λ xs. end_line n first ++ xs) (end_lines_append (n + 1) later end ∙ ap (λ (m : ℕ). end_lines (n + 1) later ++ end_line m end) at)
+    ∙ sym (append_assoc (end_line n first) (end_lines (n + 1) later) (end_line (n + suc (length later)) end))
 
 -- before anybody is served, `Kept` is true with 0 callers
 pub kept_none : (served : Option (List End)) (messages : Option (List ℕ)) → Kept 0 true served served messages messages
@@ -45,20 +45,20 @@ kept_none served messages = record {
 
 -- where `Kept` is true with n callers, and one more was served, it is true with n + 1. `s0` are the ends known at first, `s1`
 -- before this caller, and `s2` after him; `m0` to `m2` are the messages then
-pub kept_more : (n : ℕ) (told told' : Bool) (s0 s1 s2 : Option (List End)) (m0 m1 m2 : Option (List ℕ)) (end : End)
-    → Kept n told s0 s1 m0 m1 → Grows s1 s2 (end ∷ []) → (told' ≡ true → (told ≡ true) × Appends m1 m2 (told_of (n + 1) end))
-    → Kept (n + 1) told' s0 s2 m0 m2
-kept_more n told told' s0 s1 s2 m0 m1 m2 end kept grew tells =
+pub kept_more : (n : ℕ) (all_written all_written' : Bool) (s0 s1 s2 : Option (List End)) (m0 m1 m2 : Option (List ℕ)) (end : End)
+    → Kept n all_written s0 s1 m0 m1 → Grows s1 s2 (end ∷ []) → (all_written' ≡ true → (all_written ≡ true) × Appends m1 m2 (end_line (n + 1) end))
+    → Kept (n + 1) all_written' s0 s2 m0 m2
+kept_more n all_written all_written' s0 s1 s2 m0 m1 m2 end kept grew tells =
     let at : 1 + length kept.ends ≡ n + 1 = omega (arith, kept.count) in
-    let text : told_from 1 kept.ends ++ told_of (n + 1) end ≡ told_from 1 (kept.ends ++ end ∷ []) =
-    ap (λ (m : ℕ). told_from 1 kept.ends ++ told_of m end) (sym at) ∙ sym (told_more 1 kept.ends end) in
+    let text : end_lines 1 kept.ends ++ end_line (n + 1) end ≡ end_lines 1 (kept.ends ++ end ∷ []) =
+    ap (λ (m : ℕ). end_lines 1 kept.ends ++ end_line m end) (sym at) ∙ sym (end_lines_append 1 kept.ends end) in
     record {
       ends = kept.ends ++ end ∷ [];
       count = length-append kept.ends (end ∷ []) ∙ ap (λ m. m + 1) kept.count;
       served = grows_more s0 s1 s2 kept.ends (end ∷ []) kept.served grew;
       lines = λ all.
           let t = tells all in
-          Appends-is m0 m2 _ _ text (Appends-append m0 m1 m2 (told_from 1 kept.ends) (told_of (n + 1) end) (kept.lines t.0) t.1);
+          Appends-is m0 m2 _ _ text (Appends-append m0 m1 m2 (end_lines 1 kept.ends) (end_line (n + 1) end) (kept.lines t.0) t.1);
     }
 
 -- the pieces in which the line of a cut write is written are that line

@@ -4,7 +4,7 @@ use Rattle.std.proofs.Common.{◌≡◌, ℕ, Bool, true, List, [], ◌∷◌, �
 use Rattle.gc_lines.specs.Answering.{all_of}
 use Rattle.gc_lines.proofs.Known.{Appends-is}
 use Rattle.gc_ask.specs.AskRuns.{AskRuns, AsksOver, Seen, written}
-use Rattle.gc_ask.specs.Asking.{Asks, AsksPart, AsksUpTo, LinkEnd, LinkEnds, TellsPart, Written, lost_of, request_text, request_texts}
+use Rattle.gc_ask.specs.Asking.{Asks, AsksPart, AsksUpTo, LinkEnd, LinkEnds, WritesPart, Written, lost_of, request_text, request_texts}
 use Rattle.gc_ask.specs.Links.{no_ports, seen_at}
 use Rattle.gc_ask.specs.Listening.{AsksAt, AsksOn, IsCut, RunsAt, StopsAt}
 use Rattle.gc_ask.specs.Looping.{BothEnd, LoopRuns, Loops, LoopsOver, LoopsPart, LoopsUpTo, SeenAtBoth, written_there}
@@ -17,20 +17,20 @@ use Rattle.gc_texts.specs.WholeTexts.{Input}
 -- Alone.
 
 -- where the link is alone, asking that stopped at a command (`StopsAt`) is what `AsksUpTo` says
-up_to : (commands : List Command) (given : List ℕ) (w : Written) → StopsAt true commands given w → AsksUpTo commands given w
-up_to commands given w s = record {
+asks_up_to : (commands : List Command) (given : List ℕ) (w : Written) → StopsAt true commands given w → AsksUpTo commands given w
+asks_up_to commands given w s = record {
   earlier = s.earlier;
   command = s.command;
   later = s.later;
   order = s.order;
   settled = ap length (s.none refl) ∙ s.settled;
   sent = s.sent;
-  told = Appends-is _ _ _ _ (ap (λ zs. settlement_lines (zs ++ lost_of s.command ∷ [])) (sym (s.none refl))) s.told;
+  sink_took = Appends-is _ _ _ _ (ap (λ zs. settlement_lines (zs ++ lost_of s.command ∷ [])) (sym (s.none refl))) s.sink_took;
 }
 
 -- where the link is alone, asking that was cut (`IsCut`) is what `AsksPart` says
-in_part : (commands : List Command) (given : List ℕ) (w : Written) (count part : ℕ) → IsCut true commands given w count part → AsksPart commands given w count part
-in_part commands given w count part s = record {
+asks_part : (commands : List Command) (given : List ℕ) (w : Written) (count part : ℕ) → IsCut true commands given w count part → AsksPart commands given w count part
+asks_part commands given w count part s = record {
   earlier = s.earlier;
   command = s.command;
   later = s.later;
@@ -39,13 +39,13 @@ in_part commands given w count part s = record {
   settled = s.settled;
   not_all = (s.cut refl).1;
   sent = Appends-is _ _ _ _ (ap (λ n. all_of (request_texts 0 s.earlier) ++ take n (request_text count s.command)) (s.cut refl).0) s.sent;
-  told = s.told;
+  sink_took = s.sink_took;
 }
 
--- `TellsPart` with a condition `over` on the link's end holds with any weaker condition `other`
-tells : (commands : List Command) (given : List ℕ) (w : Written) (over other : LinkEnd → Type 0) → ((r : LinkEnd) → over r → other r)
-    → TellsPart commands given w over → TellsPart commands given w other
-tells commands given w over other so t = record {
+-- `WritesPart` with a condition `over` on the link's end holds with any weaker condition `other`
+writes_part_weaker : (commands : List Command) (given : List ℕ) (w : Written) (over other : LinkEnd → Type 0) → ((r : LinkEnd) → over r → other r)
+    → WritesPart commands given w over → WritesPart commands given w other
+writes_part_weaker commands given w over other so t = record {
   earlier = t.earlier;
   command = t.command;
   later = t.later;
@@ -59,18 +59,18 @@ tells commands given w over other so t = record {
   next_is = t.next_is;
   part = t.part;
   not_all = t.not_all;
-  told = t.told;
+  sink_took = t.sink_took;
 }
 
 -- what was asked over a link that is alone is what `Asks` says, also with a weaker condition `other` on the link's end
 asks_alone : (commands : List Command) (given : List ℕ) (w : Written) (over other : LinkEnd → Type 0) → ((r : LinkEnd) → over r → other r) → (r : LinkEnd)
     → AsksOn true commands given w over r → Asks commands given w other r
 asks_alone commands given w over other so (Ok u) x = x
-asks_alone commands given w over other so (Err Read) x = up_to commands given w x
-asks_alone commands given w over other so (Err LinkClosed) x = up_to commands given w x
-asks_alone commands given w over other so (Err TooManyReads) x = up_to commands given w x
-asks_alone commands given w over other so (Err (Write count part)) x = in_part commands given w count part x
-asks_alone commands given w over other so (Err Output) x = tells commands given w over other so x
+asks_alone commands given w over other so (Err Read) x = asks_up_to commands given w x
+asks_alone commands given w over other so (Err LinkClosed) x = asks_up_to commands given w x
+asks_alone commands given w over other so (Err TooManyReads) x = asks_up_to commands given w x
+asks_alone commands given w over other so (Err (Write count part)) x = asks_part commands given w count part x
+asks_alone commands given w over other so (Err Output) x = writes_part_weaker commands given w over other so x
 asks_alone commands given w over other so (Err e) x = absurd x
 
 -- a run of commands over a link that is alone is what `AsksOver` says
@@ -96,7 +96,7 @@ runs_alone text_old text_new most old new r (given, gave, few, inr x) = (given, 
 
 -- asking that stopped at a command (`StopsAt`) is what `LoopsUpTo` says
 loops_up_to : (alone : Bool) (commands : List Command) (given : List ℕ) (w : Written) → StopsAt alone commands given w → LoopsUpTo commands given w
-loops_up_to alone commands given w s = record { earlier = s.earlier; command = s.command; later = s.later; order = s.order; settled = s.settled; sent = s.sent; told = s.told }
+loops_up_to alone commands given w s = record { earlier = s.earlier; command = s.command; later = s.later; order = s.order; settled = s.settled; sent = s.sent; sink_took = s.sink_took }
 
 -- asking that was cut (`IsCut`) is what `LoopsPart` says
 loops_part : (alone : Bool) (commands : List Command) (given : List ℕ) (w : Written) (count part : ℕ) → IsCut alone commands given w count part → LoopsPart commands given w count
@@ -110,7 +110,7 @@ loops_part alone commands given w count part s = record {
   settled = s.settled;
   bytes = s.bytes;
   sent = s.sent;
-  told = s.told;
+  sink_took = s.sink_took;
 }
 
 -- what was asked over any link (`AsksOn`) is what `Loops` says

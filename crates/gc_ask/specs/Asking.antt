@@ -35,7 +35,7 @@ pub record Reply : Type 0 where
   pub line : List ℕ
   pub later : List (List ℕ)
 
--- the first line that is a reply with the id of a request that waits
+-- the first of the lines that is a reply with the id of a request that waits, with the lines after it; none if there is no such line
 abbrev pub first_reply : ById Call → List (List ℕ) → Option Reply
 first_reply client [] = None
 first_reply client (line ∷ later) = if fits client (heard line) then Some (record { line = line; later = later }) else first_reply client later
@@ -84,7 +84,7 @@ pub record Written : Type 0 where
   pub sink_old : Option (List ℕ)
   pub sink_new : Option (List ℕ)
 
--- how the use of a link ended
+-- how the use of a link ended: well, or with a fault
 abbrev pub LinkEnd : Type 0
 LinkEnd = Result (Unit {0}) RunFault
 
@@ -92,7 +92,7 @@ LinkEnd = Result (Unit {0}) RunFault
 pub record AsksAll (commands : List Command) (given : List ℕ) (w : Written) : Type 0 where
   pub settled : length (asked commands given) ≡ length commands
   pub sent : Appends w.link_old w.link_new (all_of (request_texts 0 commands))
-  pub told : Appends w.sink_old w.sink_new (settlement_lines (asked commands given))
+  pub sink_took : Appends w.sink_old w.sink_new (settlement_lines (asked commands given))
 
 -- what came settles the commands `earlier`, and no more; `command` was sent, and is lost; `later` weren't sent. The sink took
 -- the lines of these settlements
@@ -103,7 +103,7 @@ pub record AsksUpTo (commands : List Command) (given : List ℕ) (w : Written) :
   pub order : commands ≡ earlier ++ command ∷ later
   pub settled : length (asked commands given) ≡ length earlier
   pub sent : Appends w.link_old w.link_new (all_of (request_texts 0 (earlier ++ command ∷ [])))
-  pub told : Appends w.sink_old w.sink_new (settlement_lines (asked commands given ++ lost_of command ∷ []))
+  pub sink_took : Appends w.sink_old w.sink_new (settlement_lines (asked commands given ++ lost_of command ∷ []))
 
 -- the commands `earlier` are settled, `count` in number; of the request of `command` only the first `bytes` bytes were sent,
 -- and it is lost, even where a reply with its id came already. The sink took the lines of these settlements
@@ -116,7 +116,7 @@ pub record AsksPart (commands : List Command) (given : List ℕ) (w : Written) (
   pub settled : length (asked earlier given) ≡ length earlier
   pub not_all : bytes < length (request_text count command)
   pub sent : Appends w.link_old w.link_new (all_of (request_texts 0 earlier) ++ take bytes (request_text count command))
-  pub told : Appends w.sink_old w.sink_new (settlement_lines (asked earlier given ++ lost_of command ∷ []))
+  pub sink_took : Appends w.sink_old w.sink_new (settlement_lines (asked earlier given ++ lost_of command ∷ []))
 
 -- `next` is the settlement of `command`, after those of `earlier`: where the link ended well, what the bytes that came settle,
 -- and else that the command is lost
@@ -127,7 +127,7 @@ IsNext earlier command given next (Err _) = next ≡ lost_of command
 -- the sink failed as it took the line of `next`, the settlement of `command`: it took the lines of the commands `earlier`, and
 -- of this line the first `part` bytes. Of the request of `command` the first `bytes` bytes were sent, or all; `later` weren't
 -- sent. `link` is how the use of the link had ended before; `over e` says what the link's ports are after the end e
-pub record TellsPart (commands : List Command) (given : List ℕ) (w : Written) (over : LinkEnd → Type 0) : Type 0 where
+pub record WritesPart (commands : List Command) (given : List ℕ) (w : Written) (over : LinkEnd → Type 0) : Type 0 where
   pub earlier : List Command
   pub command : Command
   pub later : List Command
@@ -141,7 +141,7 @@ pub record TellsPart (commands : List Command) (given : List ℕ) (w : Written) 
   pub next_is : IsNext earlier command given next link
   pub part : ℕ
   pub not_all : part < length (settlement_line (length earlier) next)
-  pub told : Appends w.sink_old w.sink_new (settlement_lines (asked earlier given) ++ take part (settlement_line (length earlier) next))
+  pub sink_took : Appends w.sink_old w.sink_new (settlement_lines (asked earlier given) ++ take part (settlement_line (length earlier) next))
 
 -- what was asked over a link that gave these bytes, by how asking ended; `over e` says what the link's ports are after the end e
 abbrev pub Asks : List Command → List ℕ → Written → (over : LinkEnd → Type 0) → LinkEnd → Type 0
@@ -150,7 +150,7 @@ Asks commands given w over (Err Read) = AsksUpTo commands given w
 Asks commands given w over (Err LinkClosed) = AsksUpTo commands given w
 Asks commands given w over (Err TooManyReads) = AsksUpTo commands given w
 Asks commands given w over (Err (Write count bytes)) = AsksPart commands given w count bytes
-Asks commands given w over (Err Output) = TellsPart commands given w over
+Asks commands given w over (Err Output) = WritesPart commands given w over
 Asks commands given w over (Err _) = ⊥
 
 -- the two ports of a link's end after a use that ended with this result. Only with `LinkClosed` was the last read the end of

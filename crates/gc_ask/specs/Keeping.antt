@@ -28,30 +28,32 @@ abbrev pub caller_line : (number : ℕ) → CallerFault → List ℕ
 caller_line number fault = codes "geocom: connection " ++ (decimal number ++ (codes ": " ++ (caller_fault_text fault ++ codes "\n")))
 
 -- what is written of a connection: its fault's line, or nothing where it was served to its end
-abbrev pub told_of : (number : ℕ) → End → List ℕ
-told_of number (Ok _) = []
-told_of number (Err fault) = caller_line number fault
+abbrev pub end_line : (number : ℕ) → End → List ℕ
+end_line number (Ok _) = []
+end_line number (Err fault) = caller_line number fault
 
--- what is written of connections, of which the first has this number
-abbrev pub told_from : (number : ℕ) → List End → List ℕ
-told_from number [] = []
-told_from number (end ∷ later) = told_of number end ++ told_from (number + 1) later
+-- what is written of connections, of which the first has this number: the lines of their faults, in order
+abbrev pub end_lines : (number : ℕ) → List End → List ℕ
+end_lines number [] = []
+end_lines number (end ∷ later) = end_line number end ++ end_lines (number + 1) later
 
--- where the ends before were known, the ends now are those, and these after them
+-- some connections ended as `more` says: the ends known now are those known before, followed by these. Where the ends before aren't
+-- known, nothing is said
 abbrev pub Grows : Option (List End) → Option (List End) → List End → Type 0
 Grows None new more = Unit {0}
 Grows (Some ends) None more = ⊥
 Grows (Some ends) (Some all) more = all ≡ ends ++ more
 
--- `most` callers were served, whatever became of each. If all lines were written (`told`), the messages grew by the line of
--- each fault, and by nothing else. `old` and `new` say how the connections before and after this ended, if that is known
-pub record Kept (most : ℕ) (told : Bool) (old new : Option (List End)) (messages_old messages_new : Option (List ℕ)) : Type 0 where
+-- `most` callers were served, whatever became of each. If all lines were written (`all_written`), the messages grew by the line of
+-- each fault, and by nothing else. `old` are the ends of the connections that were served before, and `new` those of all,
+-- if they are known
+pub record Kept (most : ℕ) (all_written : Bool) (old new : Option (List End)) (messages_old messages_new : Option (List ℕ)) : Type 0 where
   pub ends : List End
   pub count : length ends ≡ most
   pub served : Grows old new ends
-  pub lines : told ≡ true → Appends messages_old messages_new (told_from 1 ends)
+  pub lines : all_written ≡ true → Appends messages_old messages_new (end_lines 1 ends)
 
--- how serving a connection ended, as an `End`
+-- the end of a connection by the result of serving it
 abbrev pub end_of_caller : Result Served ServeFault → End
 end_of_caller (Ok _) = Ok tt
 end_of_caller (Err (serving.Read _)) = Err Read

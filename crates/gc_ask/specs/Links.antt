@@ -63,12 +63,12 @@ TakesRequest alone place text old new (Err (Write count part)) =
     (count ≡ place) × ((bytes : ℕ) × Appends old new (take bytes text) × (alone ≡ true → (bytes ≡ part) × (part < length text)))
 TakesRequest alone place text old new (Err _) = Appends old new text × (alone ≡ true → ⊥)
 
--- where the result is that a reply was cut, its fault counts as many replies before that one as `place` says
+-- if the result is `Write`, because a reply was cut, its count of the replies before that one is `place`
 abbrev pub CountsReplies : ℕ → LinkEnd → Type 0
 CountsReplies place (Err (Write count _)) = count ≡ place
 CountsReplies place _ = Unit {0}
 
--- a read of the client's end left all else as it was
+-- a read of the client's end left all else as it was: what the client's sink took, the instrument's end, and the references held
 abbrev pub OnlyReads : (client_old client_new instrument_old instrument_new : Ports) → (held_old held_new : Held) → Type 0
 OnlyReads client_old client_new instrument_old instrument_new held_old held_new =
     (client_new.taken ≡ client_old.taken) × (client_new.sink_failed ≡ client_old.sink_failed) × (instrument_new ≡ instrument_old) × (held_new ≡ held_old)

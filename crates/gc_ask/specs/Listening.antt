@@ -9,21 +9,48 @@ use Rattle.gc_lines.specs.Answering.{Ports, all_of}
 use Rattle.gc_lines.specs.Assembler.{Kept, StandsFor}
 use Rattle.gc_lines.specs.Frames.{line_in, rest_behind}
 use Rattle.gc_lines.specs.Passing.{frames_behind}
+use Rattle.gc_lines.specs.declared.ports.Sink.{Ghosts as Sink}
 use Rattle.gc_catalogue.specs.declared.call.Call.{Call}
 use Rattle.gc_client.specs.declared.settlement.Settlement.{Settlement}
 use Rattle.gc_client.specs.Rule.{ById, heard, fits, hears}
 use Rattle.gc_client.specs.Settlements.{AreSettlements, settlement_seen}
-use Rattle.gc_texts.specs.Settlements.{lines_from, settlement_lines, ToldPart}
+use Rattle.gc_texts.specs.Settlements.{lines_from, settlement_lines, WrotePartOfSettlements}
 use Rattle.gc_ask.specs.declared.ask.Asking.{Asking}
 use Rattle.gc_ask.specs.declared.client_end.ClientEnd.{ClientEnd}
+use Rattle.gc_ask.specs.declared.link.Link.{Ghosts as Link}
 use Rattle.gc_ask.specs.declared.unheard.TheConstants.{ROOM}
-use Rattle.gc_ask.specs.Asking.{Written, LinkEnd, first_reply, asked, waiting_for, request_text, request_texts, lost_of, AsksAll, TellsPart, EndsWith, RunsText}
-use Rattle.gc_ask.specs.Links.{BothStep, TakesRequest}
+use Rattle.gc_ask.specs.Asking.{Written, LinkEnd, taken_by, first_reply, asked, waiting_for, request_text, request_texts, lost_of, AsksAll, WritesPart, EndsWith, RunsText}
+use Rattle.gc_ask.specs.Links.{BothStep, OnlyReads, TakesRequest, seen_at}
 use Rattle.gc_ask.specs.Looping.{BothEnd, SeenAtBoth, written_there}
 use Rattle.gc_texts.specs.WholeTexts.{Input}
 use Rattle.gc_texts.specs.declared.commands.Command.{Command}
 use Rattle.gc_texts.specs.declared.fault.RunFault.{RunFault}
 use Rattle.gc_texts.specs.declared.fault.RunFault.TheVariants.{Read, Write, TooManyReads, LinkClosed, Output}
+
+-- what is seen of this link and of this sink of the settlements, by the ghost members of their traits
+abbrev pub seen_through : {L K : Type 0} → Link L → L → Sink K → K → SeenAtBoth
+seen_through of_link link of_sink sink = seen_at (of_link.client link) (of_link.instrument link) (taken_by of_sink sink)
+
+-- how many reads of both ends of this link were answered
+abbrev pub reads_of : {L : Type 0} → Link L → L → ℕ
+reads_of of_link link = (of_link.client link).reads + (of_link.instrument link).reads
+
+-- one step, with this result, took both ends of a link from `old` to `new`
+abbrev pub LinkSteps : {L : Type 0} → Link L → (old new : L) → LinkEnd → Type 0
+LinkSteps of_link old new result = BothStep (of_link.client old) (of_link.client new) (of_link.instrument old) (of_link.instrument new) result
+
+-- what took a link from `old` to `new` only read its client's end
+abbrev pub LinkOnlyReads : {L : Type 0} → Link L → (old new : L) → Type 0
+LinkOnlyReads of_link old new =
+    OnlyReads (of_link.client old) (of_link.client new) (of_link.instrument old) (of_link.instrument new) (of_link.held old) (of_link.held new)
+
+-- from `old` to `new` nothing was read of a link, and nothing was written to it or to the sink
+abbrev pub TakesNothing : (old new : SeenAtBoth) → Type 0
+TakesNothing old new = (new.client ≡ old.client) × (new.instrument ≡ old.instrument) × (new.sink.bytes ≡ old.sink.bytes)
+
+-- from `old` to `new` nothing was read: what the assembler keeps, the bytes that aren't used yet and the number of reads left are the same
+abbrev pub HasReadNothing : (old new : Asking) → Type 0
+HasReadNothing old new = (new.end.assembler ≡ old.end.assembler) × (new.ahead ≡ old.ahead) × (new.reads ≡ old.reads)
 
 -- the lines that bytes complete, where a rest of a line came before them
 abbrev pub lines_behind : List ℕ → List ℕ → List (List ℕ)
@@ -49,8 +76,8 @@ pub record IsQuiet (rest bytes : List ℕ) (kept : Kept) (from to : ById Call) :
   pub stands : StandsFor kept (rest_behind rest bytes)
   pub same : to ≡ from
 
--- what a client's end has heard, and its state: the rest of a line, the bytes that came after that rest, those of them that it hasn't looked
--- at yet, what the assembler keeps, the client by its ids, and what its last reply settled
+-- what a client's end has heard, and its state: the rest of a line, the bytes that came after that rest, those of them that it
+-- hasn't looked at yet, what the assembler keeps, the client by its ids, and what its last reply settled
 pub record Heard : Type 0 where
   pub rest : List ℕ
   pub bytes : List ℕ
@@ -102,6 +129,12 @@ abbrev pub HearsReply : ById Call → Heard → Result (Unit {0}) RunFault → T
 HearsReply from hearing (Ok _) = Settles from hearing
 HearsReply from hearing (Err _) = (first_reply from (lines_behind hearing.rest hearing.bytes) ≡ None) × (hearing.client ≡ from)
 
+-- a client's end read for a reply, with this result: what the client's end of the link gave, and how that ended (`HearsReply`). `ahead`
+-- are the bytes that were read before and not used, and `ahead'` those that aren't used now
+abbrev pub HearsOver : (from to : ClientEnd) → (ahead ahead' : List ℕ) → (client_old client_new : Ports) → Result (Unit {0}) RunFault → Type 0
+HearsOver from to ahead ahead' client_old client_new result = Gives client_old client_new from.assembler (λ rest given.
+    HearsReply from.client.ids (heard_by to rest (ahead ++ given) ahead') result)
+
 -- why reading a source ended, with `after` reads left. Only with `LinkClosed` was the last read the end of the input; with
 -- `Read` the source failed; with `TooManyReads` no read was left
 abbrev pub ReadEnds : Input → Input → (after : ℕ) → Result (Unit {0}) RunFault → Type 0
@@ -125,14 +158,20 @@ Exchanges alone place command hearing old new (Err _) =
     × (alone ≡ true → first_reply (waiting_for place command) (lines_behind hearing.rest hearing.bytes) ≡ None)
     × (hearing.client ≡ waiting_for place command)
 
+-- the command at this place was sent over a link, and its reply waited for, with this result: what the client's end of the link gave, and
+-- how that ended (`Exchanges`). `old` and `new` are what asking keeps from one command to the next
+abbrev pub ExchangesCommand : (alone : Bool) → ℕ → Command → (old new : Asking) → (client_old client_new : Ports) → LinkEnd → Type 0
+ExchangesCommand alone place command old new client_old client_new result = Gives client_old client_new old.end.assembler (λ rest given.
+    Exchanges alone place command (heard_by new.end rest (old.ahead ++ given) new.ahead) client_old.taken client_new.taken result)
+
 -- the sink failed as it took the line of a settlement. Where the link had ended well (left case), that is the settlement by the
 -- reply; after a fault of the link (right case), the one that says the command is lost
-abbrev pub TellsOne : ℕ → Command → Heard → Written → (over : LinkEnd → Type 0) → Type 0
-TellsOne place command hearing w over =
+abbrev pub WritesOnePart : ℕ → Command → Heard → Written → (over : LinkEnd → Type 0) → Type 0
+WritesOnePart place command hearing w over =
     (over (Ok tt) × Appends w.link_old w.link_new (request_text place command)
-    × Settles (waiting_for place command) hearing × ToldPart place (map settlement_seen hearing.settled) w.sink_old w.sink_new)
+    × Settles (waiting_for place command) hearing × WrotePartOfSettlements place (map settlement_seen hearing.settled) w.sink_old w.sink_new)
     ⊎ ((fault : RunFault) × over (Err fault)
-    × ((part : ℕ) × Appends w.link_old w.link_new (take part (request_text place command)) × ToldPart place (lost_of command ∷ []) w.sink_old w.sink_new))
+    × ((part : ℕ) × Appends w.link_old w.link_new (take part (request_text place command)) × WrotePartOfSettlements place (lost_of command ∷ []) w.sink_old w.sink_new))
 
 -- a request was sent, its reply waited for, and its settlement written, by how that ended. `Ok`: a line settles it, and the
 -- sink took this settlement. `Write`: the request was cut, or the reply at the other end was. `Output`: the sink failed.
@@ -145,7 +184,7 @@ AsksOne alone place command hearing w over (Ok _) =
 AsksOne alone place command hearing w over (Err (Write count part)) =
     TakesRequest alone place (request_text place command) w.link_old w.link_new (Err (Write count part))
     × Appends w.sink_old w.sink_new (lines_from place (lost_of command ∷ []))
-AsksOne alone place command hearing w over (Err Output) = TellsOne place command hearing w over
+AsksOne alone place command hearing w over (Err Output) = WritesOnePart place command hearing w over
 AsksOne alone place command hearing w over (Err _) =
     Appends w.link_old w.link_new (request_text place command)
     × (alone ≡ true → first_reply (waiting_for place command) (lines_behind hearing.rest hearing.bytes) ≡ None)
@@ -170,7 +209,7 @@ pub record StopsAt (alone : Bool) (commands : List Command) (given : List ℕ) (
   pub settled : length (asked earlier given) ≡ length earlier
   pub none : alone ≡ true → asked commands given ≡ asked earlier given
   pub sent : Appends w.link_old w.link_new (all_of (request_texts 0 (earlier ++ command ∷ [])))
-  pub told : Appends w.sink_old w.sink_new (settlement_lines (asked earlier given ++ lost_of command ∷ []))
+  pub sink_took : Appends w.sink_old w.sink_new (settlement_lines (asked earlier given ++ lost_of command ∷ []))
 
 -- what came settles the commands `earlier`, `count` in number; a write of the request of `command`, or of its reply, was cut.
 -- Of that request the first `bytes` bytes were sent, or all, and it is lost; `later` weren't sent. The sink took the lines of
@@ -185,7 +224,7 @@ pub record IsCut (alone : Bool) (commands : List Command) (given : List ℕ) (w 
   pub bytes : ℕ
   pub cut : alone ≡ true → (bytes ≡ part) × (part < length (request_text count command))
   pub sent : Appends w.link_old w.link_new (all_of (request_texts 0 earlier) ++ take bytes (request_text count command))
-  pub told : Appends w.sink_old w.sink_new (settlement_lines (asked earlier given ++ lost_of command ∷ []))
+  pub sink_took : Appends w.sink_old w.sink_new (settlement_lines (asked earlier given ++ lost_of command ∷ []))
 
 -- how commands were asked over a link that gave these bytes, by how that ended; `alone` says whether somebody else answers at the other end
 abbrev pub AsksOn : (alone : Bool) → List Command → List ℕ → Written → (over : LinkEnd → Type 0) → LinkEnd → Type 0
@@ -194,7 +233,7 @@ AsksOn alone commands given w over (Err Read) = StopsAt alone commands given w
 AsksOn alone commands given w over (Err LinkClosed) = StopsAt alone commands given w
 AsksOn alone commands given w over (Err TooManyReads) = StopsAt alone commands given w
 AsksOn alone commands given w over (Err (Write count part)) = IsCut alone commands given w count part
-AsksOn alone commands given w over (Err Output) = TellsPart commands given w over
+AsksOn alone commands given w over (Err Output) = WritesPart commands given w over
 AsksOn alone commands given w over (Err _) = ⊥
 
 -- commands were asked over a link, in at most `most` reads of both its ends, with this result

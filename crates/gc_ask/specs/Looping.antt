@@ -11,7 +11,7 @@ use Rattle.gc_texts.specs.declared.fault.RunFault.{RunFault}
 use Rattle.gc_texts.specs.declared.fault.RunFault.TheVariants.{Read, Write, TooManyReads, LinkClosed, Output, Socket}
 use Rattle.gc_texts.specs.WholeTexts.{Input}
 use Rattle.gc_ask.specs.declared.looped.Duplex.{Duplex}
-use Rattle.gc_ask.specs.Asking.{asked, lost_of, taken_by, request_text, request_texts, Taken, Written, LinkEnd, AsksAll, TellsPart, LinkEnds, EndsWith, RunsText}
+use Rattle.gc_ask.specs.Asking.{asked, lost_of, taken_by, request_text, request_texts, Taken, Written, LinkEnd, AsksAll, WritesPart, LinkEnds, EndsWith, RunsText}
 
 -- what came settles the commands `earlier`; `command` was sent, and is lost; `later` weren't sent. The sink took the lines of
 -- these settlements
@@ -22,7 +22,7 @@ pub record LoopsUpTo (commands : List Command) (given : List ℕ) (w : Written) 
   pub order : commands ≡ earlier ++ command ∷ later
   pub settled : length (asked earlier given) ≡ length earlier
   pub sent : Appends w.link_old w.link_new (all_of (request_texts 0 (earlier ++ command ∷ [])))
-  pub told : Appends w.sink_old w.sink_new (settlement_lines (asked earlier given ++ lost_of command ∷ []))
+  pub sink_took : Appends w.sink_old w.sink_new (settlement_lines (asked earlier given ++ lost_of command ∷ []))
 
 -- what came settles the commands `earlier`, `count` in number; a write of the request of `command`, or of its reply, was cut.
 -- Of that request the first `bytes` bytes were sent, or all, and it is lost; `later` weren't sent. The sink took the lines of
@@ -36,7 +36,7 @@ pub record LoopsPart (commands : List Command) (given : List ℕ) (w : Written) 
   pub settled : length (asked earlier given) ≡ length earlier
   pub bytes : ℕ
   pub sent : Appends w.link_old w.link_new (all_of (request_texts 0 earlier) ++ take bytes (request_text count command))
-  pub told : Appends w.sink_old w.sink_new (settlement_lines (asked earlier given ++ lost_of command ∷ []))
+  pub sink_took : Appends w.sink_old w.sink_new (settlement_lines (asked earlier given ++ lost_of command ∷ []))
 
 -- what was asked over a link whose client's end gave these bytes, by how asking ended
 abbrev pub Loops : List Command → List ℕ → Written → (over : LinkEnd → Type 0) → LinkEnd → Type 0
@@ -45,10 +45,11 @@ Loops commands given w over (Err Read) = LoopsUpTo commands given w
 Loops commands given w over (Err LinkClosed) = LoopsUpTo commands given w
 Loops commands given w over (Err TooManyReads) = LoopsUpTo commands given w
 Loops commands given w over (Err (Write count _)) = LoopsPart commands given w count
-Loops commands given w over (Err Output) = TellsPart commands given w over
+Loops commands given w over (Err Output) = WritesPart commands given w over
 Loops commands given w over (Err _) = ⊥
 
--- the ports of both ends of a link, by how asking ended: one end has the reason, and the other ended well
+-- the ports of both ends of a link, by the result of asking over it. At one end they are as `LinkEnds` says for this result, so a fault is
+-- a fault of that end; at the other end they are as it says for `Ok`
 abbrev pub BothEnd : (client_old client_new instrument_old instrument_new : Ports) → Result (Unit {0}) RunFault → Type 0
 BothEnd client_old client_new instrument_old instrument_new result =
     (LinkEnds client_old client_new result × LinkEnds instrument_old instrument_new (Ok tt))
@@ -60,7 +61,8 @@ pub record SeenAtBoth : Type 0 where
   pub instrument : Ports
   pub sink : Taken
 
--- what is seen of these ports and this sink, by the ghost members of their traits
+-- what is seen of the client's source and sink (a and b), the instrument's source and sink (c and d), and the sink of the settlements
+-- (k), by the ghost members of their traits
 abbrev pub seen_of : {A B C D K : Type 0} → Source A → A → Sink B → B → Source C → C → Sink D → D → Sink K → K → SeenAtBoth
 seen_of of_a a of_b b of_c c of_d d of_k k =
     record { client = ports_of of_a a of_b b; instrument = ports_of of_c c of_d d; sink = taken_by of_k k }
@@ -69,7 +71,7 @@ seen_of of_a a of_b b of_c c of_d d of_k k =
 abbrev pub seen_over : {A B C D K : Type 0} → Source A → Sink B → Duplex A B → Source C → Sink D → Duplex C D → Sink K → K → SeenAtBoth
 seen_over of_a of_b client of_c of_d instrument of_k k = seen_of of_a client.source of_b client.sink of_c instrument.source of_d instrument.sink of_k k
 
--- nothing was read of a link, sent or written
+-- from `old` to `new` nothing was read of either end of a link, and nothing was written to either end or to the sink
 abbrev pub IsUnused : SeenAtBoth → SeenAtBoth → Type 0
 IsUnused old new =
     (new.client.remaining ≡ old.client.remaining) × (new.client.reads ≡ old.client.reads)

@@ -1,5 +1,5 @@
 -- The fault of a place over which no connection can be had: this project's own.
-use Rattle.std.specs.Prelude.{Option, Some, None}
+use Rattle.std.specs.Prelude.{◌≡◌, Option, Some, None}
 use Rattle.gc_links.specs.declared.device.Unusable.{Unusable}
 use Rattle.gc_links.specs.declared.device.Unusable.TheVariants as unusable
 use Rattle.gc_texts.specs.declared.fault.RunFault.{RunFault}
@@ -11,3 +11,7 @@ fault_of_reason (Some unusable.NoTerminal) = fault.NoTerminal
 fault_of_reason (Some unusable.Held) = fault.Held
 fault_of_reason (Some unusable.Forbidden) = fault.Forbidden
 fault_of_reason None = fault.Socket
+
+-- the fault is that of a device that is there and can't be used, for some reason
+abbrev pub IsFaultOfDevice : RunFault → Type 0
+IsFaultOfDevice fault = (unusable : Unusable) × (fault ≡ fault_of_reason (Some unusable))

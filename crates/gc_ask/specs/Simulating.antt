@@ -9,11 +9,11 @@ use Rattle.gc_scenes.specs.SceneServing.{IsSceneServing}
 use Rattle.gc_scenes.specs.SceneState.{SceneState, scene_restarted}
 use Rattle.gc_scenes.specs.Slow.{SlowState, HearsSometime, slow_restarted}
 
--- the restarted instrument served
+-- a caller was served with an instrument of the table, restarted from the state `before`, as `IsServing` has it
 abbrev pub ServesAnew : State → State → Ports → Ports → ℕ → Result Served ServeFault → Type 0
 ServesAnew before after old new most end = IsServing (restarted before) after old new most end
 
--- the restarted instrument of a scene served
+-- a caller was served with the instrument of a scene with rules, restarted from the state `before`, as `IsSceneServing` has it
 abbrev pub ServesSceneAnew : SceneState → SceneState → Ports → Ports → ℕ → Result Served ServeFault → Type 0
 ServesSceneAnew before after old new most end = IsSceneServing (scene_restarted before) after old new most end
 
@@ -23,6 +23,6 @@ pub record IsSlowServing (from to : SlowState) (old new : Ports) (most : ℕ) (r
   pub serves : AnswersGiven HearsSometime from to old new result
   pub ended : HasEnded old new most result
 
--- the restarted instrument served, whose replies take time
+-- a caller was served with an instrument whose replies take time, restarted from the state `before`, as `IsSlowServing` has it
 abbrev pub ServesSlowAnew : SlowState → SlowState → Ports → Ports → ℕ → Result Served ServeFault → Type 0
 ServesSlowAnew before after old new most end = IsSlowServing (slow_restarted before) after old new most end

@@ -14,7 +14,7 @@ pub enum Address<'a> {
 }
 
 impl<'a> Address<'a> {
-    /// Listens there.
+    /// Binds the address and listens at it. `Err`: that failed.
     pub(crate) fn listen<R: Net<Listener = TcpListener, Stream = TcpStream>>(
         self,
         rt: &R,

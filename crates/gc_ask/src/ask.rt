@@ -1,14 +1,12 @@
 //! Asking: each command of a text is sent over a link, once the one before it is settled, and each settlement is written.
 //! The place of a command, and of its request, is its number in the text, counted from 0.
 
-ghost use Rattle.std.specs.Prelude.{◌≡◌, ◌+◌, ◌*◌, ◌-◌, ◌≤◌, ◌++◌, [], ℕ, List, length, Err};
-ghost use Rattle.std.specs.Io.KnownBytes.{Consumes};
+ghost use Rattle.std.specs.Prelude.{◌≡◌, ◌+◌, ◌≤◌, [], ℕ, List, Err};
 ghost use Rattle.gc_lines.specs.Assembler.{StandsFor};
 ghost use Rattle.gc_lines.specs.Lines.{with_end};
 ghost use Rattle.gc_ask.specs.AskRuns.{AskRuns, seen_of_link};
-ghost use Rattle.gc_ask.specs.Asking.{EndsWith, idle, request_text, taken_by, waiting_for};
-ghost use Rattle.gc_ask.specs.Links.{BothStep, seen_at};
-ghost use Rattle.gc_ask.specs.Listening.{AsksAt, AsksCommand, Exchanges, RunsAt, Gives, heard_by};
+ghost use Rattle.gc_ask.specs.Asking.{EndsWith, idle, request_text, waiting_for};
+ghost use Rattle.gc_ask.specs.Listening.{AsksAt, AsksCommand, ExchangesCommand, HasReadNothing, LinkSteps, RunsAt, TakesNothing, reads_of, seen_through};
 ghost use Rattle.gc_texts.specs.declared.fault.RunFault.{RunFault};
 ghost use Rattle.gc_texts.specs.declared.text.TheConstants.{TEXT_LIMIT};
 ghost use Rattle.gc_texts.specs.WholeTexts.{input_of};
@@ -20,7 +18,7 @@ use gc_lines::{Line, Sink, Source};
 use gc_texts::{Command, RunFault, read_command_text, write_settlements};
 use std::alloc::Global;
 
-// What asking keeps from one command to the next.
+// What is kept from one command to the next while commands are asked.
 #[derive(Drop)]
 pub(crate) struct Asking {
     // The client with its assembler.
@@ -46,13 +44,13 @@ impl Asking {
         }
     }
 
-    // Makes the request of the command at this place, for whose reply the client then waits, without a deadline. No other request
-    // waits, so the client doesn't refuse this one.
+    // Returns the request line of the command at this place, for whose reply the client then waits, without a deadline. No other
+    // request waits, so the client doesn't refuse this one.
     fn request(&mut self, place: usize, command: &Command) -> Line
         requires { self.old.end.client.ids ≡ idle place }
         ensures text { with_end result.items ≡ request_text place command.now }
         ensures client { self.new.end.client.ids ≡ waiting_for place command.now }
-        ensures same { (self.new.end.assembler ≡ self.old.end.assembler) × (self.new.ahead ≡ self.old.ahead) × (self.new.reads ≡ self.old.reads) }
+        ensures same { HasReadNothing self.old self.new }
     {
         let mut line = Line::new();
         let Ok(()) = self
@@ -65,7 +63,7 @@ impl Asking {
         line
     }
 
-    // Sends the command at this place, and waits until it is settled, or the link has a fault.
+    // Sends the command at this place, and waits until it is settled, or the link has a fault, which is returned.
     fn exchange<L: Link>(
         &mut self,
         place: usize,
@@ -73,11 +71,10 @@ impl Asking {
         link: &mut L,
     ) -> Result<(), RunFault>
         requires { self.old.end.client.ids ≡ idle place }
-        ensures exchanges { Gives (L.client link.old) (L.client link.new) self.old.end.assembler (λ rest given.
-            Exchanges L.alone place command.now (heard_by self.new.end rest (self.old.ahead ++ given) self.new.ahead) (L.client link.old).taken (L.client link.new).taken result) }
-        ensures ends { BothStep (L.client link.old) (L.client link.new) (L.instrument link.old) (L.instrument link.new) result }
+        ensures exchanges { ExchangesCommand L.alone place command.now self.old self.new (L.client link.old) (L.client link.new) result }
+        ensures ends { LinkSteps L.Link link.old link.new result }
         ensures grows { (L.client link.old).reads ≤ (L.client link.new).reads }
-        ensures reads { (L.client link.new).reads + (L.instrument link.new).reads + self.new.reads ≡ (L.client link.old).reads + (L.instrument link.old).reads + self.old.reads }
+        ensures reads { reads_of L.Link link.new + self.new.reads ≡ reads_of L.Link link.old + self.old.reads }
         ensures too_many { result ≡ Err RunFault.TooManyReads → self.new.reads ≡ 0 }
         ensures held { L.held link.new ≡ L.held link.old }
     {
@@ -89,7 +86,7 @@ impl Asking {
     }
 
     // Asks the command at this place, and writes the line of its settlement. After a fault of the link the command is lost, and
-    // that is written, too.
+    // that is written, too. `Err`: the fault of the link, or `Output` if the sink failed.
     fn ask<L: Link, K: Sink>(
         &mut self,
         place: usize,
@@ -100,13 +97,12 @@ impl Asking {
         requires idle { self.old.end.client.ids ≡ idle place }
         requires stands { (rest : List ℕ) × StandsFor self.old.end.assembler rest }
         ensures asks { AsksCommand L.alone place command.now self.old self.new
-            (seen_at (L.client link.old) (L.instrument link.old) (taken_by K.Sink sink.old))
-            (seen_at (L.client link.new) (L.instrument link.new) (taken_by K.Sink sink.new))
+            (seen_through L.Link link.old K.Sink sink.old)
+            (seen_through L.Link link.new K.Sink sink.new)
             result }
-        ensures ends { EndsWith (BothStep (L.client link.old) (L.client link.new) (L.instrument link.old) (L.instrument link.new))
-            (K.failed sink.old) (K.failed sink.new) result }
+        ensures ends { EndsWith (LinkSteps L.Link link.old link.new) (K.failed sink.old) (K.failed sink.new) result }
         ensures grows { (L.client link.old).reads ≤ (L.client link.new).reads }
-        ensures reads { (L.client link.new).reads + (L.instrument link.new).reads + self.new.reads ≡ (L.client link.old).reads + (L.instrument link.old).reads + self.old.reads }
+        ensures reads { reads_of L.Link link.new + self.new.reads ≡ reads_of L.Link link.old + self.old.reads }
         ensures too_many { result ≡ Err RunFault.TooManyReads → self.new.reads ≡ 0 }
         ensures held { L.held link.new ≡ L.held link.old }
     {
@@ -166,8 +162,8 @@ pub fn run_ask<S: Source, I: Source, O: Sink, K: Sink>(
     run_over(alloc, commands, &mut link, sink, max_reads)
 }
 
-/// Reads the whole command text of a source, and asks its commands over any link, in at most `max_reads` reads of its ends. The
-/// faults come as `run_ask` says.
+/// Reads the whole command text of a source, and asks its commands over any link, in at most `max_reads` reads of the link's two
+/// ends together. The faults come as `run_ask` says.
 pub(crate) fn run_over<S: Source, L: Link, K: Sink>(
     alloc: Global,
     commands: &mut S,
@@ -176,17 +172,17 @@ pub(crate) fn run_over<S: Source, L: Link, K: Sink>(
     max_reads: u32,
 ) -> Result<(), RunFault>
     ensures asks { RunsAt L.alone (input_of S.Source commands.old) (input_of S.Source commands.new) max_reads
-        (seen_at (L.client link.old) (L.instrument link.old) (taken_by K.Sink sink.old))
-        (seen_at (L.client link.new) (L.instrument link.new) (taken_by K.Sink sink.new))
+        (seen_through L.Link link.old K.Sink sink.old)
+        (seen_through L.Link link.new K.Sink sink.new)
         result }
     ensures bounded { S.reads commands.new ≤ S.reads commands.old + (TEXT_LIMIT + 1) }
 
     // Where memory was refused, nothing was read of the link, sent or written.
     ensures memory { result ≡ Err RunFault.Memory
-        → (L.client link.new ≡ L.client link.old) × (L.instrument link.new ≡ L.instrument link.old) × (K.taken sink.new ≡ K.taken sink.old) }
-    ensures bound { (L.client link.new).reads + (L.instrument link.new).reads ≤ (L.client link.old).reads + (L.instrument link.old).reads + max_reads }
+        → TakesNothing (seen_through L.Link link.old K.Sink sink.old) (seen_through L.Link link.new K.Sink sink.new) }
+    ensures bound { reads_of L.Link link.new ≤ reads_of L.Link link.old + max_reads }
     ensures too_many { result ≡ Err RunFault.TooManyReads
-        → (L.client link.new).reads + (L.instrument link.new).reads ≡ (L.client link.old).reads + (L.instrument link.old).reads + max_reads }
+        → reads_of L.Link link.new ≡ reads_of L.Link link.old + max_reads }
     ensures held { L.held link.new ≡ L.held link.old }
 {
     let commands = match read_command_text(alloc, commands) {
@@ -197,7 +193,7 @@ pub(crate) fn run_over<S: Source, L: Link, K: Sink>(
 }
 
 /// Asks commands in order, in at most `max_reads` reads of the link's two ends together. It ends at the first fault of the link
-/// or of the sink.
+/// or of the sink, which comes as `run_ask` says.
 pub(crate) fn ask_all<L: Link, K: Sink>(
     commands: &[Command],
     link: &mut L,
@@ -206,8 +202,8 @@ pub(crate) fn ask_all<L: Link, K: Sink>(
 ) -> Result<(), RunFault>
     // What the link gave, what the link and the sink took, why the asking ended, and which ports have failed.
     ensures asks { AsksAt L.alone commands.now max_reads
-        (seen_at (L.client link.old) (L.instrument link.old) (taken_by K.Sink sink.old))
-        (seen_at (L.client link.new) (L.instrument link.new) (taken_by K.Sink sink.new))
+        (seen_through L.Link link.old K.Sink sink.old)
+        (seen_through L.Link link.new K.Sink sink.new)
         result }
     ensures held { L.held link.new ≡ L.held link.old }
 {

@@ -11,9 +11,9 @@ use std::{io, thread};
 
 /// The clock of an instrument whose replies take time. Its moments are milliseconds since it was made.
 ///
-/// The instrument notes until when it is busy. The writing end of a connection waits until then. If what arrives meanwhile
-/// is to be dropped, the writing end first reads it in, and the reading end passes it on as early. The reading end notes
-/// when bytes came.
+/// The instrument records here until when it is busy, and the writing end of a connection waits until then. The reading end
+/// records when bytes came. If what arrives while the instrument is busy is to be dropped, the writing end reads it after the
+/// wait, and the reading end hands it on with a moment at which the instrument was still busy.
 #[derive(Drop)]
 pub struct BusyClock {
     start: Instant,
@@ -37,7 +37,7 @@ struct Early {
 }
 
 impl BusyClock {
-    /// A clock that starts now. It fails where the system's can't be read.
+    /// A clock that starts now. `drops`: what comes while the instrument is busy is dropped. `Err`: the system's clock can't be read.
     pub fn new<R: Clock>(rt: &R, drops: bool) -> io::Result<BusyClock> {
         let early = Early {
             bytes: ArrayVec::new(),
@@ -53,7 +53,7 @@ impl BusyClock {
         })
     }
 
-    /// A new connection begins: nothing came over it yet, and no reply waits.
+    /// Prepares for a new connection: no reply waits, and the bytes that came early over the last one are discarded.
     pub(crate) fn begin(&self) {
         self.waits.set(false);
         if let Ok(mut early) = self.early.try_borrow_mut() {
@@ -71,18 +71,18 @@ impl BusyClock {
         self.came.get()
     }
 
-    /// Notes that bytes came just now. Where the clock can't be read, they came when the last ones did.
+    /// Records that bytes came just now. If the system's clock can't be read, the moment of the bytes before them is kept.
     pub(crate) fn note_now<R: Clock>(&self, rt: &R) {
         self.came.set(self.now(rt));
     }
 
-    /// Notes that the instrument is busy until this moment: its reply waits until then.
+    /// Records that the instrument is busy until this moment, and that its reply has to wait until then.
     pub(crate) fn note_busy(&self, until: u64) {
         self.until.set(until);
         self.waits.set(true);
     }
 
-    /// Waits until the instrument is free, where a reply has to wait, and says whether it had to.
+    /// Sleeps until the instrument is free, if a reply still has to wait for that. Returns whether it slept.
     pub(crate) fn wait<R: Clock>(&self, rt: &R) -> bool {
         let now = self.now(rt);
         let until = self.until.get();
@@ -94,15 +94,15 @@ impl BusyClock {
         true
     }
 
-    /// Keeps bytes that came while the instrument was busy.
+    /// Stores bytes that came while the instrument was busy, as far as there is room.
     pub(crate) fn keep_early(&self, bytes: &[u8]) {
         if let Ok(mut early) = self.early.try_borrow_mut() {
             keep(&mut early, bytes);
         }
     }
 
-    /// Copies bytes that came while the instrument was busy into `buf`, notes that they came before it was free again, and returns
-    /// how many they are.
+    /// Moves bytes that came while the instrument was busy into `buf`, and returns how many. They count as having come a millisecond
+    /// before it was free again.
     pub(crate) fn take_early(&self, buf: &mut [u8]) -> usize
         ensures { result ≤ length buf.new }
     {
@@ -116,7 +116,8 @@ impl BusyClock {
         n
     }
 
-    // The moment now, never before the last bytes came.
+    // The moment now, in milliseconds since the clock was made. It is never before the moment at which the last bytes came, and it is
+    // that moment if the system's clock can't be read.
     fn now<R: Clock>(&self, rt: &R) -> u64 {
         let last = self.came.get();
         match self.start.elapsed(rt) {
@@ -128,7 +129,7 @@ impl BusyClock {
     }
 }
 
-// Takes all bytes away.
+// Discards all bytes.
 fn empty(early: &mut Early) {
     early.bytes.clear();
     early.taken = 0;

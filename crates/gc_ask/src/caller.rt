@@ -16,10 +16,10 @@ use std::io::{self, ErrorKind, Read, Write};
 use std::net::TcpStream;
 use std::time::{Clock, Duration};
 
-// How often one read is tried again where it was interrupted.
-const MOST_INTERRUPTIONS: u32 = 1000;
+// The most tries of one read: it is tried again each time that it was interrupted.
+const MOST_TRIES: u32 = 1000;
 
-/// The end of a connection that an instrument reads.
+/// The instrument's end of a connection, which it reads and writes.
 #[derive(Drop)]
 pub(crate) enum End<'a, R> {
     /// Over TCP, and how long a read may wait; `None`: without end.
@@ -29,7 +29,7 @@ pub(crate) enum End<'a, R> {
 }
 
 impl<'a, R: Clock> End<'a, R> {
-    // Reads what comes within a millisecond or so. `None`: nothing does.
+    // Reads what comes within about a millisecond. `None`: nothing came.
     fn read_soon(&self, buf: &mut [u8]) -> io::Result<Option<usize>>
         ensures { IfOk result (λ read. IfSome read (λ n. n ≤ length buf.new)) }
     {
@@ -49,7 +49,8 @@ impl<'a, R: Clock> End<'a, R> {
         }
     }
 
-    // Reads the connection, and notes when bytes came. What came while the instrument was busy comes first.
+    // Reads the connection, and records in the clock when bytes came. Bytes that came while the instrument was busy are handed out
+    // first.
     fn read_noted(&self, rt: &R, clock: &BusyClock, buf: &mut [u8]) -> io::Result<usize>
         ensures { IfOk result (λ n. n ≤ length buf.new) }
     {
@@ -72,7 +73,7 @@ impl<'a, R: Clock> End<'a, R> {
         }
     }
 
-    // Takes in what has come while the instrument was busy. 32 reads of 256 bytes are as much as `BusyClock` has room for.
+    // Moves into the clock what has come while the instrument was busy. 32 reads of 256 bytes are as much as it has room for.
     fn take_in(&self, clock: &BusyClock) {
         let mut buf = [0u8; 256];
         for _ in 0..32 {
@@ -86,25 +87,27 @@ impl<'a, R: Clock> End<'a, R> {
 
 /// The writing end of a connection. A reply of an instrument whose replies take time waits here until it is to be sent.
 #[derive(Drop)]
-pub(crate) struct Reply<'a, R> {
+pub(crate) struct ReplyWriter<'a, R> {
     rt: &'a R,
     end: &'a End<'a, R>,
     clock: Option<&'a BusyClock>,
 }
 
-impl<'a, R: Clock> Reply<'a, R> {
-    /// The writing end of a connection.
+impl<'a, R: Clock> ReplyWriter<'a, R> {
+    /// The writing end of a connection. `clock` is the clock of an instrument whose replies take time. Without one no reply waits.
     pub(crate) fn new(
         rt: &'a R,
         end: &'a End<'a, R>,
         clock: Option<&'a BusyClock>,
-    ) -> Reply<'a, R> {
-        Reply { rt, end, clock }
+    ) -> ReplyWriter<'a, R> {
+        ReplyWriter { rt, end, clock }
     }
 }
 
 // Each write is sent at once, so there is nothing to flush.
-impl<'a, R: Clock> Write for Reply<'a, R> {
+impl<'a, R: Clock> Write for ReplyWriter<'a, R> {
+    // Waits until the instrument is free, if it is busy, and writes. What came during the wait is moved into the clock if it is to
+    // be dropped.
     fn write(&mut self, buf: &[u8]) -> io::Result<usize> {
         if let Some(clock) = self.clock {
             if clock.wait(self.rt) && clock.drops() {
@@ -119,8 +122,8 @@ impl<'a, R: Clock> Write for Reply<'a, R> {
     }
 }
 
-/// The reading end of a connection. It notes whether the last read that failed had timed out, and for an instrument whose replies take
-/// time when bytes came.
+/// The reading end of a connection. It stores whether the last read that failed had timed out, and for an instrument whose replies take
+/// time it records when bytes came.
 #[derive(Drop)]
 pub(crate) struct Caller<'a, R> {
     rt: &'a R,
@@ -135,7 +138,8 @@ pub(crate) struct Caller<'a, R> {
 }
 
 impl<'a, R: Clock> Caller<'a, R> {
-    /// The reading end of a connection that has its time-outs already. Nothing was read of it yet.
+    /// The reading end of a connection that has its time-outs already, and of which nothing was read yet. `clock` is the clock of an
+    /// instrument whose replies take time: it is prepared for this connection.
     pub(crate) fn new(
         rt: &'a R,
         end: &'a End<'a, R>,
@@ -161,8 +165,8 @@ impl<'a, R: Clock> Caller<'a, R> {
     }
 }
 
-// Bytes that come over a connection are not known. It fails as `FromReader` does, at the first error and at the read after 2^64 - 1
-// answered ones.
+// `remaining` is `None`: which bytes will come over a connection isn't known. A read fails as one of `FromReader` does: at the first
+// error, and once 2^64 - 1 reads were answered.
 impl<'a, R: Clock> Source for Caller<'a, R> {
     ghost use Rattle.std.specs.Prelude.{None};
 
@@ -199,7 +203,7 @@ impl<'a, R: Clock> Source for Caller<'a, R> {
     }
 }
 
-// Reads a connection, and notes when bytes came, where there is a clock.
+// Reads a connection, and if there is a clock records in it when bytes came.
 fn read_end<R: Clock>(
     rt: &R,
     end: &End<'_, R>,
@@ -214,13 +218,13 @@ fn read_end<R: Clock>(
     }
 }
 
-// Reads a connection over TCP. A read that is interrupted is made again, at most `MOST_INTERRUPTIONS` times in all: the system
-// interrupts a read with a time-out where the program was stopped and goes on.
+// Reads a connection over TCP. A read that is interrupted is made again, up to `MOST_TRIES` times in all; after that the error is
+// `Interrupted`. The system interrupts a read with a time-out where the program was stopped and goes on.
 fn read_stream(stream: &TcpStream, buf: &mut [u8]) -> io::Result<usize>
     ensures { IfOk result (λ n. n ≤ length buf.new) }
 {
     let mut stream = stream;
-    for _ in 0..MOST_INTERRUPTIONS {
+    for _ in 0..MOST_TRIES {
         match stream.read(buf) {
             Ok(n) => return Ok(n),
             Err(error) if error.kind() == ErrorKind::Interrupted => {}

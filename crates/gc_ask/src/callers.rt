@@ -3,7 +3,7 @@
 
 ghost use Rattle.std.specs.Prelude.{◌≡◌, [], ◌∷◌, true, OnOk};
 ghost use Rattle.std.specs.Io.KnownBytes.{Appends};
-ghost use Rattle.gc_ask.specs.Keeping.{Grows, Kept, caller_line, told_of};
+ghost use Rattle.gc_ask.specs.Keeping.{Grows, Kept, caller_line, end_line};
 
 use gc_lines::{READ_FAILED, READS_SPENT, WRITE_FAILED};
 use gc_texts::RunFault;
@@ -61,7 +61,7 @@ pub trait Callers {
     /// How the connections of those who were served ended, in their order, where that is known.
     ghost served: { Self → Option (List End) };
 
-    /// Waits for the next caller, and serves the connection to its end, or to a fault.
+    /// Waits for the next caller, and serves the connection to its end. `Err`: a fault came before that.
     fn serve_next(&mut self) -> Result<(), CallerFault>
         ensures { Grows (served self.old) (served self.new) (result ∷ []) };
 }
@@ -73,29 +73,29 @@ pub fn keep<C: Callers, E: Write>(callers: &mut C, most: u64, messages: &mut E) 
     // `most` callers were served, whatever became of each. Where all lines were written, the messages grew by them alone.
     ensures kept { Kept most result (C.served callers.old) (C.served callers.new) (E.contents messages.old) (E.contents messages.new) }
 {
-    let mut told = true;
+    let mut all_written = true;
     for at in 0..most {
         let end = callers.serve_next();
-        told = tell_end(end, at + 1, told, messages);
+        all_written = tell_end(end, at + 1, all_written, messages);
     }
-    told
+    all_written
 }
 
-// Writes the line of the fault if the connection with this number ended with one. `told` says whether all earlier lines were
-// written. Returns whether all lines were, this one included.
+// Writes the line of the fault if the connection with this number ended with one. `all_written` says whether all earlier lines
+// were written. Returns whether all lines were, this one included.
 fn tell_end<E: Write>(
     end: Result<(), CallerFault>,
     number: u64,
-    told: bool,
+    all_written: bool,
     messages: &mut E,
 ) -> bool
-    ensures { result ≡ true → (told ≡ true)
-        × Appends (E.contents messages.old) (E.contents messages.new) (told_of number end) }
+    ensures { result ≡ true → (all_written ≡ true)
+        × Appends (E.contents messages.old) (E.contents messages.new) (end_line number end) }
 {
     match end {
-        Ok(()) => told,
+        Ok(()) => all_written,
         Err(fault) => match fault.tell(number, messages) {
-            Ok(()) => told,
+            Ok(()) => all_written,
             Err(_) => false,
         },
     }

@@ -1,13 +1,12 @@
 //! The client's end of a link: the client, and the assembler that gives it the lines that come.
 
-ghost use Rattle.std.specs.Prelude.{◌≡◌, ◌+◌, ◌-◌, ◌*◌, ◌≤◌, ℕ, [], ◌++◌, List, length, IfSome};
-ghost use Rattle.std.specs.Io.KnownBytes.{Consumes};
+ghost use Rattle.std.specs.Prelude.{◌≡◌, ◌+◌, ◌≤◌, ℕ, [], List, length, IfSome};
 ghost use Rattle.gc_lines.specs.Assembler.{StandsFor};
 ghost use Rattle.gc_lines.specs.Frames.{line_in};
 ghost use Rattle.gc_lines.specs.Lent.{lent_seen, IsLineWithin};
 ghost use Rattle.gc_ask.specs.Asking.{idle};
-ghost use Rattle.gc_ask.specs.Listening.{TakesFrame, Listens, left_by, HearsReply, ReadEnds, Gives, heard_by};
-ghost use Rattle.gc_ask.specs.Links.{OnlyReads, source_of};
+ghost use Rattle.gc_ask.specs.Listening.{TakesFrame, Listens, left_by, HearsOver, LinkOnlyReads, ReadEnds, heard_by};
+ghost use Rattle.gc_ask.specs.Links.{source_of};
 
 use crate::link::Link;
 use crate::unheard::Unheard;
@@ -71,20 +70,20 @@ impl ClientEnd {
         None
     }
 
-    // Reads a link, at most `reads` times, until a line settles a request that waits. Bytes after that line stay in `ahead`
-    // for the next request. The faults are `TooManyReads`, `Read` and `LinkClosed`, as `run_ask` has them.
+    // Reads a link, at most `reads` times, until a line settles a request that waits, and subtracts from `reads` the reads made.
+    // Bytes after that line stay in `ahead` for the next request. The faults are `TooManyReads`, `Read` and `LinkClosed`, as
+    // `run_ask` has them.
     pub(crate) fn hear_reply<L: Link>(
         &mut self,
         link: &mut L,
         ahead: &mut Unheard,
         reads: &mut u32,
     ) -> Result<(), RunFault>
-        ensures hears { Gives (L.client link.old) (L.client link.new) self.old.assembler (λ rest given.
-            HearsReply self.old.client.ids (heard_by self.new rest (ahead.old ++ given) ahead.new) result) }
+        ensures hears { HearsOver self.old self.new ahead.old ahead.new (L.client link.old) (L.client link.new) result }
         ensures grows { (L.client link.old).reads ≤ (L.client link.new).reads }
         ensures reads { (L.client link.new).reads + reads.new ≡ (L.client link.old).reads + reads.old }
         ensures ends { ReadEnds (source_of (L.client link.old)) (source_of (L.client link.new)) reads.new result }
-        ensures only { OnlyReads (L.client link.old) (L.client link.new) (L.instrument link.old) (L.instrument link.new) (L.held link.old) (L.held link.new) }
+        ensures only { LinkOnlyReads L.Link link.old link.new }
     {
         let mut cut = Line::new();
         loop {

@@ -16,7 +16,7 @@ ghost use Rattle.gc_texts.specs.declared.fault.RunFault.{RunFault};
 use crate::address::Address;
 use crate::ask::ask_all;
 use crate::busy_clock::BusyClock;
-use crate::caller::{Caller, End, Reply};
+use crate::caller::{Caller, End, ReplyWriter};
 use crate::instrument_end::InstrumentEnd;
 use crate::link::Alone;
 use crate::looped::Loop;
@@ -73,7 +73,8 @@ pub fn loop_tcp_on<
     )
 }
 
-// Asks commands over a connection that was just made, at whose far end an instrument answers.
+// Asks commands over a connection that was just made: `near` is the client's end, and at `far` the instrument answers. At most `max_reads`
+// reads of both ends are made, and the faults are those of `ask_all`.
 fn loop_over<K: Sink, T: Answers + Drop>(
     commands: &[Command],
     instrument: T,
@@ -99,7 +100,7 @@ fn loop_over<K: Sink, T: Answers + Drop>(
     ask_all(commands, &mut link, sink, max_reads)
 }
 
-/// Does as `loop_tcp_on` does, with the simulator as the instrument. The results are the same.
+/// Asks the commands of a source as `loop_tcp_on` does, with the simulator as the instrument. The results are the same.
 pub fn loop_tcp<R: Net<Listener = TcpListener, Stream = TcpStream>, S: Source, K: Sink>(
     rt: &R,
     alloc: Global,
@@ -143,7 +144,8 @@ pub fn serve_tcp<R: Net<Listener = TcpListener, Stream = TcpStream> + Clock, I: 
 }
 
 /// Accepts `connections` connections of a port one after the other, and serves each with the instrument, which is restarted for
-/// it, in at most `max_reads` reads. Further callers wait in the system's queue.
+/// it, in at most `max_reads` reads. `clock` is the clock of an instrument whose replies take time. Further callers wait in the
+/// system's queue.
 ///
 /// `Socket` comes where an accept failed. A fault of a connection ends the call with it: `Read`, `Write` and `TooManyReads` as
 /// `serve` has them.
@@ -165,7 +167,7 @@ pub fn serve_on<R: Clock, I: Simulates>(
         serve_connection(
             instrument,
             &mut Caller::new(rt, &end, clock),
-            &mut ToWriter::new(Reply::new(rt, &end, clock)),
+            &mut ToWriter::new(ReplyWriter::new(rt, &end, clock)),
             max_reads,
         )?;
     }
@@ -228,7 +230,8 @@ pub fn ask_at<
     ask_over(commands.as_slice(), &wire, &wire, sink, max_reads)
 }
 
-// Asks commands over the two directions of a connection that was just made.
+// Asks commands over the two directions of a connection that was just made, in at most `max_reads` reads. The faults are those of
+// `ask_all`.
 fn ask_over<I: Read + Drop, O: Write + Drop, K: Sink>(
     commands: &[Command],
     reader: I,

@@ -1,12 +1,11 @@
 //! An instrument at the end of a serial line: a device that is served as a connection is, once or for good.
 
-ghost use Rattle.std.specs.Prelude.{◌≡◌, ◌≤◌, Some, None, IfErr, IfOk};
+ghost use Rattle.std.specs.Prelude.{◌≡◌, ◌≤◌, None, IfErr, IfOk};
 ghost use Rattle.gc_ask.specs.Keeping.{Kept, most_callers};
-ghost use Rattle.gc_ask.specs.Places.{fault_of_reason};
-ghost use Rattle.gc_links.specs.declared.device.Unusable.{Unusable};
+ghost use Rattle.gc_ask.specs.Places.{IsFaultOfDevice};
 
 use crate::busy_clock::BusyClock;
-use crate::caller::{Caller, End, Reply, serve_caller};
+use crate::caller::{Caller, End, ReplyWriter, serve_caller};
 use crate::callers::{CallerFault, Callers, keep};
 use crate::connections::{fault_of, serve_connection};
 use crate::kept_port::Keeping;
@@ -47,7 +46,7 @@ pub fn serve_device<R: Files<File = File> + Clock, I: Simulates>(
         serve_connection(
             instrument,
             &mut Caller::new(rt, &end, clock),
-            &mut ToWriter::new(Reply::new(rt, &end, clock)),
+            &mut ToWriter::new(ReplyWriter::new(rt, &end, clock)),
             max_reads,
         )?;
     }
@@ -68,8 +67,8 @@ pub fn keep_device<R: Files<File = File> + Clock, I: Simulates, E: Write>(
     clock: Option<&BusyClock>,
     messages: &mut E,
 ) -> Result<bool, RunFault>
-    ensures kept { IfOk result (λ told. Kept (most_callers keeping.connections) told None None (E.contents messages.old) (E.contents messages.new)) }
-    ensures fault { IfErr result (λ fault. (messages.new ≡ messages.old) × ((unusable : Unusable) × (fault ≡ fault_of_reason (Some unusable)))) }
+    ensures kept { IfOk result (λ all_written. Kept (most_callers keeping.connections) all_written None None (E.contents messages.old) (E.contents messages.new)) }
+    ensures fault { IfErr result (λ fault. (messages.new ≡ messages.old) × IsFaultOfDevice fault) }
 {
     let first = match wire_on(rt, path) {
         Err(Some(unusable)) => return Err(fault_of(Some(unusable))),
@@ -100,7 +99,8 @@ struct DeviceCallers<'a, R, I> {
 }
 
 impl<'a, R: Files<File = File> + Clock, I> DeviceCallers<'a, R, I> {
-    // Opens the device, which is looked for each second until it is there. `Socket`: it is there and can't be used.
+    // Opens the device, which is looked for each second until it is there. The first call returns the device that was opened already, if it
+    // was. `Socket`: the device is there and can't be used.
     fn wait(&mut self) -> Result<Wire<'a, R>, CallerFault> {
         if let Some(first) = self.first.take() {
             return Ok(first);
@@ -115,7 +115,7 @@ impl<'a, R: Files<File = File> + Clock, I> DeviceCallers<'a, R, I> {
         Err(CallerFault::Socket)
     }
 
-    // Serves the device until its end.
+    // Serves the device, opened as `wire`, until its end. `Err`: the fault that ended it before.
     fn serve(&mut self, wire: Wire<'a, R>) -> Result<(), CallerFault>
     where
         I: Simulates,
@@ -124,7 +124,7 @@ impl<'a, R: Files<File = File> + Clock, I> DeviceCallers<'a, R, I> {
         serve_caller(
             self.instrument,
             &mut Caller::new(self.rt, &end, self.clock),
-            &mut ToWriter::new(Reply::new(self.rt, &end, self.clock)),
+            &mut ToWriter::new(ReplyWriter::new(self.rt, &end, self.clock)),
             self.max_reads,
         )
     }

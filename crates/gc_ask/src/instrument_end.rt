@@ -28,8 +28,8 @@ impl<T: Answers> InstrumentEnd<T> {
         }
     }
 
-    // Reads, at most `reads` times, until one line is answered, and writes that reply. The faults are `TooManyReads`, `Read`,
-    // `LinkClosed`, and `Write`, which counts `place` replies before this one.
+    // Reads, at most `reads` times, until one line is answered, writes that reply, and subtracts from `reads` the reads made. The
+    // faults are `TooManyReads`, `Read`, `LinkClosed`, and `Write`, which counts `place` replies before this one.
     pub(crate) fn answer_line<I: Source, O: Sink>(
         &mut self,
         place: usize,

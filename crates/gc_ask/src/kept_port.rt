@@ -6,7 +6,7 @@ ghost use Rattle.gc_texts.specs.declared.fault.RunFault.{RunFault};
 
 use crate::address::Address;
 use crate::busy_clock::BusyClock;
-use crate::caller::{Caller, End, Reply, serve_caller};
+use crate::caller::{Caller, End, ReplyWriter, serve_caller};
 use crate::callers::{CallerFault, Callers, keep};
 use crate::simulated::Simulates;
 use gc_lines::ToWriter;
@@ -57,7 +57,7 @@ pub fn keep_tcp<R: Net<Listener = TcpListener, Stream = TcpStream> + Clock, I: S
     clock: Option<&BusyClock>,
     messages: &mut E,
 ) -> Result<bool, RunFault>
-    ensures kept { IfOk result (λ told. Kept (most_callers keeping.connections) told None None (E.contents messages.old) (E.contents messages.new)) }
+    ensures kept { IfOk result (λ all_written. Kept (most_callers keeping.connections) all_written None None (E.contents messages.old) (E.contents messages.new)) }
     ensures fault { IfErr result (λ fault. (fault ≡ RunFault.Socket) × (messages.new ≡ messages.old)) }
 {
     let Ok(listener) = address.listen(rt) else {
@@ -119,7 +119,7 @@ impl<'a, R: Clock, I: Simulates> Callers for PortCallers<'a, R, I> {
         let end = serve_caller(
             self.instrument,
             &mut caller,
-            &mut ToWriter::new(Reply::new(self.rt, &line, self.clock)),
+            &mut ToWriter::new(ReplyWriter::new(self.rt, &line, self.clock)),
             self.max_reads,
         );
         match end {
@@ -129,8 +129,8 @@ impl<'a, R: Clock, I: Simulates> Callers for PortCallers<'a, R, I> {
     }
 }
 
-// Makes no read and no write wait longer than `longest`: a caller who takes no replies would hold up all others as an idle one
-// does.
+// Sets the time-outs of a stream, so that no read and no write waits longer than `longest`: a caller who takes no replies would
+// hold up all others, as an idle one does.
 fn bound_waits(stream: &TcpStream, longest: Duration) -> io::Result<()> {
     stream.set_read_timeout(Some(longest))?;
     stream.set_write_timeout(Some(longest))

@@ -31,7 +31,7 @@ pub(crate) trait Link {
     ghost held: { Self → Held };
 
     /// Sends the request at this place (its number, counted from 0). Where this program answers at the other end, too, it has
-    /// the request answered there, in at most `reads` reads.
+    /// the request answered there, in at most `reads` reads, and subtracts from `reads` those that it made.
     fn send(&mut self, place: usize, request: &Line, reads: &mut u32) -> Result<(), RunFault>
         ensures takes { TakesRequest alone place (with_end request.now.items) (client self.old).taken (client self.new).taken result }
         ensures ends { BothStep (client self.old) (client self.new) (instrument self.old) (instrument self.new) result }
@@ -40,7 +40,8 @@ pub(crate) trait Link {
         ensures too_many { result ≡ Err RunFault.TooManyReads → reads.new ≡ 0 }
         ensures held { held self.new ≡ held self.old };
 
-    /// Reads the client's end once into `ahead`, in place of what was left there. Returns false at the end of the stream.
+    /// Reads the client's end once into `ahead`, in place of what was left there. Returns false at the end of the stream. `Err`: the source
+    /// failed.
     fn read(&mut self, ahead: &mut Unheard) -> Result<bool, PortFailed>
         ensures few { length ahead.new ≤ ROOM }
         ensures end { result ≡ Ok false → ahead.new ≡ [] }

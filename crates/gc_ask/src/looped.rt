@@ -63,7 +63,8 @@ pub struct Duplex<I, O> {
     pub sink: O,
 }
 
-/// Does as `run_loop` does, with any instrument in place of the simulator, also that of a scene with rules. The results are the same.
+/// Asks the commands of a source as `run_loop` does, with any instrument in place of the simulator, also that of a scene with rules.
+/// The results are the same.
 pub fn run_loop_on<S: Source, A: Source, B: Sink, C: Source, D: Sink, K: Sink, T: Answers + Drop>(
     alloc: Global,
     instrument: T,

@@ -1,5 +1,5 @@
-//! An instrument whose replies take time, served to callers. When bytes came is noted by the reading end of their
-//! connection, and the writing end waits until a reply is to be sent (`caller.rt`).
+//! An instrument whose replies take time, served to callers. The reading end of their connection records when bytes came, and
+//! the writing end waits until a reply is to be sent (`caller.rt`).
 
 ghost use Rattle.std.specs.Prelude.{◌≡◌, ◌+◌, ◌≤◌, length};
 ghost use Rattle.arrayvec.specs.ArrayVec.{array_vec_len};
@@ -31,14 +31,14 @@ impl<'a> Model for Slow<'a> {
 }
 
 impl<'a> Slow<'a> {
-    /// The instrument by this clock. The connections of its callers have to have the same one.
+    /// An instrument with its clock. The connections of its callers need the same clock.
     pub fn new(clock: &'a BusyClock, slow: SlowInstrument) -> Slow<'a>
         ensures { result ≡ slow }
     {
         Slow { clock, slow }
     }
 
-    // Appends the reply to a line that came at this moment, with CR LF, if there is one.
+    // Appends the reply to a line that came at this moment, with CR LF, if there is one, and returns whether there is.
     fn hear(&mut self, line: &[u8], at: u64, text: &mut Outgoing) -> bool
         requires { array_vec_len text.old + 514 ≤ 8192 }
         ensures heard { AppendsAnswer (HearsSometime self.old (Frame.Line (record { items = line.now })) self.new) text.old.items text.new.items result }
@@ -52,7 +52,7 @@ impl<'a> Slow<'a> {
     }
 }
 
-// The instrument answers a line that came when the last bytes did, and says how long it is busy.
+// A line counts as having come when the last bytes did. With each reply the clock gets the moment until which the instrument is busy.
 impl<'a> Answers for Slow<'a> {
     ghost use Rattle.gc_scenes.specs.Slow.{HearsSometime};
 

@@ -57,7 +57,7 @@ impl Unheard {
         self.at += used;
     }
 
-    // Reads once, in place of what was left. Returns false at the end of the stream.
+    // Reads once, in place of what was left. Returns false at the end of the stream. `Err`: the source failed, and nothing is left.
     pub(crate) fn read<S: Source>(&mut self, source: &mut S) -> Result<bool, PortFailed>
         ensures few { length self.new ≤ ROOM }
         ensures end { result ≡ Ok false → self.new ≡ [] }

@@ -1,6 +1,7 @@
 -- What a judge writes of frames, one after the other, is the lines of their verdicts. A frame is ended where a line feed has
 -- ended it.
-use Rattle.std.proofs.Common.{◌≡◌, ℕ, ◌+◌, ◌-◌, ◌<◌, ◌≤◌, ◌^◌, min, Bool, true, false, cond, List, [], ◌∷◌, ◌++◌, length, take, map, suc, Option, Some, Result, Ok, Err, refl, sym, ap, ◌∙◌, subst, arith, append_assoc, length-append}
+use Rattle.std.proofs.Common.{◌≡◌, ℕ, ◌+◌, ◌-◌, ◌<◌, ◌≤◌, ◌^◌, min, Bool, true, false, cond, List, [], ◌∷◌, ◌++◌, length, take, map, Option, Some, Result, Ok, Err, refl, sym, ap, ◌∙◌, subst, arith, append_assoc, length-append}
+use Rattle.std.proofs.lemmas.List.{length-map}
 use Rattle.std.specs.Option.{option_to_list}
 use Rattle.gc_lines.specs.Answering.{Ports, AnswersInOrder, AnswersAll, AnswersPart, AnswersFrames, EndsBecause}
 use Rattle.gc_lines.specs.Frames.{frames, frame_of, pieces_behind, is_line_feed, ends_in_return}
@@ -53,20 +54,15 @@ few_pieces before (b ∷ bs) = elim (is_line_feed b) as (λ t. length (cond t (b
   | false ↦ omega (arith, few_pieces (before ++ b ∷ []) bs)
 ]
 
--- a list has as many items as what a function makes of them
-length-mapped : {X Y : Type 0} (f : X → Y) (xs : List X) → length (map f xs) ≡ length xs
-length-mapped f [] = refl
-length-mapped f (x ∷ xs) = ap suc (length-mapped f xs)
-
 -- there are no more frames than bytes
 few_frames : (given : List ℕ) → length (frames given) ≤ length given
-few_frames given = omega (arith, length-mapped frame_of (pieces_behind [] given), few_pieces [] given)
+few_frames given = omega (arith, length-map (pieces_behind [] given) frame_of, few_pieces [] given)
 
 -- these texts are the lines of the verdicts on these frames, the first of which is frame n + 1
 record Judged (n : ℕ) (seen : List Frame) (texts : List (List ℕ)) : Type 0 where
-  said : List Verdict
-  are : AreVerdicts seen said
-  numbered : texts ≡ lines_from (n + 1) said
+  verdicts : List Verdict
+  are : AreVerdicts seen verdicts
+  numbered : texts ≡ lines_from (n + 1) verdicts
 
 -- where frame n + 1 was judged, so that its verdict's line was written and the count grew by one, and the later frames got
 -- their verdicts' lines, too, numbered from n + 2 on, all of these frames got theirs
@@ -77,7 +73,7 @@ judged_next s u frame later v text rest texts n at few is counts told are next =
     let more : u.frames ≡ n + 1 = omega (arith, at, few, counts) in
     let k = next more in
     record {
-      said = v ∷ k.said;
+      verdicts = v ∷ k.verdicts;
       are = (is, k.are);
       numbered = are ∙ ap (λ (o : Option (List ℕ)). option_to_list o ++ rest) told ∙ ap (λ (m : ℕ). verdict_line m v ∷ rest) more ∙ ap (λ (ts : List (List ℕ)). verdict_line (n + 1) v ∷ ts) k.numbered;
     }
@@ -86,7 +82,7 @@ judged_next s u frame later v text rest texts n at few is counts told are next =
 judged : (s t : Judge) (seen : List Frame) (texts : List (List ℕ)) (n : ℕ) → s.frames ≡ n → n + length seen < 2 ^ 64 → AreEnded seen
     → AnswersInOrder Judge JudgesFrame s seen t texts → Judged n seen texts
 unfolding AreEnded
-judged s t [] texts n at few ended h = record { said = []; are = tt; numbered = h.1 }
+judged s t [] texts n at few ended h = record { verdicts = []; are = tt; numbered = h.1 }
 judged s t (Line line ∷ later) texts n at few ended h = judged_next s h.0 (Line line) later h.3.0 h.1 h.2 texts n at
     (omega (arith, few)) h.3.1 h.3.2 h.3.3 h.5 (λ more. judged h.0 t later h.2 (n + 1) more (omega (arith, few)) ended h.4)
 judged s t (Cleared ∷ later) texts n at few ended h = judged_next s h.0 Cleared later h.3.0 h.1 h.2 texts n at (omega (arith, few)) h.3.1 h.3.2 h.3.3 h.5
@@ -99,7 +95,7 @@ judged s t (More ∷ later) texts n at few ended h = absurd ended
 lines_of : (s t : Judge) (seen : List Frame) (texts : List (List ℕ)) → s.frames ≡ 0 → length seen < 2 ^ 64 → AreEnded seen → AnswersInOrder Judge JudgesFrame s seen t texts → AreLinesOf seen texts
 lines_of s t seen texts at few ended h =
     let k = judged s t seen texts 0 at (omega (arith, few)) ended h in
-    record { said = k.said; are = k.are; numbered = k.numbered }
+    record { verdicts = k.verdicts; are = k.are; numbered = k.numbered }
 
 -- where all frames of the bytes were judged, and the lines of their verdicts went out, the check is as `ChecksAll` has it
 all_checked : (s t : Judge) (given : List ℕ) (a b : Option (List ℕ)) (count : ℕ) → s.frames ≡ 0 → length given < 2 ^ 64

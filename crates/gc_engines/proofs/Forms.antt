@@ -8,7 +8,8 @@ use Rattle.gc_world.specs.declared.event.Event.TheVariants.{Send, UpDeliver, UpB
 use Rattle.gc_texts.specs.Cuts.{Cuts}
 use Rattle.gc_texts.specs.Procedures.{IsNumber, IsProcedure}
 use Rattle.gc_texts.proofs.Cutting.{cut_found, digits_lack_spaces}
-use Rattle.gc_engines.specs.Schedule.{IsNumbered, IsRequested, IsSend, IsEvent, IsCounted, SendsRequested}
+use Rattle.gc_world.proofs.Options.{some_is}
+use Rattle.gc_engines.specs.Schedule.{IsNumbered, IsRequested, IsSend, IsEvent, IsNumberedEvent, SendsRequested}
 
 -- where a line is a word and `rest`, and `r` is the number that `rest` is, or `None` where it is none, `r` is the number behind
 -- the word in the line, too
@@ -17,10 +18,6 @@ pub numbered_is : (word line rest : List ℕ) (max : ℕ) (r : Option ℕ) → l
     → MatchOption r ((n : ℕ) → IsNumbered word line n max → ⊥) (λ n. IsNumbered word line n max)
 numbered_is word line rest max None e none = λ n found. none n (subst (λ (ds : List ℕ). IsNumber ds n max) (append_cancel_left word found.digits rest (sym found.line_is ∙ e)) found.number)
 numbered_is word line rest max (Some n) e number = record { digits = rest; line_is = e; number = number }
-
--- equal texts within `Some` are equal
-pub some_is : (a b : List ℕ) → Some a ≡ Some b → a ≡ b
-some_is a b e = cc
 
 -- the parts of a text that requests a call: a target, a deadline, and a procedure with its parameters, with spaces between them
 module _ (text : List ℕ) (t : ℕ) (call : Call) (d : ℕ) (r : IsRequested text t call d) where
@@ -61,7 +58,7 @@ pub send_is : (word line rest : List ℕ) (event : Event) → word ≡ codes "se
 send_is word line rest (Send t call d) same e requested = record { rest = rest; line_is = e ∙ ap (λ w. w ++ rest) same; requested = requested }
 send_is word line rest _ same e requested = absurd requested
 
--- where a line is `send ` and `rest`, and `rest` requests nothing, the line sends nothing
+-- where a line is `send ` and `rest`, and `rest` requests no call, the line has the form of no send
 pub no_send : (word line rest : List ℕ) → word ≡ codes "send " → line ≡ word ++ rest
     → ((t : ℕ) (call : Call) (d : ℕ) → IsRequested rest t call d → ⊥) → (t : ℕ) (call : Call) (d : ℕ) → IsSend line t call d → ⊥
 no_send word line rest same e none t call d sent =
@@ -77,7 +74,7 @@ pub no_numbered :
     ((n : ℕ) → IsNumbered (codes "down lose ") line n 4294967295 → ⊥) →
     ((n : ℕ) → IsNumbered (codes "down repeat ") line n 4294967295 → ⊥) →
     ((n : ℕ) → IsNumbered (codes "expire ") line n 18446744073709551615 → ⊥) →
-    (event : Event) → IsCounted event → IsEvent line event → ⊥
+    (event : Event) → IsNumberedEvent event → IsEvent line event → ⊥
 no_numbered line ub ul ur db dl dr ex (UpBytes n) counted h = ub n h
 no_numbered line ub ul ur db dl dr ex (UpLose k) counted h = ul k h
 no_numbered line ub ul ur db dl dr ex (UpRepeat k) counted h = ur k h

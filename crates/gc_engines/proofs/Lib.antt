@@ -1,6 +1,6 @@
 mod Checked
 mod Forms
-mod LogSaid
+mod LogVerdicts
 mod OneSchedule
 mod OneVerdict
 mod Scenes

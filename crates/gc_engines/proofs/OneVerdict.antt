@@ -84,7 +84,7 @@ one_of_frames (frame ∷ later) (v ∷ vs) (w ∷ ws) says tells =
 
 -- a stream has one list of verdicts' lines at most
 one_of_stream : (bytes : List ℕ) (xs ys : List (List ℕ)) → AreVerdictLines bytes xs → AreVerdictLines bytes ys → xs ≡ ys
-one_of_stream bytes xs ys says tells = says.numbered ∙ ap (λ (vs : List Verdict). lines_from 1 vs) (one_of_frames (frames bytes) says.said tells.said says.are tells.are) ∙ sym tells.numbered
+one_of_stream bytes xs ys says tells = says.numbered ∙ ap (λ (vs : List Verdict). lines_from 1 vs) (one_of_frames (frames bytes) says.verdicts tells.verdicts says.are tells.are) ∙ sym tells.numbered
 
 -- the law: a frame has one verdict at most, and a stream one list of verdicts' lines
 pub one_verdict : OneVerdict

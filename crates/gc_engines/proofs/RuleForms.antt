@@ -19,13 +19,14 @@ use Rattle.gc_engines.specs.declared.rule_line.RuleLine.TheVariants as says
 use Rattle.gc_engines.specs.declared.rule_line.Blocked.{Blocked}
 use Rattle.gc_engines.specs.declared.rule_line.Drift.{Drift}
 
--- the reply to this procedure with these parameters, or none
+-- r is the reply to this procedure with this return code and these parameters, or `None` if no such reply can be made
 abbrev pub Scripts : ℕ → ℕ → List ℕ → Option Scripted → Type 0
 Scripts rpc rc params r =
     MatchOption r ((a : Scripted) (call : RawCall) → a.rpc ≡ rpc → a.with ≡ Some call → call.rpc ≡ rpc → raw_bytes call.params ≡ params → ⊥)
     (λ a. (a.rpc ≡ rpc) × (a.rc ≡ rc) × ((call : RawCall) × (a.with ≡ Some call) × (call.rpc ≡ rpc) × (raw_bytes call.params ≡ params)))
 
--- where a request has these parameters, the reply that was made of it has them, too; and where none was made, they are too long
+-- `Scripts` holds of the reply r that was made of a request of this procedure with these parameters: r is `None` only if they are too
+-- long for a reply
 pub scripts : (rpc rc : ℕ) (params : List ℕ) (call : RawCall) (r : Option Scripted) → call.rpc ≡ rpc → raw_bytes call.params ≡ params
     → IfSome r (λ s. (s.rpc ≡ call.rpc) × (s.with ≡ Some call) × (s.rc ≡ rc)) → IfNone r (490 < length (raw_bytes call.params)) → Scripts rpc rc params r
 scripts rpc rc params call None number bytes made long = λ a other same with_is own its.
@@ -34,7 +35,8 @@ scripts rpc rc params call None number bytes made long = λ a other same with_is
     omega (arith, subst (λ (x : List ℕ). length x ≤ 490) one short, long)
 scripts rpc rc params call (Some s) number bytes made long = (made.0 ∙ number, made.2, (call, made.1, number, bytes))
 
--- where the words of a line are these, the line is the reply that they say
+-- where a line is `answer` with this procedure, this return code and these parameters, and r is the reply made of them, r is what the
+-- line is read as
 pub answer_is : (line params : List ℕ) (rpc rc : ℕ) (r : Option Scripted) → Begins (codes "answer") line → IsNumber (before 32 (behind 32 line)) rpc 65535
     → IsNumber (before 44 (behind 32 (behind 32 line))) rc 65535 → params ≡ behind 44 (behind 32 (behind 32 line)) → Scripts rpc rc params r
     → MatchOption r ((a : Scripted) → IsAnswer line a → ⊥) (λ a. IsAnswer line a)
@@ -51,7 +53,7 @@ answer_is line params rpc rc (Some a) word rpc_is rc_is params_is made = record 
   params = made.2.3 ∙ params_is;
 }
 
--- a line that has none of the ten forms says nothing
+-- a line that has none of the ten forms is no line of a scene with rules
 pub no_rule : (line : List ℕ) → ((n : ℤ) → IsSerial line n → ⊥) → ((bytes : List ℕ) → IsName line bytes → ⊥) → ((t : Target) → IsTarget line t → ⊥)
     → ((f : Fault) → IsFault line f → ⊥) → ((a : Scripted) → IsAnswer line a → ⊥) → ((b : Blocked) → IsBlocked line b → ⊥) → ((d : Drift) → IsDrift line d → ⊥)
     → ((n : Noise) → IsNoise line n → ⊥) → ((w : Way) → line ≡ way_line w → ⊥) → (line ≡ codes "repeats no" → ⊥) → (rule : RuleLine) → IsRuleLine line rule → ⊥

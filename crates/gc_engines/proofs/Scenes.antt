@@ -13,10 +13,10 @@ use Rattle.gc_texts.specs.Cuts.{Cuts}
 use Rattle.gc_texts.specs.LineForms.{IsText, is_kept, text_lines}
 use Rattle.gc_texts.proofs.Cutting.{cut_found, one_front}
 use Rattle.gc_texts.proofs.OneReading.{one_list}
-use Rattle.gc_engines.specs.Scenes.{IsSerial, IsPrism, IsTarget, IsSceneLine, IsScene, IsFullScene, scene_opening, targets_of}
+use Rattle.gc_engines.specs.Scenes.{IsSerial, IsPrism, IsTarget, IsSceneLine, IsScene, IsOverfullScene, scene_opening, targets_of}
 use Rattle.gc_engines.specs.declared.scene_line.SceneLine.{SceneLine}
 use Rattle.gc_engines.specs.declared.scene_line.SceneLine.TheVariants as says
-use Rattle.gc_engines.proofs.Forms.{some_is}
+use Rattle.gc_world.proofs.Options.{some_is}
 
 -- where a line is `target ` and `rest`, and `o` is the target that `rest` says, or `None` where it says none, `o` is what the
 -- line says, too
@@ -121,7 +121,7 @@ pub one_state : (text : List ℕ) (s t : State) → IsScene text s → IsScene t
 one_state text s t x y = x.opens ∙ ap scene_opening (one_lines text x.lines y.lines x.are y.are) ∙ sym y.opens
 
 -- a scene isn't one with too many targets
-pub no_full : (text : List ℕ) (s : State) → IsScene text s → IsFullScene text → ⊥
+pub no_full : (text : List ℕ) (s : State) → IsScene text s → IsOverfullScene text → ⊥
 no_full text s x full =
     let same : length (targets_of x.lines) ≡ length (targets_of full.lines) = ap (λ ls. length (targets_of ls)) (one_lines text x.lines full.lines x.are full.are) in
     omega (arith, same, x.few, full.many)

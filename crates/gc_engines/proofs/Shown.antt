@@ -19,7 +19,7 @@ use Rattle.gc_engines.specs.Reports.{totals_text, report_text, scene_report_text
 use Rattle.gc_engines.specs.SceneDrill.{scene_drill_text}
 use Rattle.gc_engines.specs.Drill.{wire_text, drill_text_on}
 
--- a text made of six counts is the same where the counts are
+-- a function of six counts gives the same text for equal counts
 six : (f : ℕ → ℕ → ℕ → ℕ → ℕ → ℕ → List ℕ) (a b c d e g a' b' c' d' e' g' : ℕ) → a ≡ a' → b ≡ b' → c ≡ c' → d ≡ d' → e ≡ e' → g ≡ g' → f a b c d e g ≡ f a' b' c' d' e' g'
 six f a b c d e g a' b' c' d' e' g' ea eb ec ed ee eg = cc
 
@@ -28,7 +28,7 @@ totals_where : (totals : Bool) (s t x y : List ℕ) → s ≡ t → x ≡ y → 
 totals_where true s t x y es ex = cc
 totals_where false s t x y es ex = ap (λ l. l ++ []) es
 
--- the text of a report is that of the run that it shows
+-- the text of a report is that of the run whose wire the report shows
 pub text_shown : (r : Report) (w : Wire State) (totals : Bool) → IsReport r w → report_text r totals ≡ wire_text w totals
 text_shown r w totals is =
     let sent : length r.sent ≡ length w.sent = sym (length-map r.sent sent_seen) ∙ ap length is.sent in
@@ -51,7 +51,7 @@ drill_shown opening width events totals r is = text_shown r (played width openin
 
 -- The same of a run on the instrument of a scene.
 
--- the text of a report is that of the run that it shows
+-- the text of a scene's report is that of the run whose wire the report shows
 scene_text_shown : (r : SceneReport) (w : Wire SceneState) (totals : Bool) → IsSceneReport r w → scene_report_text r totals ≡ wire_text w totals
 scene_text_shown r w totals is =
     let settled : length r.settled.items ≡ length w.settled = sym (length-map r.settled.items settlement_seen) ∙ ap length is.settled.seen in
@@ -61,11 +61,11 @@ scene_text_shown r w totals is =
     (length w.made) (length w.settled) w.refused w.idle
     is.counts.sent is.counts.executed is.counts.made settled is.counts.refused is.counts.idle)
 
--- what a drill writes of events is the text of the wire with which their run ends
+-- what a drill on a scene's instrument writes of events is the text of the wire with which their run ends
 scene_text_of_run : (opening : SceneState) (width : ℕ) (events : List Event) (totals : Bool) → scene_drill_text opening width events totals ≡ wire_text (scene_played width opening events).wire totals
 scene_text_of_run opening width events totals = unfold scene_drill_text in refl
 
--- the text of a report of a run is what a drill writes
+-- the text of a report of a run on a scene's instrument is what a drill on that instrument writes
 pub scene_drill_shown : (opening : SceneState) (width : ℕ) (events : List Event) (totals : Bool) (r : SceneReport) → IsSceneReport r (scene_played width opening events).wire
     → scene_report_text r totals ≡ scene_drill_text opening width events totals
 scene_drill_shown opening width events totals r is = scene_text_shown r (scene_played width opening events).wire totals is ∙ sym (scene_text_of_run opening width events totals)

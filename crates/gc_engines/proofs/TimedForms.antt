@@ -10,7 +10,7 @@ use Rattle.gc_engines.specs.declared.rule_line.RuleLine.{RuleLine}
 use Rattle.gc_engines.specs.declared.timed_line.TimedLine.{TimedLine}
 use Rattle.gc_engines.specs.declared.timed_line.TimedLine.TheVariants as says
 
--- a line that has none of the four forms says nothing
+-- a line that has none of the four forms is no line of a scene for `serve`
 pub no_timed : (line : List ℕ) → ((rule : RuleLine) → IsRuleLine line rule → ⊥) → ((d : Delay) → IsDelayLine line d → ⊥) → (line ≡ codes "busy queue" → ⊥)
     → (line ≡ codes "busy drop" → ⊥) → (says : TimedLine) → IsTimedLine line says → ⊥
 no_timed line r d q b (says.Rule rule) h = r rule h
@@ -18,7 +18,7 @@ no_timed line r d q b (says.Delay x) h = d x h
 no_timed line r d q b says.Queues h = q h
 no_timed line r d q b says.Drops h = b h
 
--- why a text of lines isn't read is why it sets up no instrument
+-- a fault for which the lines of a text aren't read is one for which the text sets up no instrument
 pub timed_fault : (text : List ℕ) (e : RunFault) → TextFault IsTimedLine text e → TimedFault text e
 timed_fault text SceneFull h = absurd h
 timed_fault text Memory h = (h.0, inl h.1)

@@ -9,6 +9,7 @@ use Rattle.gc_world.specs.World.{Wire}
 use Rattle.gc_texts.specs.Settlements.{settlement_lines}
 use Rattle.gc_engines.specs.Reports.{totals_text}
 use Rattle.gc_engines.specs.Schedule.{IsSchedule, IsFirstFaulty}
+use Rattle.gc_texts.specs.WholeTexts.{Input, IsReadToEnd}
 use Rattle.gc_texts.specs.declared.text.TheConstants.{TEXT_LIMIT}
 use Rattle.gc_texts.specs.declared.fault.RunFault.{RunFault}
 use Rattle.gc_texts.specs.declared.fault.RunFault.TheVariants.{Read, Schedule, Memory, InputTooLong, Output}
@@ -29,7 +30,7 @@ drill_text_on opening width events totals = wire_text (played width opening even
 abbrev pub drill_text : ℕ → List Event → Bool → List ℕ
 drill_text width events totals = drill_text_on simulator_opening width events totals
 
--- a sink took the first bytes of this text, but not all of it
+-- a sink took the first n bytes of this text, maybe none, but not all of it
 abbrev pub TookPart : Option (List ℕ) → Option (List ℕ) → List ℕ → Type 0
 TookPart old new text = (n : ℕ) × (n < length text) × Appends old new (take n text)
 
@@ -60,6 +61,15 @@ is_read_whole (Ok _) = true
 is_read_whole (Err (Schedule n)) = true
 is_read_whole (Err Output) = true
 is_read_whole (Err _) = false
+
+-- where a drill with this result has read its source to the end, which took the source from `old` to `new`, the last of its reads was the
+-- end, and the source has no byte left
+abbrev pub HasEndedIfWhole : (old new : Input) → Result (Unit {0}) RunFault → Type 0
+HasEndedIfWhole old new result = is_read_whole result ≡ true → IsReadToEnd old new
+
+-- where memory was refused to a drill, which took its source from `old` to `new`, a read of the source had been answered
+abbrev pub HasReadIfMemory : (old new : Input) → Result (Unit {0}) RunFault → Type 0
+HasReadIfMemory old new result = result ≡ Err Memory → old.reads < new.reads
 
 -- whether the source has failed after a drill with this result; `failed` says whether it had before
 abbrev pub source_failed : Result (Unit {0}) RunFault → Bool → Bool

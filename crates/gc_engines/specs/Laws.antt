@@ -3,19 +3,19 @@ use Rattle.std.specs.Prelude.{◌≡◌, ℕ, List}
 use Rattle.gc_lines.specs.declared.frame.Frame.{Frame}
 use Rattle.gc_world.specs.declared.event.Event.{Event}
 use Rattle.gc_instrument.specs.State.{State}
-use Rattle.gc_engines.specs.Scenes.{IsScene, IsFullScene}
+use Rattle.gc_engines.specs.Scenes.{IsScene, IsOverfullScene}
 use Rattle.gc_engines.specs.Schedule.{IsSchedule}
 use Rattle.gc_engines.specs.Verdicts.{IsVerdict, AreVerdictLines}
 use Rattle.gc_engines.specs.declared.verdict.Verdict.{Verdict}
 
--- a text has one list of events at most
+-- a text is the schedule of one list of events at most
 abbrev pub OneSchedule : Type 0
 OneSchedule = (text : List ℕ) (xs ys : List Event) → IsSchedule text xs → IsSchedule text ys → xs ≡ ys
 
 -- a text sets up one instrument at most, and none where it has too many targets
 pub record OneScene : Type 0 where
   pub state : (text : List ℕ) (s t : State) → IsScene text s → IsScene text t → s ≡ t
-  pub full : (text : List ℕ) (s : State) → IsScene text s → IsFullScene text → ⊥
+  pub full : (text : List ℕ) (s : State) → IsScene text s → IsOverfullScene text → ⊥
 
 -- a frame has one verdict at most, and a stream one list of verdicts' lines
 pub record OneVerdict : Type 0 where

@@ -32,22 +32,22 @@ use Rattle.gc_engines.specs.declared.rule_line.Span.{Span}
 abbrev pub no_end : ℕ
 no_end = 4294967295
 
--- the words begin with this one
+-- the first word of `words`, up to its first space, is `word`
 abbrev pub Begins : List ℕ → List ℕ → Type 0
 Begins word words = before 32 words ≡ word
 
--- nothing, or `for COUNT`
+-- how many requests a fault meets: the words are empty, and it meets requests without end; or they are `for COUNT`
 abbrev pub IsTimes : List ℕ → ℕ → Type 0
 IsTimes [] times = times ≡ no_end
 IsTimes (b ∷ bs) times = Begins (codes "for") (b ∷ bs) × IsNumber (behind 32 (b ∷ bs)) times 4294967295
 
--- nothing, `after COUNT`, `for COUNT`, or both in this order
+-- which requests a fault meets: the words are empty, `after COUNT`, `for COUNT`, or both in this order
 abbrev pub IsSpan : List ℕ → Span → Type 0
 IsSpan words span =
     (Begins (codes "after") words × IsNumber (before 32 (behind 32 words)) span.after 4294967295 × IsTimes (behind 32 (behind 32 words)) span.times)
     ⊎ ((Begins (codes "after") words → ⊥) × (span.after ≡ 0) × IsTimes words span.times)
 
--- `fault RPC RC [after COUNT] [for COUNT]`: a fault that no request has met yet
+-- the line is `fault RPC RC [after COUNT] [for COUNT]`: a procedure is answered with a return code. No request has met the fault yet
 pub record IsFault (line : List ℕ) (f : Fault) : Type 0 where
   pub word : Begins (codes "fault") line
   pub rpc : IsNumber (before 32 (behind 32 line)) f.rpc 65535
@@ -55,7 +55,7 @@ pub record IsFault (line : List ℕ) (f : Fault) : Type 0 where
   pub span : IsSpan (behind 32 (behind 32 (behind 32 line))) (record { after = f.after; times = f.times })
   pub met : f.met ≡ 0
 
--- `answer RPC RC[,PARAMS]`: a procedure that isn't in the table, and its reply
+-- the line is `answer RPC RC[,PARAMS]`: a procedure that isn't in the table, and its reply
 pub record IsAnswer (line : List ℕ) (a : Scripted) : Type 0 where
   pub word : Begins (codes "answer") line
   pub rpc : IsNumber (before 32 (behind 32 line)) a.rpc 65535
@@ -65,26 +65,26 @@ pub record IsAnswer (line : List ℕ) (a : Scripted) : Type 0 where
   pub number : call.rpc ≡ a.rpc
   pub params : raw_bytes call.params ≡ behind 44 (behind 32 (behind 32 line))
 
--- `blocked TARGET FROM TO`
+-- the line is `blocked TARGET FROM TO`: a target is hidden in these looks, counted from 1
 pub record IsBlocked (line : List ℕ) (b : Blocked) : Type 0 where
   pub word : Begins (codes "blocked") line
   pub target : IsNumber (before 32 (behind 32 line)) b.target 32
   pub from : IsNumber (before 32 (behind 32 (behind 32 line))) b.from 4294967295
   pub to : IsNumber (behind 32 (behind 32 (behind 32 line))) b.to 4294967295
 
--- `HZ V D`: three decimals
+-- the words are `HZ V D`: two angles and a distance, as decimals
 pub record IsOffset (words : List ℕ) (o : Offset) : Type 0 where
   pub hz : IsDouble (before 32 words) o.hz
   pub v : IsDouble (before 32 (behind 32 words)) o.v
   pub distance : IsDouble (behind 32 (behind 32 words)) o.distance
 
--- `drift TARGET HZ V D`
+-- the line is `drift TARGET HZ V D`: a target moves by an offset with each measurement
 pub record IsDrift (line : List ℕ) (d : Drift) : Type 0 where
   pub word : Begins (codes "drift") line
   pub target : IsNumber (before 32 (behind 32 line)) d.target 32
   pub by : IsOffset (behind 32 (behind 32 line)) d.by
 
--- `noise HZ V D SEED`
+-- the line is `noise HZ V D SEED`: how large the noise of the measurements is, and the seed that it is drawn from
 pub record IsNoise (line : List ℕ) (n : Noise) : Type 0 where
   pub word : Begins (codes "noise") line
   pub hz : IsDouble (before 32 (behind 32 line)) n.hz
@@ -92,7 +92,7 @@ pub record IsNoise (line : List ℕ) (n : Noise) : Type 0 where
   pub distance : IsDouble (before 32 (behind 32 (behind 32 (behind 32 line)))) n.distance
   pub seed : IsNumber (behind 32 (behind 32 (behind 32 (behind 32 line)))) n.seed 4294967295
 
--- the line of a way of real instruments, or of all of them
+-- the line that gives the instrument a way of real instruments, or all of them (`Real`)
 abbrev pub way_line : Way → List ℕ
 way_line way.Faces = codes "behave faces"
 way_line way.Aims = codes "behave aims"
@@ -101,7 +101,7 @@ way_line way.Values = codes "behave values"
 way_line way.Clock = codes "behave clock"
 way_line way.Real = codes "behave real"
 
--- the line says this, in its form
+-- the line is written in the form of this item of a scene with rules
 abbrev pub IsRuleLine : List ℕ → RuleLine → Type 0
 IsRuleLine line (says.Serial n) = IsSerial line n
 IsRuleLine line (says.Name bytes) = IsName line bytes
@@ -118,61 +118,62 @@ IsRuleLine line says.NoRepeats = line ≡ codes "repeats no"
 abbrev pub WantsClock : List ℕ → Type 0
 WantsClock line = (line ≡ codes "behave clock") ⊎ (line ≡ codes "behave real")
 
--- the line says this, and doesn't ask for a clock
+-- the line is written in the form of this item of a scene with rules, and doesn't ask for a clock
 abbrev pub IsStillLine : List ℕ → RuleLine → Type 0
 IsStillLine line rule = IsRuleLine line rule × (WantsClock line → ⊥)
 
 -- What lines say together.
 
--- the serial number of the last line that says one, or `n` where none does
+-- the serial number of the last line `serial`, or `n` if there is none
 abbrev pub rules_serial : ℤ → List RuleLine → ℤ
 rules_serial n [] = n
 rules_serial n (says.Serial m ∷ rest) = rules_serial m rest
 rules_serial n (other ∷ rest) = rules_serial n rest
 
--- the name of the last line that says one, or `name` where none does
+-- the name of the last line `name`, or the argument `name` if there is none
 abbrev pub rules_name : List ℕ → List RuleLine → List ℕ
 rules_name name [] = name
 rules_name name (says.Name bytes ∷ rest) = rules_name bytes rest
 rules_name name (other ∷ rest) = rules_name name rest
 
--- the targets, in order
+-- the targets of the lines, in order
 abbrev pub rules_targets : List RuleLine → List Target
 rules_targets [] = []
 rules_targets (says.Target target ∷ rest) = target ∷ rules_targets rest
 rules_targets (other ∷ rest) = rules_targets rest
 
--- the faults, in order
+-- the faults of the lines, in order
 abbrev pub rules_faults : List RuleLine → List Fault
 rules_faults [] = []
 rules_faults (says.Fault f ∷ rest) = f ∷ rules_faults rest
 rules_faults (other ∷ rest) = rules_faults rest
 
--- the replies, in order
+-- the replies of the lines `answer`, in order
 abbrev pub rules_answers : List RuleLine → List Scripted
 rules_answers [] = []
 rules_answers (says.Answer a ∷ rest) = a ∷ rules_answers rest
 rules_answers (other ∷ rest) = rules_answers rest
 
--- the noise of the last line that says one, or `n` where none does
+-- the noise of the last line `noise`, or `n` if there is none
 abbrev pub rules_noise : Option Noise → List RuleLine → Option Noise
 rules_noise n [] = n
 rules_noise n (says.Noise m ∷ rest) = rules_noise (Some m) rest
 rules_noise n (other ∷ rest) = rules_noise n rest
 
--- whether the instrument answers a repeated request with the reply that it keeps: unless a line says that it doesn't
+-- whether the instrument answers a repeated request with the reply that it keeps: no if a line is `repeats no`, else `b`
 abbrev pub rules_repeat : Bool → List RuleLine → Bool
 rules_repeat b [] = b
 rules_repeat b (says.NoRepeats ∷ rest) = rules_repeat false rest
 rules_repeat b (other ∷ rest) = rules_repeat b rest
 
--- these ways of real instruments, and those that the lines name
+-- the ways `w` of real instruments, with those that the lines name added
 abbrev pub rules_ways : Ways → List RuleLine → Ways
 rules_ways w [] = w
 rules_ways w (says.Behave one ∷ rest) = rules_ways (with_way one w) rest
 rules_ways w (other ∷ rest) = rules_ways w rest
 
--- the target as this line changes it: its looks or its drift, if the line is of the target with this number
+-- the target as this line changes it, if the line is about the target with this number: `blocked` sets the looks in which it is
+-- hidden, and `drift` how it moves. Any other line leaves it as it is
 abbrev pub ruled : ℕ → RuleLine → Prism → Prism
 ruled number (says.Blocked b) p = if b.target == number then record p { from = b.from; to = b.to } else p
 ruled number (says.Drift d) p = if d.target == number then record p { drift = Some d.by } else p
@@ -183,12 +184,14 @@ abbrev pub rules_prism : ℕ → List RuleLine → Prism → Prism
 rules_prism number [] p = p
 rules_prism number (line ∷ rest) p = rules_prism number rest (ruled number line p)
 
--- the targets, of which the first has this number, as the lines change them
+-- the targets, of which the first has this number, as the lines change them. A target that no line changes is never hidden and
+-- doesn't move
 abbrev pub rules_prisms : List RuleLine → ℕ → List Target → List Prism
 rules_prisms lines number [] = []
 rules_prisms lines number (t ∷ ts) = rules_prism number lines (record { at = t; drift = None; from = 1; to = 0 }) ∷ rules_prisms lines (suc number) ts
 
--- the opening state of the instrument that these lines set up: what they don't say is the simulator's, but for the targets
+-- the opening state of the instrument that these lines set up. A serial number or a name that they don't say is the simulator's;
+-- targets, faults, replies and all else are those of the lines alone
 abbrev pub rules_opening : List RuleLine → SceneState
 rules_opening lines = record {
   base = opening (rules_serial simulator_opening.serial lines) (rules_name simulator_opening.name lines) [];
@@ -203,38 +206,40 @@ rules_opening lines = record {
   moment = 0;
 }
 
--- the lines have no more than an instrument has
-pub record AreFew (lines : List RuleLine) : Type 0 where
+-- the lines have no more targets, faults and replies than an instrument has room for
+pub record FitAnInstrument (lines : List RuleLine) : Type 0 where
   pub targets : length (rules_targets lines) ≤ 32
   pub faults : length (rules_faults lines) ≤ 32
   pub answers : length (rules_answers lines) ≤ 16
 
--- the lines have more targets, more faults or more replies than an instrument has
-abbrev pub AreMany : List RuleLine → Type 0
-AreMany lines = (32 < length (rules_targets lines)) ⊎ ((32 < length (rules_faults lines)) ⊎ (16 < length (rules_answers lines)))
+-- the lines have more targets, more faults or more replies than an instrument has room for
+abbrev pub OverfillAnInstrument : List RuleLine → Type 0
+OverfillAnInstrument lines = (32 < length (rules_targets lines)) ⊎ ((32 < length (rules_faults lines)) ⊎ (16 < length (rules_answers lines)))
 
--- the text is a scene of lines in this form, of at most 32 targets, 32 faults and 16 replies, and this is the opening state of its instrument
+-- the text is a scene of lines in this form, of at most 32 targets, 32 faults and 16 replies, and this is the opening state of its
+-- instrument
 pub record IsSceneOf (form : Form RuleLine) (text : List ℕ) (state : SceneState) : Type 0 where
   pub lines : List RuleLine
   pub are : IsText form text lines
-  pub few : AreFew lines
+  pub few : FitAnInstrument lines
   pub opens : state ≡ rules_opening lines
 
--- the text is a scene of lines in this form, of more than an instrument has
-pub record IsFullOf (form : Form RuleLine) (text : List ℕ) : Type 0 where
+-- the text is a scene of lines in this form, with more targets, faults or replies than an instrument has room for
+pub record IsOverfullOf (form : Form RuleLine) (text : List ℕ) : Type 0 where
   pub lines : List RuleLine
   pub are : IsText form text lines
-  pub many : AreMany lines
+  pub many : OverfillAnInstrument lines
 
--- why a text of lines in this form sets up no instrument: it is a scene of more than an instrument has, or no text of such lines, or memory was refused
+-- why a text sets up no instrument, where its lines should be in this form: it is a scene of more than an instrument has room for; or
+-- it is too long, or one of its lines hasn't the form; or memory was refused
 abbrev pub SceneFaultOf : Form RuleLine → List ℕ → RunFault → Type 0
-SceneFaultOf form text SceneFull = (length text ≤ TEXT_LIMIT) × IsFullOf form text
+SceneFaultOf form text SceneFull = (length text ≤ TEXT_LIMIT) × IsOverfullOf form text
 SceneFaultOf form text fault = TextFault form text fault
 
--- the text is a scene with rules
+-- the text is a scene with rules, and this is the opening state of its instrument
 abbrev pub IsRuleScene : List ℕ → SceneState → Type 0
 IsRuleScene text state = IsSceneOf IsRuleLine text state
 
--- the text is a scene with rules for an instrument without a clock: no line asks for one
+-- the text is a scene with rules in which no line asks for a clock, and this is the opening state of its instrument
 abbrev pub IsStillScene : List ℕ → SceneState → Type 0
 IsStillScene text state = IsSceneOf IsStillLine text state

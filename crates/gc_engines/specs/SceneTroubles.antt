@@ -17,7 +17,7 @@ use Rattle.gc_engines.specs.declared.scene_trouble.SceneTrouble.TheVariants as t
 use Rattle.gc_engines.specs.declared.scene_trouble.SceneWord.{SceneWord}
 use Rattle.gc_engines.specs.declared.scene_trouble.SceneWord.TheVariants as word
 
--- the words that lines of a scene begin with
+-- a word that a line of a scene begins with, as it is written
 abbrev pub word_text : SceneWord → List ℕ
 word_text word.Serial = codes "serial"
 word_text word.Name = codes "name"
@@ -55,15 +55,16 @@ BeginsWith w line = first_word line ≡ word_text w
 abbrev pub NeedsClock : List ℕ → Type 0
 NeedsClock line = WantsClock line ⊎ (BeginsWith word.Delay line ⊎ BeginsWith word.Busy line)
 
--- the text is no number up to this one
+-- the text is no decimal number of at most `max`
 unfoldable pub NotNumber : List ℕ → ℕ → Type 0
 NotNumber text max = (n : ℕ) → IsNumber text n max → ⊥
 
--- the text is no decimal
+-- the text is no decimal as a scene writes angles and distances
 unfoldable pub NoDecimal : List ℕ → Type 0
 NoDecimal text = (d : Decimal) → IsDouble text d → ⊥
 
--- what is at fault in these parameters of a reply to the procedure with this number: it is in the table; or they aren't those of a reply; or nothing is
+-- what is at fault in a reply to the procedure with this number, with these parameters: the procedure is in the table; or the
+-- parameters can't be those of a reply; or neither (`Form`)
 abbrev pub IsReplyTrouble : ℕ → List ℕ → SceneTrouble → Type 0
 IsReplyTrouble rpc params (trouble.InTable n) = (n ≡ rpc) × IsRawRefusal rpc params InTable
 IsReplyTrouble rpc params trouble.Params = (fault : RawFault) × IsRawRefusal rpc params fault
@@ -74,8 +75,8 @@ IsReplyTrouble rpc params _ = ⊥
 abbrev pub IsAnswerTrouble : List ℕ → SceneTrouble → Type 0
 IsAnswerTrouble line t = BeginsWith word.Answer line × ((rpc : ℕ) × IsNumber (second_word line) rpc 65535 × IsReplyTrouble rpc (behind 44 (after_two_words line)) t)
 
--- in a line that is known to be faulty, this may be at fault; more than one trouble may fit a line. `Form`: the line begins with that word, and
--- none of its fields is named
+-- in a line that is known to be faulty, this may be at fault; more than one trouble may fit a line. `Form`: the line begins with
+-- that word, and none of its fields is named
 abbrev pub IsSceneTrouble : List ℕ → SceneTrouble → Type 0
 IsSceneTrouble line trouble.NoWord = (w : SceneWord) → BeginsWith w line → ⊥
 IsSceneTrouble line trouble.Clock = NeedsClock line

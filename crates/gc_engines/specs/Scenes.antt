@@ -13,19 +13,19 @@ use Rattle.gc_texts.specs.declared.text.TheConstants.{TEXT_LIMIT}
 use Rattle.gc_engines.specs.declared.scene_line.SceneLine.{SceneLine}
 use Rattle.gc_engines.specs.declared.scene_line.SceneLine.TheVariants as says
 
--- `serial N`: a whole number in the range of a Long
+-- the line is `serial N`: a whole number in the range of a Long
 pub record IsSerial (line : List ℕ) (n : ℤ) : Type 0 where
   pub digits : List ℕ
   pub line_is : line ≡ codes "serial " ++ digits
   pub number : NamesWhole digits n
   pub fits : FitsLong n
 
--- `name TEXT`: at most 64 bytes, none of them a double quote, CR or LF
+-- the line is `name TEXT`: at most 64 bytes, none of them a double quote, CR or LF
 pub record IsName (line bytes : List ℕ) : Type 0 where
   pub line_is : line ≡ codes "name " ++ bytes
   pub text : text.IsText bytes
 
--- `HZ V DISTANCE`: three decimals, with one space between two of them
+-- the words are `HZ V DISTANCE`: three decimals, with one space between two of them
 pub record IsPrism (words : List ℕ) (target : Target) : Type 0 where
   pub hz_text : List ℕ
   pub v_text : List ℕ
@@ -37,26 +37,26 @@ pub record IsPrism (words : List ℕ) (target : Target) : Type 0 where
   pub v_is : Spells v_text target.v.digits target.v.scale
   pub distance_is : Spells distance_text target.distance.digits target.distance.scale
 
--- `target HZ V DISTANCE`
+-- the line is `target HZ V DISTANCE`: a target's angles in radians and its slope distance in metres
 pub record IsTarget (line : List ℕ) (target : Target) : Type 0 where
   pub words : List ℕ
   pub line_is : line ≡ codes "target " ++ words
   pub prism : IsPrism words target
 
--- the line says this serial number, this name or this target, in its form
+-- the line is written in the form of this item of a scene: a serial number, a name or a target
 abbrev pub IsSceneLine : List ℕ → SceneLine → Type 0
 IsSceneLine line (says.Serial n) = IsSerial line n
 IsSceneLine line (says.Name bytes) = IsName line bytes
 IsSceneLine line (says.Target target) = IsTarget line target
 
--- the serial number of the last of these lines that says one, or `n` where none does
+-- the serial number of the last line `serial`, or `n` if there is none
 abbrev pub serial_of : ℤ → List SceneLine → ℤ
 serial_of n [] = n
 serial_of n (says.Serial m ∷ rest) = serial_of m rest
 serial_of n (says.Name bytes ∷ rest) = serial_of n rest
 serial_of n (says.Target target ∷ rest) = serial_of n rest
 
--- the name of the last of these lines that says one, or `name` where none does
+-- the name of the last line `name`, or the argument `name` if there is none
 abbrev pub name_of : List ℕ → List SceneLine → List ℕ
 name_of name [] = name
 name_of name (says.Serial m ∷ rest) = name_of name rest
@@ -82,13 +82,14 @@ pub record IsScene (text : List ℕ) (state : State) : Type 0 where
   pub few : length (targets_of lines) ≤ 32
   pub opens : state ≡ scene_opening lines
 
--- the text is a scene of more targets than an instrument has
-pub record IsFullScene (text : List ℕ) : Type 0 where
+-- the text is a scene of more than 32 targets, which is more than an instrument has room for
+pub record IsOverfullScene (text : List ℕ) : Type 0 where
   pub lines : List SceneLine
   pub are : IsText IsSceneLine text lines
   pub many : 32 < length (targets_of lines)
 
--- why a text sets up no instrument: it is a scene of too many targets, or no text of such lines, or memory was refused
+-- why a text sets up no instrument: it is a scene of too many targets; or it is too long, or one of its lines has no form of a scene;
+-- or memory was refused
 abbrev pub SceneFault : List ℕ → RunFault → Type 0
-SceneFault text SceneFull = (length text ≤ TEXT_LIMIT) × IsFullScene text
+SceneFault text SceneFull = (length text ≤ TEXT_LIMIT) × IsOverfullScene text
 SceneFault text fault = TextFault IsSceneLine text fault

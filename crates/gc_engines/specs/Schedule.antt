@@ -6,13 +6,18 @@ use Rattle.gc_texts.specs.Procedures.{IsNumber, IsProcedure}
 use Rattle.gc_world.specs.declared.event.Event.{Event}
 use Rattle.gc_world.specs.declared.event.Event.TheVariants.{Send, UpDeliver, UpBytes, UpLose, UpRepeat, DownDeliver, DownBytes, DownLose, DownRepeat, Expire, RestartClient, RestartInstrument}
 
--- a line is this word, and behind it this number of at most max
+-- the greatest count of bytes and the greatest place of a line in flight that a schedule may name: the greatest number of 32 bits
+abbrev pub count_max : ℕ
+count_max = 4294967295
+
+-- a line is this word, and behind it the number `n`, which is at most `max`
 pub record IsNumbered (word line : List ℕ) (n max : ℕ) : Type 0 where
   pub digits : List ℕ
   pub line_is : line ≡ word ++ digits
   pub number : IsNumber digits n max
 
--- `T D RPC` or `T D RPC PARAMS`: the target T, the deadline D and the procedure of a request, with one space between them
+-- `T D RPC` or `T D RPC PARAMS`: the target T, the deadline D and the procedure of a request, with one space between them. T is a number of
+-- 32 bits, and D one of 64
 pub record IsRequested (text : List ℕ) (target : ℕ) (call : Call) (deadline : ℕ) : Type 0 where
   pub target_text : List ℕ
   pub deadline_text : List ℕ
@@ -22,7 +27,7 @@ pub record IsRequested (text : List ℕ) (target : ℕ) (call : Call) (deadline 
   pub deadline_is : IsNumber deadline_text deadline 18446744073709551615
   pub procedure_is : IsProcedure procedure call
 
--- the event is the send of the request that the text has
+-- the event is the send of the request that the text writes (`IsRequested`)
 abbrev pub SendsRequested : List ℕ → Event → Type 0
 SendsRequested text (Send target call deadline) = IsRequested text target call deadline
 SendsRequested text _ = ⊥
@@ -33,31 +38,31 @@ pub record IsSend (line : List ℕ) (target : ℕ) (call : Call) (deadline : ℕ
   pub line_is : line ≡ codes "send " ++ rest
   pub requested : IsRequested rest target call deadline
 
--- the line has the form of the event
+-- the line is how a schedule writes this event: its words, and behind them its number or its request, if it has one
 abbrev pub IsEvent : List ℕ → Event → Type 0
 IsEvent line (Send target call deadline) = IsSend line target call deadline
 IsEvent line UpDeliver = line ≡ codes "up deliver"
-IsEvent line (UpBytes n) = IsNumbered (codes "up bytes ") line n 4294967295
-IsEvent line (UpLose k) = IsNumbered (codes "up lose ") line k 4294967295
-IsEvent line (UpRepeat k) = IsNumbered (codes "up repeat ") line k 4294967295
+IsEvent line (UpBytes n) = IsNumbered (codes "up bytes ") line n count_max
+IsEvent line (UpLose k) = IsNumbered (codes "up lose ") line k count_max
+IsEvent line (UpRepeat k) = IsNumbered (codes "up repeat ") line k count_max
 IsEvent line DownDeliver = line ≡ codes "down deliver"
-IsEvent line (DownBytes n) = IsNumbered (codes "down bytes ") line n 4294967295
-IsEvent line (DownLose k) = IsNumbered (codes "down lose ") line k 4294967295
-IsEvent line (DownRepeat k) = IsNumbered (codes "down repeat ") line k 4294967295
+IsEvent line (DownBytes n) = IsNumbered (codes "down bytes ") line n count_max
+IsEvent line (DownLose k) = IsNumbered (codes "down lose ") line k count_max
+IsEvent line (DownRepeat k) = IsNumbered (codes "down repeat ") line k count_max
 IsEvent line (Expire moment) = IsNumbered (codes "expire ") line moment 18446744073709551615
 IsEvent line RestartClient = line ≡ codes "restart client"
 IsEvent line RestartInstrument = line ≡ codes "restart instrument"
 
--- an event that is words and a number
-abbrev pub IsCounted : Event → Type 0
-IsCounted (UpBytes n) = Unit {0}
-IsCounted (UpLose k) = Unit {0}
-IsCounted (UpRepeat k) = Unit {0}
-IsCounted (DownBytes n) = Unit {0}
-IsCounted (DownLose k) = Unit {0}
-IsCounted (DownRepeat k) = Unit {0}
-IsCounted (Expire moment) = Unit {0}
-IsCounted _ = ⊥
+-- the event is one that is written as words and a number (`IsNumbered`)
+abbrev pub IsNumberedEvent : Event → Type 0
+IsNumberedEvent (UpBytes n) = Unit {0}
+IsNumberedEvent (UpLose k) = Unit {0}
+IsNumberedEvent (UpRepeat k) = Unit {0}
+IsNumberedEvent (DownBytes n) = Unit {0}
+IsNumberedEvent (DownLose k) = Unit {0}
+IsNumberedEvent (DownRepeat k) = Unit {0}
+IsNumberedEvent (Expire moment) = Unit {0}
+IsNumberedEvent _ = ⊥
 
 -- the text is a schedule of these events: one for each line that isn't skipped
 abbrev pub IsSchedule : List ℕ → List Event → Type 0

@@ -8,18 +8,18 @@ use Rattle.gc_texts.specs.Procedures.{IsNumber}
 use Rattle.gc_texts.specs.declared.fault.RunFault.{RunFault}
 use Rattle.gc_texts.specs.declared.fault.RunFault.TheVariants.{SceneFull, Memory}
 use Rattle.gc_texts.specs.declared.text.TheConstants.{TEXT_LIMIT}
-use Rattle.gc_engines.specs.RuleScenes.{Begins, IsRuleLine, AreFew, AreMany, rules_opening}
+use Rattle.gc_engines.specs.RuleScenes.{Begins, IsRuleLine, FitAnInstrument, OverfillAnInstrument, rules_opening}
 use Rattle.gc_engines.specs.declared.rule_line.RuleLine.{RuleLine}
 use Rattle.gc_engines.specs.declared.timed_line.TimedLine.{TimedLine}
 use Rattle.gc_engines.specs.declared.timed_line.TimedLine.TheVariants as says
 
--- `delay RPC MS`: at most an hour
+-- the line is `delay RPC MS`: a procedure, and a delay in milliseconds of at most an hour
 pub record IsDelayLine (line : List ℕ) (d : Delay) : Type 0 where
   pub word : Begins (codes "delay") line
   pub rpc : IsNumber (before 32 (behind 32 line)) d.rpc 65535
   pub ms : IsNumber (behind 32 (behind 32 line)) d.ms 3600000
 
--- the line says this, in its form
+-- the line is written in the form of this item of a scene for `serve`
 abbrev pub IsTimedLine : List ℕ → TimedLine → Type 0
 IsTimedLine line (says.Rule rule) = IsRuleLine line rule
 IsTimedLine line (says.Delay d) = IsDelayLine line d
@@ -28,26 +28,27 @@ IsTimedLine line says.Drops = line ≡ codes "busy drop"
 
 -- What lines say together.
 
--- the lines of a scene with rules among them, in order
+-- those of the lines that are lines of a scene with rules, in order
 abbrev pub rules_of : List TimedLine → List RuleLine
 rules_of [] = []
 rules_of (says.Rule rule ∷ rest) = rule ∷ rules_of rest
 rules_of (other ∷ rest) = rules_of rest
 
--- the delays, in order
+-- the delays of the lines `delay`, in order
 abbrev pub delays_of : List TimedLine → List Delay
 delays_of [] = []
 delays_of (says.Delay d ∷ rest) = d ∷ delays_of rest
 delays_of (other ∷ rest) = delays_of rest
 
--- whether the instrument drops what comes while it is busy: as the last line says that says it, and `b` where none does
+-- whether the instrument drops what comes while it is busy: as the last line `busy` says, or `b` if there is none
 abbrev pub drops_from : Bool → List TimedLine → Bool
 drops_from b [] = b
 drops_from b (says.Queues ∷ rest) = drops_from false rest
 drops_from b (says.Drops ∷ rest) = drops_from true rest
 drops_from b (other ∷ rest) = drops_from b rest
 
--- the opening state of the instrument that these lines set up
+-- the opening state of the instrument that these lines set up: the one that their rules set up, their delays, and whether it drops
+-- what comes while it is busy, by their last line `busy`. It isn't busy at first
 abbrev pub timed_opening : List TimedLine → SlowState
 timed_opening lines = record {
   scene = rules_opening (rules_of lines);
@@ -57,33 +58,33 @@ timed_opening lines = record {
 }
 
 -- the lines have more than an instrument has: more targets, faults or replies, or more delays
-abbrev pub AreManyTimed : List TimedLine → Type 0
-AreManyTimed lines = AreMany (rules_of lines) ⊎ (32 < length (delays_of lines))
+abbrev pub OverfillATimedInstrument : List TimedLine → Type 0
+OverfillATimedInstrument lines = OverfillAnInstrument (rules_of lines) ⊎ (32 < length (delays_of lines))
 
 -- the text is a scene with words that want a clock, of at most 32 targets, 32 faults, 16 replies and 32 delays, and this is the opening
 -- state of its instrument
 pub record IsTimedScene (text : List ℕ) (state : SlowState) : Type 0 where
   pub lines : List TimedLine
   pub are : IsText IsTimedLine text lines
-  pub few : AreFew (rules_of lines)
+  pub few : FitAnInstrument (rules_of lines)
   pub few_delays : length (delays_of lines) ≤ 32
   pub opens : state ≡ timed_opening lines
 
--- the text is a scene with words that want a clock, of more than an instrument has
-pub record IsFullTimed (text : List ℕ) : Type 0 where
+-- the text is a scene with words that want a clock, with more targets, faults, replies or delays than an instrument has room for
+pub record IsOverfullTimed (text : List ℕ) : Type 0 where
   pub lines : List TimedLine
   pub are : IsText IsTimedLine text lines
-  pub many : AreManyTimed lines
+  pub many : OverfillATimedInstrument lines
 
--- each line that isn't skipped has a form, and one of them is a line of a scene with rules: such lines are gathered, which wants memory
+-- each line that isn't skipped has a form, and at least one is a line of a scene with rules: so memory is needed for a list of those
 pub record GathersRules (text : List ℕ) : Type 0 where
   pub lines : List TimedLine
   pub are : IsText IsTimedLine text lines
   pub some : rules_of lines ≡ [] → ⊥
 
--- why a text sets up no instrument: it is a scene of more than an instrument has; or memory was refused, at a line that has a form or where the lines
--- with rules were gathered; or it is no text of such lines
+-- why a text sets up no instrument: it is a scene of more than an instrument has room for; or memory was refused, at a line that has a
+-- form or for the list of the lines with rules; or the text is too long, or one of its lines has no form
 abbrev pub TimedFault : List ℕ → RunFault → Type 0
-TimedFault text SceneFull = (length text ≤ TEXT_LIMIT) × IsFullTimed text
+TimedFault text SceneFull = (length text ≤ TEXT_LIMIT) × IsOverfullTimed text
 TimedFault text Memory = (length text ≤ TEXT_LIMIT) × (ReachesASoundLine IsTimedLine text ⊎ GathersRules text)
 TimedFault text fault = TextFault IsTimedLine text fault

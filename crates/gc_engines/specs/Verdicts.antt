@@ -22,7 +22,7 @@ pub data IsRequestVerdict (q : RequestFields) (v : Verdict) : Type 0 where
   -- its call doesn't
   refuses : (fault : CallFault) → IsRefusal q.rpc q.params fault → v ≡ verdict.RequestFault q.rpc fault → IsRequestVerdict q v
 
--- a line begins as a reply does
+-- the line begins as a reply does: with `%R1P,`
 abbrev pub BeginsAsReply : List ℕ → Type 0
 BeginsAsReply line = (rest : List ℕ) × (line ≡ reply_signature ++ rest)
 
@@ -37,7 +37,7 @@ pub data IsLineVerdict (line : List ℕ) (v : Verdict) : Type 0 where
   -- it begins otherwise, and the first field that is bad in a request is named
   no_request : (fault : LineFault) → ¬ BeginsAsReply line → FirstBadOfRequest line fault → v ≡ verdict.Fault fault → IsLineVerdict line v
 
--- the verdict on a frame: none where no line feed has ended it, and a stream has no such frame
+-- the verdict on a frame. A frame that no line feed has ended (`More`) has none, and `frames` gives no such frame
 abbrev pub IsVerdict : Frame → Verdict → Type 0
 IsVerdict (Line line) v = IsLineVerdict line.items v
 IsVerdict Cleared v = v ≡ verdict.Cleared
@@ -71,9 +71,9 @@ lines_from n (v ∷ vs) = verdict_line n v ∷ lines_from (n + 1) vs
 
 -- the lines of the verdicts on frames, counted from 1
 pub record AreLinesOf (seen : List Frame) (lines : List (List ℕ)) : Type 0 where
-  pub said : List Verdict
-  pub are : AreVerdicts seen said
-  pub numbered : lines ≡ lines_from 1 said
+  pub verdicts : List Verdict
+  pub are : AreVerdicts seen verdicts
+  pub numbered : lines ≡ lines_from 1 verdicts
 
 -- the lines of the verdicts on a whole stream
 abbrev pub AreVerdictLines : List ℕ → List (List ℕ) → Type 0

@@ -7,7 +7,8 @@ ghost use Rattle.gc_lines.specs.Answering.{ports_of};
 use crate::verdict::{push_decimal, push_verdict, verdict_of};
 use gc_lines::{Answers, Lent, Outgoing, ServeFault, Served, Sink, Source, answer_frames};
 
-// Judges frames, and counts them. The count would stay at 2^64 - 1, which no run reaches in fewer than 2^32 reads of 256 bytes.
+// Judges frames, and counts them. The count saturates at 2^64 - 1, but no run gets there: it has fewer than 2^32 reads of at most
+// 256 bytes.
 #[derive(Drop)]
 struct Judge {
     frames: u64,
@@ -18,8 +19,7 @@ impl Answers for Judge {
 
     ghost answers = { JudgesFrame };
 
-    // Where a line feed has ended the frame, appends the line with its number and its verdict, and returns true. Else returns
-    // false.
+    // If a line feed has ended the frame, appends the line with its number and its verdict, and returns true. Else returns false.
     fn answer(&mut self, frame: Lent<'_>, text: &mut Outgoing) -> bool {
         let Some(verdict) = verdict_of(frame) else {
             return false;

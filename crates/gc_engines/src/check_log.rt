@@ -2,10 +2,9 @@
 
 ghost use Rattle.std.specs.Prelude.{◌≡◌, ◌+◌, ◌<◌, ◌≤◌, ◌++◌, ℕ, List, [], ◌∷◌, length, codes, ◌^◌, OnOk, IfErr};
 ghost use Rattle.arrayvec.specs.ArrayVec.{array_vec_len};
-ghost use Rattle.gc_lines.specs.Frames.{rest_behind};
 ghost use Rattle.gc_lines.specs.Ports.{FailsWith};
 ghost use Rattle.gc_texts.specs.Logs.{mark_text};
-ghost use Rattle.gc_engines.specs.LogChecking.{IsWholeVerdict, part_verdict, ends_cleared, IsSaid, IsLogVerdict, KeepsLine, SaysAll, SaysPart, IsCheckingLog};
+ghost use Rattle.gc_engines.specs.LogChecking.{IsWholeVerdict, part_verdict, ends_cleared, IsMarkedVerdict, IsLogVerdict, KeepsLine, TakesPiece, TakesPieceInPart, IsCheckingLog};
 ghost use Rattle.gc_lines.specs.Answering.{ports_of};
 
 use crate::verdict::{Verdict, line_verdict, push_verdict};
@@ -19,7 +18,7 @@ const PIECE: usize = 256;
 // The bytes of the longest line of a log, without its line feed, and some to spare.
 const LOG_LINE_MOST: usize = 2100;
 
-// What came since the last line feed: the first bytes, and whether more came than a log line has.
+// The bytes that came since the last line feed: the first `LOG_LINE_MOST` of them, and whether more came.
 #[derive(Drop)]
 struct PartialLine {
     bytes: ArrayVec<u8, LOG_LINE_MOST>,
@@ -37,7 +36,7 @@ impl PartialLine {
         }
     }
 
-    // Keeps one more byte. If there is no room for it the byte is discarded, and the line is noted as too long.
+    // Appends one more byte. If there is no room for it, the byte is discarded and the line is too long.
     fn keep(&mut self, b: u8)
         ensures { (rest : List ℕ) → KeepsLine self.old rest → KeepsLine self.new (rest ++ b ∷ []) }
     {
@@ -50,14 +49,14 @@ impl PartialLine {
 }
 
 /// Checks the lines of a log, as `station --log` writes them, until the end of a source, in at most `max_reads` reads of at
-/// most 256 bytes. For each line it writes one with LF into a sink: the moment and the mark as they stand, and what is said of
-/// the bytes.
+/// most 256 bytes. For each line it writes one with LF into a sink: the moment and the mark as they are in the log, and the verdict
+/// on the bytes.
 ///
-/// | Mark | What is said |
+/// | Mark | Verdict |
 /// |---|---|
 /// | `>`, `<` | the verdict that `check` has for the line, and `overlong` for more than 512 bytes |
 /// | `>\|`, `<\|` | `cleared` where the bytes end in a line feed without a CR before it, else `part` |
-/// | `-` | the words as they stand in the log |
+/// | `-` | the words as they are in the log |
 ///
 /// For a line that has no form of a log's lines it writes `no log line`. Bytes behind the last line feed get no line. `replies`
 /// in an answer counts the lines that went out whole. It takes no memory.
@@ -102,9 +101,8 @@ fn check_piece<K: Sink>(
 ) -> Result<(), usize>
     requires { replies.old + length piece.now < 2 ^ 64 }
     ensures failed { FailsWith result (K.failed sink.old) (K.failed sink.new) }
-    ensures ok { OnOk result ((rest : List ℕ) → KeepsLine kept.old rest
-        → KeepsLine kept.new (rest_behind rest piece.now) × SaysAll rest piece.now (K.taken sink.old) (K.taken sink.new) replies.old replies.new) }
-    ensures err { IfErr result (λ n. (rest : List ℕ) → KeepsLine kept.old rest → SaysPart rest piece.now (K.taken sink.old) (K.taken sink.new) replies.old replies.new n) }
+    ensures ok { OnOk result (TakesPiece kept.old kept.new piece.now (K.taken sink.old) (K.taken sink.new) replies.old replies.new) }
+    ensures err { IfErr result (TakesPieceInPart kept.old piece.now (K.taken sink.old) (K.taken sink.new) replies.old replies.new) }
     ensures few { OnOk result (replies.new ≤ replies.old + length piece.now) }
 {
     for b in piece {
@@ -115,7 +113,7 @@ fn check_piece<K: Sink>(
     Ok(())
 }
 
-// Takes one more byte of a log. A line feed ends a line of the log, and one line is written that says what that line is.
+// Takes one more byte of a log. If it is a line feed, which ends a line of the log, the line with that line's verdict is written.
 // `Err(n)`: the sink took the first n bytes of the line to be written, which aren't all, and failed.
 fn check_byte<K: Sink>(
     kept: &mut PartialLine,
@@ -125,16 +123,15 @@ fn check_byte<K: Sink>(
 ) -> Result<(), usize>
     requires { replies.old + 1 < 2 ^ 64 }
     ensures failed { FailsWith result (K.failed sink.old) (K.failed sink.new) }
-    ensures ok { OnOk result ((rest : List ℕ) → KeepsLine kept.old rest
-        → KeepsLine kept.new (rest_behind rest (b ∷ [])) × SaysAll rest (b ∷ []) (K.taken sink.old) (K.taken sink.new) replies.old replies.new) }
-    ensures err { IfErr result (λ n. (rest : List ℕ) → KeepsLine kept.old rest → SaysPart rest (b ∷ []) (K.taken sink.old) (K.taken sink.new) replies.old replies.new n) }
+    ensures ok { OnOk result (TakesPiece kept.old kept.new (b ∷ []) (K.taken sink.old) (K.taken sink.new) replies.old replies.new) }
+    ensures err { IfErr result (TakesPieceInPart kept.old (b ∷ []) (K.taken sink.old) (K.taken sink.new) replies.old replies.new) }
     ensures few { OnOk result (replies.new ≤ replies.old + 1) }
 {
     if b != b'\n' {
         kept.keep(b);
         return Ok(());
     }
-    let text = said_of(kept);
+    let text = log_verdict_of(kept);
     *kept = PartialLine::new();
     if let Err(n) = write_whole(sink, &text) {
         return Err(n);
@@ -143,8 +140,9 @@ fn check_byte<K: Sink>(
     Ok(())
 }
 
-// What is written of a line of the log, whose bytes are kept, once its line feed has come. It ends in a line feed, too.
-fn said_of(kept: &PartialLine) -> Outgoing
+// The line to be written of a complete line of the log, whose bytes are `kept`: its verdict, or that it is no log line. It ends in
+// a line feed.
+fn log_verdict_of(kept: &PartialLine) -> Outgoing
     ensures { (rest : List ℕ) → KeepsLine kept.now rest → IsLogVerdict rest result.items }
 {
     if kept.is_long {
@@ -156,7 +154,7 @@ fn said_of(kept: &PartialLine) -> Outgoing
     }
 }
 
-// What is written of a line that is no line of a log.
+// The line to be written of a line that isn't in the form of a log's lines.
 fn no_log_line() -> Outgoing
     ensures { result.items ≡ codes "no log line\n" }
 {
@@ -165,28 +163,28 @@ fn no_log_line() -> Outgoing
     text
 }
 
-// What is written of a line of a log, with a line feed: its moment and mark, and what is said of its bytes.
+// The line to be written of a log line: its moment and mark, the verdict on its bytes, and a line feed.
 fn log_line_verdict(line: &LogLine<'_>) -> Outgoing
     requires { length line.now.moment.now ≤ 2100 }
     ensures room { length line.now.bytes.items ≤ 514 }
-    ensures said { (said : List ℕ) × IsSaid line.now.mark line.now.bytes.items said
-        × (result.items ≡ line.now.moment.now ++ 32 ∷ (mark_text line.now.mark ++ 32 ∷ (said ++ 10 ∷ []))) }
+    ensures verdict { (words : List ℕ) × IsMarkedVerdict line.now.mark line.now.bytes.items words
+        × (result.items ≡ line.now.moment.now ++ 32 ∷ (mark_text line.now.mark ++ 32 ∷ (words ++ 10 ∷ []))) }
 {
     let mut text = Outgoing::new();
     append(&mut text, line.moment);
     append(&mut text, b" ");
     append(&mut text, line.mark.text());
     append(&mut text, b" ");
-    push_said(&mut text, line.mark, &line.bytes);
+    push_marked_verdict(&mut text, line.mark, &line.bytes);
     append(&mut text, b"\n");
     text
 }
 
-// Appends what is said of the bytes of a log line, for which there is room.
-fn push_said(text: &mut Outgoing, mark: LogMark, bytes: &[u8])
+// Appends the verdict that the bytes of a log line get by its mark. There is room for it.
+fn push_marked_verdict(text: &mut Outgoing, mark: LogMark, bytes: &[u8])
     requires few { length bytes.now ≤ 514 }
     requires room { length text.old.items + 2100 ≤ 8192 }
-    ensures items { (said : List ℕ) × IsSaid mark bytes.now said × (text.new.items ≡ text.old.items ++ said) }
+    ensures items { (words : List ℕ) × IsMarkedVerdict mark bytes.now words × (text.new.items ≡ text.old.items ++ words) }
     ensures bound { length text.new.items ≤ length text.old.items + 2100 }
 {
     match mark {
@@ -196,10 +194,10 @@ fn push_said(text: &mut Outgoing, mark: LogMark, bytes: &[u8])
     }
 }
 
-// Appends what is said of a line that went or came whole.
+// Appends the verdict on a line that went or came whole.
 fn push_whole(text: &mut Outgoing, bytes: &[u8])
     requires { length text.old.items + 100 ≤ 8192 }
-    ensures items { (said : List ℕ) × IsWholeVerdict bytes.now said × (text.new.items ≡ text.old.items ++ said) }
+    ensures items { (words : List ℕ) × IsWholeVerdict bytes.now words × (text.new.items ≡ text.old.items ++ words) }
     ensures bound { length text.new.items ≤ length text.old.items + 100 }
 {
     if bytes.len() > 512 {
@@ -209,7 +207,7 @@ fn push_whole(text: &mut Outgoing, bytes: &[u8])
     }
 }
 
-// Appends what is said of bytes that are no whole line.
+// Appends the verdict on bytes that are no whole line: `cleared` or `part`.
 fn push_part(text: &mut Outgoing, bytes: &[u8])
     requires { length text.old.items + 100 ≤ 8192 }
     ensures items { text.new.items ≡ text.old.items ++ part_verdict bytes.now }
@@ -222,7 +220,7 @@ fn push_part(text: &mut Outgoing, bytes: &[u8])
     }
 }
 
-// Whether bytes end in a line feed without a CR before it.
+// Whether the bytes end in a line feed without a CR before it.
 fn ends_cleared(bytes: &[u8]) -> bool
     ensures { result ≡ ends_cleared bytes.now }
 {

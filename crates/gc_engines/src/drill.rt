@@ -1,11 +1,9 @@
 //! A schedule, read from a source, played on an instrument, and its settlements written into a sink.
 
-ghost use Rattle.std.specs.Prelude.{◌≡◌, ◌+◌, ◌<◌, ◌≤◌, ℕ, List, length, true, Err, IfOk};
-ghost use Rattle.std.specs.Io.KnownBytes.{Consumes, IsAtEnd};
-ghost use Rattle.gc_texts.specs.Texts.{end_reads};
-ghost use Rattle.gc_texts.specs.declared.fault.RunFault.{RunFault};
+ghost use Rattle.std.specs.Prelude.{◌≡◌, ◌+◌, ◌≤◌, IfOk};
+ghost use Rattle.gc_texts.specs.WholeTexts.{Gave, input_of};
 ghost use Rattle.gc_texts.specs.declared.text.TheConstants.{TEXT_LIMIT};
-ghost use Rattle.gc_engines.specs.Drill.{drill_text_on, Drills, DrillsOn, is_read_whole, source_failed, sink_failed};
+ghost use Rattle.gc_engines.specs.Drill.{drill_text_on, Drills, DrillsOn, HasEndedIfWhole, HasReadIfMemory, source_failed, sink_failed};
 
 use crate::report_text::text_of;
 use crate::schedule::read_schedule;
@@ -20,9 +18,9 @@ use std::alloc::{AllocError, Global};
 /// line for each settlement, and with `totals` one more line behind them. Nothing is written before the whole schedule was
 /// read and played, and the whole text made. The lines are this project's own.
 ///
-/// `Read` comes where the source failed, and `InputTooLong` where it gave more than 65,536 bytes. `Schedule` names the first
-/// line that has the form of no event, counted from 1. `Memory` comes only where memory was refused. After each of these
-/// the sink has taken nothing. `Output` comes where the sink failed, and then it has taken a part of the text.
+/// `Read`: the source failed. `InputTooLong`: it gave more than 65,536 bytes. `Schedule` names the first line that has the form
+/// of no event, counted from 1. `Memory`: memory was refused. After each of these the sink has taken nothing. `Output`: the sink
+/// failed, and has taken a part of the text.
 pub fn run_drill_on<S: Source, K: Sink>(
     alloc: Global,
     instrument: Instrument,
@@ -36,19 +34,17 @@ pub fn run_drill_on<S: Source, K: Sink>(
 
     // Which bytes the source gave, and how much of their schedule's output the sink took. Each read gave at least one byte,
     // except a last one that was the end. After the end nothing was read.
-    ensures drills { (given : List ℕ) × Consumes (S.remaining source.old) (S.remaining source.new) given
-        × (S.reads source.new ≤ S.reads source.old + length given + end_reads (S.ended source.new))
-        × DrillsOn instrument width given totals (K.taken sink.old) (K.taken sink.new) result }
+    ensures drills { Gave (input_of S.Source source.old) (input_of S.Source source.new) (λ given.
+        DrillsOn instrument width given totals (K.taken sink.old) (K.taken sink.new) result) }
 
     // At most 65,537 reads were answered.
     ensures bounded { S.reads source.new ≤ S.reads source.old + (TEXT_LIMIT + 1) }
 
     // A schedule is played, or found faulty, only where the last read was the end, and the source has no byte left.
-    ensures whole { is_read_whole result ≡ true
-        → IsAtEnd (S.remaining source.new) × (S.ended source.new ≡ true) × (S.reads source.old < S.reads source.new) }
+    ensures whole { HasEndedIfWhole (input_of S.Source source.old) (input_of S.Source source.new) result }
 
     // `Memory` comes only after a read that was answered.
-    ensures memory { result ≡ Err RunFault.Memory → S.reads source.old < S.reads source.new }
+    ensures memory { HasReadIfMemory (input_of S.Source source.old) (input_of S.Source source.new) result }
 
     // `Read` exactly where the source failed, and `Output` exactly where the sink did.
     ensures source { S.failed source.new ≡ source_failed result (S.failed source.old) }
@@ -65,7 +61,7 @@ pub fn run_drill_on<S: Source, K: Sink>(
     }
 }
 
-/// Plays a schedule as `run_drill_on` does, but on the simulator; the clauses mean what they mean there.
+/// Plays a schedule as `run_drill_on` does, on the simulator. The clauses mean what they mean there.
 pub fn run_drill_width<S: Source, K: Sink>(
     alloc: Global,
     source: &mut S,
@@ -75,40 +71,36 @@ pub fn run_drill_width<S: Source, K: Sink>(
 ) -> Result<(), RunFault>
     requires least { 1 ≤ width }
     requires most { width ≤ WINDOW }
-    ensures drills { (given : List ℕ) × Consumes (S.remaining source.old) (S.remaining source.new) given
-        × (S.reads source.new ≤ S.reads source.old + length given + end_reads (S.ended source.new))
-        × Drills width given totals (K.taken sink.old) (K.taken sink.new) result }
+    ensures drills { Gave (input_of S.Source source.old) (input_of S.Source source.new) (λ given.
+        Drills width given totals (K.taken sink.old) (K.taken sink.new) result) }
     ensures bounded { S.reads source.new ≤ S.reads source.old + (TEXT_LIMIT + 1) }
-    ensures whole { is_read_whole result ≡ true
-        → IsAtEnd (S.remaining source.new) × (S.ended source.new ≡ true) × (S.reads source.old < S.reads source.new) }
-    ensures memory { result ≡ Err RunFault.Memory → S.reads source.old < S.reads source.new }
+    ensures whole { HasEndedIfWhole (input_of S.Source source.old) (input_of S.Source source.new) result }
+    ensures memory { HasReadIfMemory (input_of S.Source source.old) (input_of S.Source source.new) result }
     ensures source { S.failed source.new ≡ source_failed result (S.failed source.old) }
     ensures sink { K.failed sink.new ≡ sink_failed result (K.failed sink.old) }
 {
     run_drill_on(alloc, Instrument::simulator(), source, sink, totals, width)
 }
 
-/// Plays a schedule as `run_drill_width` does, with a client that lets seven requests wait, with the same results.
+/// Plays a schedule as `run_drill_width` does, with a client that lets seven requests wait. The clauses mean what they mean there.
 pub fn run_drill<S: Source, K: Sink>(
     alloc: Global,
     source: &mut S,
     sink: &mut K,
     totals: bool,
 ) -> Result<(), RunFault>
-    ensures drills { (given : List ℕ) × Consumes (S.remaining source.old) (S.remaining source.new) given
-        × (S.reads source.new ≤ S.reads source.old + length given + end_reads (S.ended source.new))
-        × Drills WINDOW given totals (K.taken sink.old) (K.taken sink.new) result }
+    ensures drills { Gave (input_of S.Source source.old) (input_of S.Source source.new) (λ given.
+        Drills WINDOW given totals (K.taken sink.old) (K.taken sink.new) result) }
     ensures bounded { S.reads source.new ≤ S.reads source.old + (TEXT_LIMIT + 1) }
-    ensures whole { is_read_whole result ≡ true
-        → IsAtEnd (S.remaining source.new) × (S.ended source.new ≡ true) × (S.reads source.old < S.reads source.new) }
-    ensures memory { result ≡ Err RunFault.Memory → S.reads source.old < S.reads source.new }
+    ensures whole { HasEndedIfWhole (input_of S.Source source.old) (input_of S.Source source.new) result }
+    ensures memory { HasReadIfMemory (input_of S.Source source.old) (input_of S.Source source.new) result }
     ensures source { S.failed source.new ≡ source_failed result (S.failed source.old) }
     ensures sink { K.failed sink.new ≡ sink_failed result (K.failed sink.old) }
 {
     run_drill_width(alloc, source, sink, totals, WINDOW as u8)
 }
 
-// The text that is written of these events, played on the instrument. `Err`: memory was refused.
+// The text to be written when these events are played on the instrument. `Err`: memory was refused.
 fn output_of(
     alloc: Global,
     instrument: Instrument,

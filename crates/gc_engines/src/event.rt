@@ -2,7 +2,7 @@
 
 ghost use Rattle.std.specs.Prelude.{◌≡◌, ◌≢◌, ◌≤◌, ◌↔◌, IsTrue, IsFalse, ℕ, List, length, take, drop, ◌++◌, ◌∷◌, IfSome, IfNone, MatchOption, Option};
 ghost use Rattle.gc_texts.specs.Procedures.{IsNumber, IsProcedure};
-ghost use Rattle.gc_engines.specs.Schedule.{IsNumbered, IsEvent, IsSend, IsRequested, SendsRequested, IsCounted};
+ghost use Rattle.gc_engines.specs.Schedule.{IsNumbered, IsEvent, IsSend, IsRequested, SendsRequested, IsNumberedEvent};
 ghost use Rattle.gc_catalogue.specs.declared.call.Call.{Call};
 ghost use Rattle.gc_world.specs.declared.event.Event.{Event};
 
@@ -13,15 +13,14 @@ use gc_world::Event;
 // The greatest count that a schedule or a scene may name.
 pub(crate) const COUNT_MAX: u64 = 4294967295;
 
-// What is after a word at the front of a line, as in gc_texts, where it is private. `None`: the line doesn't begin with the
-// word.
+// The rest of a line behind a word at its front. `None`: the line doesn't begin with the word. gc_texts has the same in private.
 pub(crate) fn after_word<'a>(word: &[u8], line: &'a [u8]) -> Option<&'a [u8]>
     ensures { MatchOption result ((rest : List ℕ) → line.now ≡ word.now ++ rest → ⊥) (λ rest. line.now ≡ word.now ++ rest.now) }
 {
     line.strip_prefix(word)
 }
 
-// The number behind a word. `None`: the line isn't that word and a number of at most `max`.
+// The number behind a word. `None`: the line isn't that word with a number of at most `max` behind it.
 fn numbered(word: &[u8], line: &[u8], max: u64) -> Option<u64>
     ensures { MatchOption result ((n : ℕ) → IsNumbered word.now line.now n max → ⊥) (λ n. IsNumbered word.now line.now n max) }
 {
@@ -31,8 +30,9 @@ fn numbered(word: &[u8], line: &[u8], max: u64) -> Option<u64>
     }
 }
 
-// Reads `T D RPC` or `T D RPC PARAMS` as the send of that call to the target T with the deadline D, into `event`, and says whether
-// the text has such a form.
+// Reads `T D RPC` or `T D RPC PARAMS` as the send of that call to the target T with the deadline D, into `event`, and returns whether
+// the text has such a form. If it hasn't, `event` may have been overwritten all the same. As an event has 176 bytes, the call isn't
+// returned and moved: `event` is made a send of some call first, and then the call is read into its place there.
 fn read_requested(text: &[u8], event: &mut Event) -> bool
     ensures found { IsTrue result → SendsRequested text.now event.new }
     ensures none { IsFalse result → (t : ℕ) (call : Call) (d : ℕ) → IsRequested text.now t call d → ⊥ }
@@ -50,14 +50,15 @@ fn read_requested(text: &[u8], event: &mut Event) -> bool
         return false
     };
     *event = Event::Send(target as u32, Call::NullProc, deadline);
-    // `event` was just made a send, so this only gives the place of its call.
+    // `event` is a send now: this always matches, and `call` is the place of its call.
     let Event::Send(_, call, _) = event else {
         return false
     };
     read_procedure_into(procedure, call)
 }
 
-// Reads `send T D RPC` or `send T D RPC PARAMS`, into `event`, and says whether the line has such a form.
+// Reads `send T D RPC` or `send T D RPC PARAMS` into `event`, and returns whether the line has such a form. If it hasn't, `event` may
+// have been overwritten all the same.
 fn read_send(line: &[u8], event: &mut Event) -> bool
     ensures found { IsTrue result → IsEvent line.now event.new }
     ensures none { IsFalse result → (t : ℕ) (call : Call) (d : ℕ) → IsSend line.now t call d → ⊥ }
@@ -68,17 +69,18 @@ fn read_send(line: &[u8], event: &mut Event) -> bool
     }
 }
 
-// Whether the line is these words.
-pub(crate) fn is_plain(words: &[u8], line: &[u8]) -> bool
+// Whether the line is these words, and nothing else.
+pub(crate) fn is_exactly(words: &[u8], line: &[u8]) -> bool
     ensures { IsTrue result ↔ (line.now ≡ words.now) }
 {
     line == words
 }
 
-// Reads an event that is words and a number, into `event`, and says whether the line is one.
+// Reads a line that is words and a number, as `up bytes 12`, into `event`, and returns whether the line is such an event. If it isn't,
+// `event` is unchanged.
 fn read_numbered(line: &[u8], event: &mut Event) -> bool
     ensures found { IsTrue result → IsEvent line.now event.new }
-    ensures none { IsFalse result → (other : Event) → IsCounted other → IsEvent line.now other → ⊥ }
+    ensures none { IsFalse result → (other : Event) → IsNumberedEvent other → IsEvent line.now other → ⊥ }
 {
     if let Some(bytes) = numbered(b"up bytes ", line, COUNT_MAX) {
         *event = Event::UpBytes(bytes as usize);
@@ -123,24 +125,24 @@ impl LineForm for EventForm {
         Event::UpDeliver
     }
 
-    // An event has 176 bytes. So it is written where it is to stand, and none is handed back.
+    // An event has 176 bytes, so it is written into its place in the list, and not returned.
     fn read(line: &[u8], event: &mut Event) -> bool {
         if read_send(line, event) {
             return true;
         }
-        if is_plain(b"up deliver", line) {
+        if is_exactly(b"up deliver", line) {
             *event = Event::UpDeliver;
             return true;
         }
-        if is_plain(b"down deliver", line) {
+        if is_exactly(b"down deliver", line) {
             *event = Event::DownDeliver;
             return true;
         }
-        if is_plain(b"restart client", line) {
+        if is_exactly(b"restart client", line) {
             *event = Event::RestartClient;
             return true;
         }
-        if is_plain(b"restart instrument", line) {
+        if is_exactly(b"restart instrument", line) {
             *event = Event::RestartInstrument;
             return true;
         }

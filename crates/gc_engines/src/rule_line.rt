@@ -12,7 +12,7 @@ ghost use Rattle.gc_scenes.specs.declared.rules.Noise.{Noise};
 ghost use Rattle.gc_scenes.specs.declared.ways.Way.{Way};
 ghost use Rattle.gc_engines.specs.RuleScenes.{IsRuleLine, IsFault, IsAnswer, IsBlocked, IsOffset, IsDrift, IsNoise, IsSpan, IsTimes, IsStillLine, WantsClock, way_line};
 
-use crate::event::{COUNT_MAX, is_plain};
+use crate::event::{COUNT_MAX, is_exactly};
 use crate::scene_line::{read_name, read_serial, read_target};
 use gc_catalogue::{RawCall, raw_call};
 use gc_instrument::Target;
@@ -26,10 +26,10 @@ const NO_END: u32 = 4294967295;
 // The greatest number of a procedure, and the greatest return code.
 pub(crate) const CODE_MAX: u64 = 65535;
 
-// The greatest number of a target: an instrument has at most as many.
+// The greatest number of a target: an instrument has at most 32 targets.
 pub(crate) const SCENE_TARGET_MAX: u64 = 32;
 
-/// A target that is hidden in the looks `from` to `to`, counted from 1.
+/// A line `blocked`: the target with this number is hidden in the looks `from` to `to`, counted from 1.
 #[derive(Clone, Copy, Debug, PartialEq, Eq)]
 pub struct Blocked {
     pub target: u32,
@@ -37,14 +37,14 @@ pub struct Blocked {
     pub to: u32,
 }
 
-/// A target that moves by an offset with each measurement of it.
+/// A line `drift`: the target with this number moves by an offset with each measurement of it.
 #[derive(Clone, Copy, Debug, PartialEq, Eq)]
 pub struct Drift {
     pub target: u32,
     pub by: Offset,
 }
 
-/// Behind how many requests a fault comes, and for how many.
+/// Which requests a fault meets: those that come after the first `after`, and `times` of these; 4294967295 times means without end.
 #[derive(Clone, Copy, Debug, PartialEq, Eq)]
 pub struct Span {
     pub after: u32,
@@ -72,7 +72,7 @@ pub enum RuleLine {
     Noise(Noise),
     /// The instrument has a way of real instruments, or all of them.
     Behave(Way),
-    /// The instrument keeps no reply.
+    /// The instrument keeps no reply, so it treats a repeated request as a new one.
     NoRepeats,
 }
 
@@ -129,10 +129,10 @@ impl LineForm for StillForm {
 pub(crate) fn wants_clock(line: &[u8]) -> bool
     ensures { IsTrue result ↔ WantsClock line.now }
 {
-    is_plain(b"behave clock", line) || is_plain(b"behave real", line)
+    is_exactly(b"behave clock", line) || is_exactly(b"behave real", line)
 }
 
-// Reads one line of a scene with rules. `None`: it has no form.
+// Reads one line of a scene with rules. `None`: it has the form of no such line.
 pub(crate) fn read_rule_line(line: &[u8]) -> Option<RuleLine>
     ensures { MatchOption result ((says : RuleLine) → IsRuleLine line.now says → ⊥) (λ says. IsRuleLine line.now says) }
 {
@@ -163,20 +163,20 @@ pub(crate) fn read_rule_line(line: &[u8]) -> Option<RuleLine>
     if let Some(way) = read_way(line) {
         return Some(RuleLine::Behave(way));
     }
-    if is_plain(b"repeats no", line) {
+    if is_exactly(b"repeats no", line) {
         return Some(RuleLine::NoRepeats);
     }
     None
 }
 
-// Reads nothing, or `for COUNT`. `None`: the words have no such form.
+// Reads `for COUNT`, or nothing, which means without end. `None`: the words have no such form.
 fn read_times(words: &[u8]) -> Option<u32>
     ensures { MatchOption result ((n : ℕ) → IsTimes words.now n → ⊥) (λ n. IsTimes words.now n) }
 {
     if words.is_empty() {
         return Some(NO_END);
     }
-    if !is_plain(b"for", before(b' ', words)) {
+    if !is_exactly(b"for", before(b' ', words)) {
         return None;
     }
     match number_of(behind(b' ', words), COUNT_MAX) {
@@ -185,7 +185,7 @@ fn read_times(words: &[u8]) -> Option<u32>
     }
 }
 
-// Reads `COUNT [for COUNT]`, which stand behind `after`. `None`: the words have no such form.
+// Reads `COUNT [for COUNT]`, the words behind `after`. `None`: they have no such form.
 fn read_after(words: &[u8]) -> Option<Span>
     ensures { MatchOption result ((span : Span) → IsNumber (before 32 words.now) span.after 4294967295 → IsTimes (behind 32 words.now) span.times → ⊥)
         (λ span. IsNumber (before 32 words.now) span.after 4294967295 × IsTimes (behind 32 words.now) span.times) }
@@ -206,7 +206,7 @@ fn read_after(words: &[u8]) -> Option<Span>
 fn read_span(words: &[u8]) -> Option<Span>
     ensures { MatchOption result ((span : Span) → IsSpan words.now span → ⊥) (λ span. IsSpan words.now span) }
 {
-    if is_plain(b"after", before(b' ', words)) {
+    if is_exactly(b"after", before(b' ', words)) {
         return read_after(behind(b' ', words));
     }
     match read_times(words) {
@@ -215,11 +215,12 @@ fn read_span(words: &[u8]) -> Option<Span>
     }
 }
 
-// Reads `fault RPC RC [after COUNT] [for COUNT]`. `None`: the line has no such form.
+// Reads `fault RPC RC [after COUNT] [for COUNT]`: a procedure, the return code that it is answered with, and which of its requests get
+// that. `None`: the line has no such form.
 fn read_fault(line: &[u8]) -> Option<Fault>
     ensures { MatchOption result ((f : Fault) → IsFault line.now f → ⊥) (λ f. IsFault line.now f) }
 {
-    if !is_plain(b"fault", before(b' ', line)) {
+    if !is_exactly(b"fault", before(b' ', line)) {
         return None;
     }
     let rest = behind(b' ', line);
@@ -258,11 +259,11 @@ fn scripted(rpc: u16, rc: u16, params: &[u8]) -> Option<Scripted>
     }
 }
 
-// Reads `answer RPC RC[,PARAMS]`. `None`: the line has no such form.
+// Reads `answer RPC RC[,PARAMS]`: a procedure that isn't in the table, and its reply. `None`: the line has no such form.
 fn read_answer(line: &[u8]) -> Option<Scripted>
     ensures { MatchOption result ((a : Scripted) → IsAnswer line.now a → ⊥) (λ a. IsAnswer line.now a) }
 {
-    if !is_plain(b"answer", before(b' ', line)) {
+    if !is_exactly(b"answer", before(b' ', line)) {
         return None;
     }
     let rest = behind(b' ', line);
@@ -276,11 +277,11 @@ fn read_answer(line: &[u8]) -> Option<Scripted>
     scripted(rpc, rc, behind(b',', rest))
 }
 
-// Reads `blocked TARGET FROM TO`. `None`: the line has no such form.
+// Reads `blocked TARGET FROM TO`: a target, and the first and the last look in which it is hidden. `None`: the line has no such form.
 fn read_blocked(line: &[u8]) -> Option<Blocked>
     ensures { MatchOption result ((b : Blocked) → IsBlocked line.now b → ⊥) (λ b. IsBlocked line.now b) }
 {
-    if !is_plain(b"blocked", before(b' ', line)) {
+    if !is_exactly(b"blocked", before(b' ', line)) {
         return None;
     }
     let rest = behind(b' ', line);
@@ -301,7 +302,7 @@ fn read_blocked(line: &[u8]) -> Option<Blocked>
     }
 }
 
-// Reads `HZ V D`. `None`: the words have no such form.
+// Reads `HZ V D`: two angles and a distance. `None`: the words have no such form.
 fn read_offset(words: &[u8]) -> Option<Offset>
     ensures { MatchOption result ((o : Offset) → IsOffset words.now o → ⊥) (λ o. IsOffset words.now o) }
 {
@@ -318,11 +319,11 @@ fn read_offset(words: &[u8]) -> Option<Offset>
     }
 }
 
-// Reads `drift TARGET HZ V D`. `None`: the line has no such form.
+// Reads `drift TARGET HZ V D`: a target, and the offset by which it moves with each measurement. `None`: the line has no such form.
 fn read_drift(line: &[u8]) -> Option<Drift>
     ensures { MatchOption result ((d : Drift) → IsDrift line.now d → ⊥) (λ d. IsDrift line.now d) }
 {
-    if !is_plain(b"drift", before(b' ', line)) {
+    if !is_exactly(b"drift", before(b' ', line)) {
         return None;
     }
     let rest = behind(b' ', line);
@@ -338,11 +339,11 @@ fn read_drift(line: &[u8]) -> Option<Drift>
     }
 }
 
-// Reads `noise HZ V D SEED`. `None`: the line has no such form.
+// Reads `noise HZ V D SEED`: how large the noise of the measurements is, and its seed. `None`: the line has no such form.
 fn read_noise(line: &[u8]) -> Option<Noise>
     ensures { MatchOption result ((n : Noise) → IsNoise line.now n → ⊥) (λ n. IsNoise line.now n) }
 {
-    if !is_plain(b"noise", before(b' ', line)) {
+    if !is_exactly(b"noise", before(b' ', line)) {
         return None;
     }
     let rest = behind(b' ', line);
@@ -368,26 +369,26 @@ fn read_noise(line: &[u8]) -> Option<Noise>
     }
 }
 
-// Reads `behave WORD`. `None`: the line has no such form.
+// Reads `behave WORD`: a way of real instruments, or all of them. `None`: the line has no such form.
 fn read_way(line: &[u8]) -> Option<Way>
     ensures { MatchOption result ((w : Way) → line.now ≡ way_line w → ⊥) (λ w. line.now ≡ way_line w) }
 {
-    if is_plain(b"behave faces", line) {
+    if is_exactly(b"behave faces", line) {
         return Some(Way::Faces);
     }
-    if is_plain(b"behave aims", line) {
+    if is_exactly(b"behave aims", line) {
         return Some(Way::Aims);
     }
-    if is_plain(b"behave takes", line) {
+    if is_exactly(b"behave takes", line) {
         return Some(Way::Takes);
     }
-    if is_plain(b"behave values", line) {
+    if is_exactly(b"behave values", line) {
         return Some(Way::Values);
     }
-    if is_plain(b"behave clock", line) {
+    if is_exactly(b"behave clock", line) {
         return Some(Way::Clock);
     }
-    if is_plain(b"behave real", line) {
+    if is_exactly(b"behave real", line) {
         return Some(Way::Real);
     }
     None

@@ -1,13 +1,12 @@
 //! The text of a scene with rules, read into the instrument that it sets up.
 
-ghost use Rattle.std.specs.Prelude.{◌≡◌, ◌<◌, ◌≤◌, ◌↔◌, ℕ, length, Err, IfErr, IfOk, MatchOption, None, true};
+ghost use Rattle.std.specs.Prelude.{◌≡◌, ◌<◌, ◌≤◌, length, Err, IfErr, IfOk, MatchOption, None, true};
 ghost use Rattle.gc_instrument.specs.State.{simulator_opening};
-ghost use Rattle.gc_texts.specs.LineForms.{FirstFaulty};
+ghost use Rattle.gc_texts.specs.LineForms.{FirstFaulty, NamesFaulty, RefusesLong};
 ghost use Rattle.gc_texts.specs.declared.fault.RunFault.{RunFault};
-ghost use Rattle.gc_texts.specs.declared.text.TheConstants.{TEXT_LIMIT};
 ghost use Rattle.gc_scenes.specs.Laws.{still};
 ghost use Rattle.gc_scenes.specs.Ways.{no_ways};
-ghost use Rattle.gc_engines.specs.RuleScenes.{AreFew, AreMany, IsFullOf, IsRuleLine, IsRuleScene, IsStillLine, IsStillScene, SceneFaultOf, ruled, rules_answers, rules_faults, rules_name, rules_noise, rules_opening, rules_prism, rules_prisms, rules_repeat, rules_serial, rules_targets, rules_ways};
+ghost use Rattle.gc_engines.specs.RuleScenes.{FitAnInstrument, OverfillAnInstrument, IsOverfullOf, IsRuleLine, IsRuleScene, IsStillLine, IsStillScene, SceneFaultOf, ruled, rules_answers, rules_faults, rules_name, rules_noise, rules_opening, rules_prism, rules_prisms, rules_repeat, rules_serial, rules_targets, rules_ways};
 
 use crate::rule_line::{RuleForm, RuleLine, StillForm};
 use crate::scene::simulator_name;
@@ -30,9 +29,9 @@ use std::alloc::Global;
 /// where the list of lines couldn't grow, at a line that has a form.
 pub fn read_rule_scene(alloc: Global, text: &[u8]) -> Result<SceneInstrument, RunFault>
     ensures found { IfOk result (λ instrument. IsRuleScene text.now instrument) }
-    ensures too_long { (result ≡ Err RunFault.InputTooLong) ↔ (TEXT_LIMIT < length text.now) }
-    ensures faulty { (n : ℕ) → result ≡ Err (RunFault.Schedule n) → FirstFaulty IsRuleLine text.now n }
-    ensures full { result ≡ Err RunFault.SceneFull → IsFullOf IsRuleLine text.now }
+    ensures too_long { RefusesLong text.now result }
+    ensures faulty { NamesFaulty (FirstFaulty IsRuleLine text.now) result }
+    ensures full { result ≡ Err RunFault.SceneFull → IsOverfullOf IsRuleLine text.now }
     ensures faults { IfErr result (λ e. SceneFaultOf IsRuleLine text.now e) }
 {
     let lines = match read_items::<RuleForm>(alloc, text) {
@@ -45,12 +44,13 @@ pub fn read_rule_scene(alloc: Global, text: &[u8]) -> Result<SceneInstrument, Ru
     }
 }
 
-/// As `read_rule_scene`, for an instrument that is served without a clock: `behave clock` and `behave real` have no form.
+/// Reads the text of a scene as `read_rule_scene` does, for an instrument without a clock: `behave clock` and `behave real`, which
+/// ask for one, have no form.
 pub fn read_still_scene(alloc: Global, text: &[u8]) -> Result<SceneInstrument, RunFault>
     ensures found { IfOk result (λ instrument. IsStillScene text.now instrument) }
-    ensures too_long { (result ≡ Err RunFault.InputTooLong) ↔ (TEXT_LIMIT < length text.now) }
-    ensures faulty { (n : ℕ) → result ≡ Err (RunFault.Schedule n) → FirstFaulty IsStillLine text.now n }
-    ensures full { result ≡ Err RunFault.SceneFull → IsFullOf IsStillLine text.now }
+    ensures too_long { RefusesLong text.now result }
+    ensures faulty { NamesFaulty (FirstFaulty IsStillLine text.now) result }
+    ensures full { result ≡ Err RunFault.SceneFull → IsOverfullOf IsStillLine text.now }
     ensures faults { IfErr result (λ e. SceneFaultOf IsStillLine text.now e) }
 {
     let lines = match read_items::<StillForm>(alloc, text) {
@@ -65,7 +65,7 @@ pub fn read_still_scene(alloc: Global, text: &[u8]) -> Result<SceneInstrument, R
 
 // The instrument that these lines set up. `None`: they have too many targets, faults or replies.
 pub(crate) fn set_up(lines: &[RuleLine]) -> Option<SceneInstrument>
-    ensures { MatchOption result (AreMany lines.now) (λ instrument. (instrument ≡ rules_opening lines.now) × AreFew lines.now) }
+    ensures { MatchOption result (OverfillAnInstrument lines.now) (λ instrument. (instrument ≡ rules_opening lines.now) × FitAnInstrument lines.now) }
 {
     let Some(targets) = targets_of(lines) else {
         return None
@@ -88,7 +88,7 @@ pub(crate) fn set_up(lines: &[RuleLine]) -> Option<SceneInstrument>
     ))
 }
 
-// The serial number of the last line that says one, or the simulator's.
+// The serial number of the last line `serial`, or the simulator's, 123456.
 fn serial_of(lines: &[RuleLine]) -> i32
     ensures { result ≡ rules_serial simulator_opening.serial lines.now }
 {
@@ -102,7 +102,7 @@ fn serial_of(lines: &[RuleLine]) -> i32
     serial
 }
 
-// The name of the last line that says one, or the simulator's.
+// The name of the last line `name`, or the simulator's.
 fn name_of(lines: &[RuleLine]) -> Text
     ensures { result ≡ rules_name simulator_opening.name lines.now }
 {
@@ -148,7 +148,7 @@ fn faults_of(lines: &[RuleLine]) -> Option<ArrayVec<Fault, 32>>
     Some(faults)
 }
 
-// The replies of these lines, in order. `None`: they are more than an instrument has.
+// The replies of the lines `answer`, in order. `None`: they are more than an instrument has.
 fn answers_of(lines: &[RuleLine]) -> Option<ArrayVec<Scripted, 16>>
     ensures { MatchOption result (16 < length (rules_answers lines.now)) (λ answers. answers.items ≡ rules_answers lines.now) }
 {
@@ -164,7 +164,7 @@ fn answers_of(lines: &[RuleLine]) -> Option<ArrayVec<Scripted, 16>>
     Some(answers)
 }
 
-// The noise of the last line that says one.
+// The noise of the last line `noise`. `None`: there is no such line.
 fn noise_of(lines: &[RuleLine]) -> Option<Noise>
     ensures { result ≡ rules_noise None lines.now }
 {
@@ -178,7 +178,7 @@ fn noise_of(lines: &[RuleLine]) -> Option<Noise>
     noise
 }
 
-// Whether the instrument answers a repeated request with the reply that it keeps: unless a line says that it doesn't.
+// Whether the instrument answers a repeated request with the reply that it keeps: it does unless a line is `repeats no`.
 fn repeats(lines: &[RuleLine]) -> bool
     ensures { result ≡ rules_repeat true lines.now }
 {
@@ -206,7 +206,8 @@ fn ways_of(lines: &[RuleLine]) -> Ways
     ways
 }
 
-// The target as this line changes it: its looks or its drift, if the line is of the target with this number.
+// The target as this line changes it, if the line is about the target with this number: `blocked` sets the looks in which it is
+// hidden, and `drift` how it moves. Any other line leaves it as it is.
 fn ruled(number: u32, line: &RuleLine, prism: &Prism) -> Prism
     ensures { result ≡ ruled number line.now prism.now }
 {
@@ -227,7 +228,7 @@ fn ruled(number: u32, line: &RuleLine, prism: &Prism) -> Prism
     }
 }
 
-// The target with this number, as all lines change it.
+// The target with this number, as all lines change it. At first it is never hidden and doesn't move.
 fn prism_of(number: u32, lines: &[RuleLine], target: Target) -> Prism
     ensures { result ≡ rules_prism number lines.now (still target) }
 {
@@ -238,7 +239,7 @@ fn prism_of(number: u32, lines: &[RuleLine], target: Target) -> Prism
     prism
 }
 
-// The targets, as the lines change them.
+// The targets as the lines change them; the first target has the number 1.
 fn prisms_of(lines: &[RuleLine], targets: &[Target]) -> ArrayVec<Prism, 32>
     requires { length targets.now ≤ 32 }
     ensures { result.items ≡ rules_prisms lines.now 1 targets.now }
@@ -246,7 +247,7 @@ fn prisms_of(lines: &[RuleLine], targets: &[Target]) -> ArrayVec<Prism, 32>
     let mut prisms = ArrayVec::new();
     let mut number = 1u32;
     for target in targets {
-        // There is room, since there are as many as targets.
+        // There is room, since there are at most 32 targets.
         let _ = prisms.try_push(prism_of(number, lines, *target));
         number = number.saturating_add(1);
     }

@@ -3,8 +3,8 @@
 ghost use Rattle.std.specs.Prelude.{◌≡◌, ◌<◌, ◌↔◌, ℤ, ℕ, List, length, Err, IfOk, IfErr, IsErr, MatchOption};
 ghost use Rattle.gc_instrument.specs.State.{IsFittingState, simulator_opening};
 ghost use Rattle.gc_texts.specs.declared.fault.RunFault.{RunFault};
-ghost use Rattle.gc_texts.specs.declared.text.TheConstants.{TEXT_LIMIT};
-ghost use Rattle.gc_engines.specs.Scenes.{IsScene, IsFullScene, SceneFault, scene_opening, serial_of, name_of, targets_of};
+ghost use Rattle.gc_texts.specs.LineForms.{RefusesLong};
+ghost use Rattle.gc_engines.specs.Scenes.{IsScene, IsOverfullScene, SceneFault, scene_opening, serial_of, name_of, targets_of};
 ghost use Rattle.gc_engines.specs.declared.scene_line.SceneLine.{SceneLine};
 
 use crate::scene_line::{SceneForm, SceneLine};
@@ -17,11 +17,11 @@ use std::alloc::Global;
 // The most targets of an instrument.
 const MOST_TARGETS: usize = 32;
 
-/// Reads the text of a scene, and gives the instrument that it sets up, in its opening state.
+/// Reads the text of a scene, and returns the instrument that it sets up, in its opening state.
 ///
 /// A line is `serial N`, `name TEXT` or `target HZ V DISTANCE`, with angles in radians and the slope distance in metres. Of
-/// several serial numbers, or names, the last one counts. Where there is none it is the simulator's. The targets are those of
-/// the text alone, in its order.
+/// several serial numbers, or names, the last one counts. If there is none, the instrument has the simulator's. The targets are those
+/// of the text alone, in its order.
 ///
 /// `InputTooLong` refuses a text of more than 65,536 bytes, before any line is looked at. `Schedule` names the first line that
 /// has no form, counted from 1. `SceneFull` refuses more than 32 targets, where each line has a form. `Memory` comes only where
@@ -29,8 +29,8 @@ const MOST_TARGETS: usize = 32;
 pub fn read_scene(alloc: Global, text: &[u8]) -> Result<Instrument, RunFault>
     ensures found { IfOk result (λ instrument. IsScene text.now instrument) }
     ensures fits { IfOk result (λ instrument. IsFittingState instrument) }
-    ensures too_long { (result ≡ Err RunFault.InputTooLong) ↔ (TEXT_LIMIT < length text.now) }
-    ensures full { result ≡ Err RunFault.SceneFull → IsFullScene text.now }
+    ensures too_long { RefusesLong text.now result }
+    ensures full { result ≡ Err RunFault.SceneFull → IsOverfullScene text.now }
     ensures faults { IfErr result (λ e. SceneFault text.now e) }
 {
     let lines = match read_items::<SceneForm>(alloc, text) {
@@ -43,7 +43,7 @@ pub fn read_scene(alloc: Global, text: &[u8]) -> Result<Instrument, RunFault>
     }
 }
 
-// The instrument that these lines set up. It fails where they have more than 32 targets.
+// The instrument that these lines set up. `Err`: they have more than 32 targets.
 fn set_up(lines: &[SceneLine]) -> Result<Instrument, SceneFull>
     ensures opens { IfOk result (λ instrument. instrument ≡ scene_opening lines.now) }
     ensures fits { IfOk result (λ instrument. IsFittingState instrument) }
@@ -55,7 +55,7 @@ fn set_up(lines: &[SceneLine]) -> Result<Instrument, SceneFull>
     }
 }
 
-// The serial number of the last line that says one, or the simulator's.
+// The serial number of the last line `serial`, or the simulator's, 123456.
 fn serial_of(lines: &[SceneLine]) -> i32
     ensures { result ≡ serial_of simulator_opening.serial lines.now }
 {
@@ -69,7 +69,7 @@ fn serial_of(lines: &[SceneLine]) -> i32
     serial
 }
 
-// The name of the last line that says one, or the simulator's.
+// The name of the last line `name`, or the simulator's.
 fn name_of(lines: &[SceneLine]) -> Text
     ensures { result ≡ name_of simulator_opening.name lines.now }
 {

@@ -1,11 +1,9 @@
 //! A schedule, read from a source, played on the instrument of a scene with rules, and its settlements written into a sink.
 
-ghost use Rattle.std.specs.Prelude.{◌≡◌, ◌+◌, ◌<◌, ◌≤◌, ℕ, List, length, true, Err, IfOk};
-ghost use Rattle.std.specs.Io.KnownBytes.{Consumes, IsAtEnd};
-ghost use Rattle.gc_texts.specs.Texts.{end_reads};
-ghost use Rattle.gc_texts.specs.declared.fault.RunFault.{RunFault};
+ghost use Rattle.std.specs.Prelude.{◌≡◌, ◌+◌, ◌≤◌, IfOk};
+ghost use Rattle.gc_texts.specs.WholeTexts.{Gave, input_of};
 ghost use Rattle.gc_texts.specs.declared.text.TheConstants.{TEXT_LIMIT};
-ghost use Rattle.gc_engines.specs.Drill.{is_read_whole, source_failed, sink_failed};
+ghost use Rattle.gc_engines.specs.Drill.{HasEndedIfWhole, HasReadIfMemory, source_failed, sink_failed};
 ghost use Rattle.gc_engines.specs.SceneDrill.{scene_drill_text, DrillsScene};
 
 use crate::report_text::scene_text_of;
@@ -35,19 +33,17 @@ pub fn run_drill_scene<S: Source, K: Sink>(
 
     // Which bytes the source gave, and how much of their schedule's output the sink took. Each read gave at least one byte,
     // except a last one that was the end. After the end nothing was read.
-    ensures drills { (given : List ℕ) × Consumes (S.remaining source.old) (S.remaining source.new) given
-        × (S.reads source.new ≤ S.reads source.old + length given + end_reads (S.ended source.new))
-        × DrillsScene instrument width given totals (K.taken sink.old) (K.taken sink.new) result }
+    ensures drills { Gave (input_of S.Source source.old) (input_of S.Source source.new) (λ given.
+        DrillsScene instrument width given totals (K.taken sink.old) (K.taken sink.new) result) }
 
     // At most 65,537 reads were answered.
     ensures bounded { S.reads source.new ≤ S.reads source.old + (TEXT_LIMIT + 1) }
 
     // A schedule is played, or found faulty, only where the last read was the end, and the source has no byte left.
-    ensures whole { is_read_whole result ≡ true
-        → IsAtEnd (S.remaining source.new) × (S.ended source.new ≡ true) × (S.reads source.old < S.reads source.new) }
+    ensures whole { HasEndedIfWhole (input_of S.Source source.old) (input_of S.Source source.new) result }
 
     // `Memory` comes only after a read that was answered.
-    ensures memory { result ≡ Err RunFault.Memory → S.reads source.old < S.reads source.new }
+    ensures memory { HasReadIfMemory (input_of S.Source source.old) (input_of S.Source source.new) result }
 
     // `Read` exactly where the source failed, and `Output` exactly where the sink did.
     ensures source { S.failed source.new ≡ source_failed result (S.failed source.old) }
@@ -64,7 +60,7 @@ pub fn run_drill_scene<S: Source, K: Sink>(
     }
 }
 
-// The text that is written of these events, played on the instrument. `Err`: memory was refused.
+// The text to be written when these events are played on the instrument. `Err`: memory was refused.
 fn output_of(
     alloc: Global,
     instrument: SceneInstrument,

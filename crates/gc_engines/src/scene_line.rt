@@ -45,7 +45,7 @@ impl LineForm for SceneForm {
     }
 }
 
-// Reads one line of a scene. `None`: it has no form.
+// Reads one line of a scene. `None`: it has the form of no such line.
 fn read_scene_line(line: &[u8]) -> Option<SceneLine>
     ensures { MatchOption result ((says : SceneLine) → IsSceneLine line.now says → ⊥) (λ says. IsSceneLine line.now says) }
 {

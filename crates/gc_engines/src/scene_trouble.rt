@@ -5,7 +5,7 @@ ghost use Rattle.std.specs.Io.KnownBytes.{Appends};
 ghost use Rattle.gc_texts.specs.Words.{first_word};
 ghost use Rattle.gc_engines.specs.SceneTroubles.{IsReplyTrouble, IsSceneTrouble, NeedsClock, NoDecimal, NotNumber, form_text, scene_trouble_text, scene_trouble_line, word_text};
 
-use crate::event::{COUNT_MAX, is_plain};
+use crate::event::{COUNT_MAX, is_exactly};
 use crate::rule_line::{CODE_MAX, SCENE_TARGET_MAX, wants_clock};
 use crate::timed_line::DELAY_MAX;
 use gc_catalogue::{RawFault, raw_call};
@@ -146,8 +146,8 @@ fn tell_form<E: Write>(form: &str, messages: &mut E) -> io::Result<()>
     writeln!(messages, "the form is {form}")
 }
 
-/// What is at fault in a faulty line of a scene. `has_clock` says whether the scene is that of one who has a clock. Of a line that isn't
-/// faulty it gives the form of its first word.
+/// What is at fault in a faulty line of a scene. `has_clock`: the scene is read for `serve`, which has a clock. For a line that isn't
+/// faulty the result is `Form` of its first word.
 ///
 /// The first thing that is amiss is at fault: the first word, then how many fields there are, and then the first field that doesn't
 /// read.
@@ -170,47 +170,47 @@ fn needs_clock(line: &[u8]) -> bool
     ensures { IsTrue result → NeedsClock line.now }
 {
     let first = before(b' ', line);
-    wants_clock(line) || is_plain(b"delay", first) || is_plain(b"busy", first)
+    wants_clock(line) || is_exactly(b"delay", first) || is_exactly(b"busy", first)
 }
 
-// The word of a scene that these bytes are. `None`: they are none.
+// The word of a scene that these bytes spell. `None`: no line of a scene begins with them.
 fn word_of(first: &[u8]) -> Option<SceneWord>
     ensures { MatchOption result ((word : SceneWord) → first.now ≡ word_text word → ⊥) (λ word. first.now ≡ word_text word) }
 {
-    if is_plain(b"serial", first) {
+    if is_exactly(b"serial", first) {
         return Some(SceneWord::Serial);
     }
-    if is_plain(b"name", first) {
+    if is_exactly(b"name", first) {
         return Some(SceneWord::Name);
     }
-    if is_plain(b"target", first) {
+    if is_exactly(b"target", first) {
         return Some(SceneWord::Target);
     }
-    if is_plain(b"fault", first) {
+    if is_exactly(b"fault", first) {
         return Some(SceneWord::Fault);
     }
-    if is_plain(b"answer", first) {
+    if is_exactly(b"answer", first) {
         return Some(SceneWord::Answer);
     }
-    if is_plain(b"blocked", first) {
+    if is_exactly(b"blocked", first) {
         return Some(SceneWord::Blocked);
     }
-    if is_plain(b"drift", first) {
+    if is_exactly(b"drift", first) {
         return Some(SceneWord::Drift);
     }
-    if is_plain(b"noise", first) {
+    if is_exactly(b"noise", first) {
         return Some(SceneWord::Noise);
     }
-    if is_plain(b"repeats", first) {
+    if is_exactly(b"repeats", first) {
         return Some(SceneWord::Repeats);
     }
-    if is_plain(b"behave", first) {
+    if is_exactly(b"behave", first) {
         return Some(SceneWord::Behave);
     }
-    if is_plain(b"delay", first) {
+    if is_exactly(b"delay", first) {
         return Some(SceneWord::Delay);
     }
-    if is_plain(b"busy", first) {
+    if is_exactly(b"busy", first) {
         return Some(SceneWord::Busy);
     }
     None
@@ -246,7 +246,7 @@ fn is_no_double(text: &[u8]) -> bool
     }
 }
 
-// Whether these bytes are no number up to this one.
+// Whether these bytes are no decimal number of at most `max`.
 #[tactic(auto, unfolding(crate::specs::SceneTroubles::NotNumber))]
 fn is_no_number(text: &[u8], max: u64) -> bool
     ensures { IsTrue result → NotNumber text.now max }
@@ -257,12 +257,12 @@ fn is_no_number(text: &[u8], max: u64) -> bool
     }
 }
 
-// How many fields stand behind the first word of a line.
+// How many fields a line has behind its first word: one for each space.
 fn fields_in(line: &[u8]) -> usize {
     line.iter().filter(|byte| **byte == b' ').count()
 }
 
-// What is at fault in a line that begins with `serial`.
+// What is at fault in a line that begins with `serial`: if it has one field, `Serial` if that doesn't read; else `Form`.
 fn serial_trouble(line: &[u8]) -> SceneTrouble
     requires { first_word line.now ≡ codes "serial" }
     ensures { IsSceneTrouble line.now result }
@@ -275,7 +275,7 @@ fn serial_trouble(line: &[u8]) -> SceneTrouble
     SceneTrouble::Form(SceneWord::Serial)
 }
 
-// What is at fault in a line that begins with `name`.
+// What is at fault in a line that begins with `name`: `Name` if its text doesn't read, else `Form`.
 fn name_trouble(line: &[u8]) -> SceneTrouble
     requires { first_word line.now ≡ codes "name" }
     ensures { IsSceneTrouble line.now result }
@@ -286,7 +286,8 @@ fn name_trouble(line: &[u8]) -> SceneTrouble
     SceneTrouble::Form(SceneWord::Name)
 }
 
-// What is at fault in a line that begins with `target`.
+// What is at fault in a line that begins with `target`: if it has three fields, the first of `Hz`, `V` and `Distance` that doesn't read;
+// else `Form`.
 fn target_trouble(line: &[u8]) -> SceneTrouble
     requires { first_word line.now ≡ codes "target" }
     ensures { IsSceneTrouble line.now result }
@@ -306,7 +307,8 @@ fn target_trouble(line: &[u8]) -> SceneTrouble
     SceneTrouble::Form(SceneWord::Target)
 }
 
-// What is at fault in a line that begins with `fault`.
+// What is at fault in a line that begins with `fault`: if it has two fields or more, the first of `Rpc` and `Rc` that doesn't read; else
+// `Form`.
 fn fault_trouble(line: &[u8]) -> SceneTrouble
     requires { first_word line.now ≡ codes "fault" }
     ensures { IsSceneTrouble line.now result }
@@ -323,7 +325,7 @@ fn fault_trouble(line: &[u8]) -> SceneTrouble
     SceneTrouble::Form(SceneWord::Fault)
 }
 
-// What is at fault in a line that begins with `answer`.
+// What is at fault in a line that begins with `answer`: the first of `Rpc` and `Rc` that doesn't read, or else what `reply_trouble` gives.
 fn answer_trouble(line: &[u8]) -> SceneTrouble
     requires { first_word line.now ≡ codes "answer" }
     ensures { IsSceneTrouble line.now result }
@@ -342,7 +344,8 @@ fn answer_trouble(line: &[u8]) -> SceneTrouble
     }
 }
 
-// What is at fault in the parameters of a reply to the procedure with this number.
+// What is at fault in the parameters of a reply to the procedure with this number: `InTable` if the procedure is in the table, `Params` if
+// no reply can have these parameters, or else `Form`.
 fn reply_trouble(rpc: u16, params: &[u8]) -> SceneTrouble
     ensures { IsReplyTrouble rpc params.now result }
 {
@@ -353,7 +356,8 @@ fn reply_trouble(rpc: u16, params: &[u8]) -> SceneTrouble
     }
 }
 
-// What is at fault in a line that begins with `blocked`.
+// What is at fault in a line that begins with `blocked`: if it has three fields, the first of `Target`, `From` and `To` that doesn't read;
+// else `Form`.
 fn blocked_trouble(line: &[u8]) -> SceneTrouble
     requires { first_word line.now ≡ codes "blocked" }
     ensures { IsSceneTrouble line.now result }
@@ -373,7 +377,8 @@ fn blocked_trouble(line: &[u8]) -> SceneTrouble
     SceneTrouble::Form(SceneWord::Blocked)
 }
 
-// What is at fault in a line that begins with `drift`.
+// What is at fault in a line that begins with `drift`: if it has four fields, the first of `Target`, `Hz`, `V` and `Distance` that doesn't
+// read; else `Form`.
 fn drift_trouble(line: &[u8]) -> SceneTrouble
     requires { first_word line.now ≡ codes "drift" }
     ensures { IsSceneTrouble line.now result }
@@ -396,7 +401,8 @@ fn drift_trouble(line: &[u8]) -> SceneTrouble
     SceneTrouble::Form(SceneWord::Drift)
 }
 
-// What is at fault in a line that begins with `noise`.
+// What is at fault in a line that begins with `noise`: if it has four fields, the first of `Hz`, `V`, `Distance` and `Seed` that doesn't
+// read; else `Form`.
 fn noise_trouble(line: &[u8]) -> SceneTrouble
     requires { first_word line.now ≡ codes "noise" }
     ensures { IsSceneTrouble line.now result }
@@ -419,7 +425,7 @@ fn noise_trouble(line: &[u8]) -> SceneTrouble
     SceneTrouble::Form(SceneWord::Noise)
 }
 
-// What is at fault in a line that begins with `delay`.
+// What is at fault in a line that begins with `delay`: if it has two fields, the first of `Rpc` and `Ms` that doesn't read; else `Form`.
 fn delay_trouble(line: &[u8]) -> SceneTrouble
     requires { first_word line.now ≡ codes "delay" }
     ensures { IsSceneTrouble line.now result }

@@ -1,10 +1,9 @@
 //! The text of a schedule, read into its events.
 
-ghost use Rattle.std.specs.Prelude.{◌≡◌, ◌<◌, ◌↔◌, ℕ, length, Err, IfOk, IfErr};
-ghost use Rattle.gc_texts.specs.LineForms.{TextFault};
+ghost use Rattle.std.specs.Prelude.{◌≡◌, Err, IfOk, IfErr};
+ghost use Rattle.gc_texts.specs.LineForms.{NamesFaulty, RefusesLong, TextFault};
 ghost use Rattle.gc_engines.specs.Schedule.{IsEvent, IsSchedule, IsFirstFaulty, ReachesASoundEvent};
 ghost use Rattle.gc_texts.specs.declared.fault.RunFault.{RunFault};
-ghost use Rattle.gc_texts.specs.declared.text.TheConstants.{TEXT_LIMIT};
 
 use crate::event::EventForm;
 use gc_texts::{RunFault, read_items};
@@ -18,8 +17,8 @@ use std::alloc::Global;
 /// event.
 pub fn read_schedule(alloc: Global, text: &[u8]) -> Result<Vec<Event>, RunFault>
     ensures found { IfOk result (λ events. IsSchedule text.now events.items) }
-    ensures too_long { (result ≡ Err RunFault.InputTooLong) ↔ (TEXT_LIMIT < length text.now) }
-    ensures faulty { (n : ℕ) → result ≡ Err (RunFault.Schedule n) → IsFirstFaulty text.now n }
+    ensures too_long { RefusesLong text.now result }
+    ensures faulty { NamesFaulty (IsFirstFaulty text.now) result }
     ensures memory { result ≡ Err RunFault.Memory → ReachesASoundEvent text.now }
     ensures faults { IfErr result (λ e. TextFault IsEvent text.now e) }
 {

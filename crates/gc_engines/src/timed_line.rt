@@ -5,7 +5,7 @@ ghost use Rattle.std.specs.Prelude.{◌≡◌, MatchOption};
 ghost use Rattle.gc_scenes.specs.declared.delay.Delay.{Delay};
 ghost use Rattle.gc_engines.specs.TimedScenes.{IsTimedLine, IsDelayLine};
 
-use crate::event::is_plain;
+use crate::event::is_exactly;
 use crate::rule_line::{CODE_MAX, RuleLine, read_rule_line};
 use gc_scenes::Delay;
 use gc_texts::{LineForm, before, behind, number_of};
@@ -49,7 +49,7 @@ impl LineForm for TimedForm {
     }
 }
 
-// Reads one line of a scene. `None`: it has no form.
+// Reads one line of a scene for `serve`. `None`: it has the form of no such line.
 fn read_timed_line(line: &[u8]) -> Option<TimedLine>
     ensures { MatchOption result ((says : TimedLine) → IsTimedLine line.now says → ⊥) (λ says. IsTimedLine line.now says) }
 {
@@ -59,20 +59,20 @@ fn read_timed_line(line: &[u8]) -> Option<TimedLine>
     if let Some(delay) = read_delay(line) {
         return Some(TimedLine::Delay(delay));
     }
-    if is_plain(b"busy queue", line) {
+    if is_exactly(b"busy queue", line) {
         return Some(TimedLine::Queues);
     }
-    if is_plain(b"busy drop", line) {
+    if is_exactly(b"busy drop", line) {
         return Some(TimedLine::Drops);
     }
     None
 }
 
-// Reads `delay RPC MS`. `None`: the line has no such form.
+// Reads `delay RPC MS`: a procedure, and a delay in milliseconds, of at most an hour. `None`: the line has no such form.
 fn read_delay(line: &[u8]) -> Option<Delay>
     ensures { MatchOption result ((d : Delay) → IsDelayLine line.now d → ⊥) (λ d. IsDelayLine line.now d) }
 {
-    if !is_plain(b"delay", before(b' ', line)) {
+    if !is_exactly(b"delay", before(b' ', line)) {
         return None;
     }
     let rest = behind(b' ', line);

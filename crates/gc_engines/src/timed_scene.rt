@@ -1,10 +1,9 @@
 //! The text of a scene that `serve` takes, read into the instrument that it sets up, with its delays.
 
-ghost use Rattle.std.specs.Prelude.{◌≡◌, ◌<◌, ◌↔◌, ℕ, [], length, Err, IfErr, IfOk, IsOk, MatchOption, false};
-ghost use Rattle.gc_texts.specs.LineForms.{FirstFaulty};
+ghost use Rattle.std.specs.Prelude.{◌≡◌, ◌<◌, [], length, Err, IfErr, IfOk, IsOk, MatchOption, false};
+ghost use Rattle.gc_texts.specs.LineForms.{FirstFaulty, NamesFaulty, RefusesLong};
 ghost use Rattle.gc_texts.specs.declared.fault.RunFault.{RunFault};
-ghost use Rattle.gc_texts.specs.declared.text.TheConstants.{TEXT_LIMIT};
-ghost use Rattle.gc_engines.specs.TimedScenes.{IsFullTimed, IsTimedLine, IsTimedScene, TimedFault, delays_of, drops_from, rules_of};
+ghost use Rattle.gc_engines.specs.TimedScenes.{IsOverfullTimed, IsTimedLine, IsTimedScene, TimedFault, delays_of, drops_from, rules_of};
 
 use crate::rule_line::RuleLine;
 use crate::rule_scene::set_up;
@@ -14,17 +13,17 @@ use gc_scenes::{Delay, SlowInstrument};
 use gc_texts::{RunFault, read_items};
 use std::alloc::{AllocError, Global};
 
-/// Reads the text of a scene with rules, in which also lines `delay RPC MS`, `busy queue` and `busy drop` may stand, and gives the
-/// instrument that it sets up, in its opening state. Of several delays of one procedure, and of several lines `busy`, the last one
-/// counts.
+/// Reads the text of a scene for `serve`: a scene with rules that may also have lines `delay RPC MS`, `busy queue` and `busy drop`.
+/// Returns the instrument that the text sets up, in its opening state. Of several delays of one procedure, and of several lines
+/// `busy`, the last one counts.
 ///
-/// The faults are those of `read_rule_scene`. `SceneFull` also refuses more than 32 delays, and `Memory` also comes where the lines
-/// with rules were gathered behind the last line.
+/// The faults are those of `read_rule_scene`. `SceneFull` also refuses more than 32 delays, and `Memory` also comes when all lines
+/// were read, and the list of those with rules couldn't grow.
 pub fn read_timed_scene(alloc: Global, text: &[u8]) -> Result<SlowInstrument, RunFault>
     ensures found { IfOk result (λ slow. IsTimedScene text.now slow) }
-    ensures too_long { (result ≡ Err RunFault.InputTooLong) ↔ (TEXT_LIMIT < length text.now) }
-    ensures faulty { (n : ℕ) → result ≡ Err (RunFault.Schedule n) → FirstFaulty IsTimedLine text.now n }
-    ensures full { result ≡ Err RunFault.SceneFull → IsFullTimed text.now }
+    ensures too_long { RefusesLong text.now result }
+    ensures faulty { NamesFaulty (FirstFaulty IsTimedLine text.now) result }
+    ensures full { result ≡ Err RunFault.SceneFull → IsOverfullTimed text.now }
     ensures faults { IfErr result (λ e. TimedFault text.now e) }
 {
     let lines = match read_items::<TimedForm>(alloc, text) {
@@ -43,7 +42,7 @@ pub fn read_timed_scene(alloc: Global, text: &[u8]) -> Result<SlowInstrument, Ru
     }
 }
 
-// The lines of a scene with rules among these, in order. `Err`: memory was refused.
+// Those of the lines that are lines of a scene with rules, in order. `Err`: memory was refused.
 fn rules_of(alloc: Global, lines: &[TimedLine]) -> Result<Vec<RuleLine>, AllocError>
     ensures found { IfOk result (λ rules. rules.items ≡ rules_of lines.now) }
     ensures none { rules_of lines.now ≡ [] → IsOk result }
@@ -75,7 +74,7 @@ fn delays_of(lines: &[TimedLine]) -> Option<ArrayVec<Delay, 32>>
     Some(delays)
 }
 
-// Whether the instrument drops what comes while it is busy.
+// Whether the instrument drops what comes while it is busy: as the last line `busy` says. If there is none, it doesn't.
 fn drops(lines: &[TimedLine]) -> bool
     ensures { result ≡ drops_from false lines.now }
 {

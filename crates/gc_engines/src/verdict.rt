@@ -1,4 +1,4 @@
-//! What is said of each frame of a recording: the verdicts, how they are found, and how they are printed.
+//! The verdicts on the frames of a recording: how they are found, and how they are printed.
 
 ghost use Rattle.std.specs.Prelude.{◌≡◌, ◌+◌, ◌≤◌, ◌++◌, length, MatchOption};
 ghost use Rattle.gc_lines.specs.Lent.{lent_seen};
@@ -11,24 +11,24 @@ use gc_catalogue::{CallFault, decode_call};
 use gc_lines::{Lent, LineFault, Outgoing, Request, append, read_reply, read_request};
 use itoa::{Buffer, Integer};
 
-/// What is said of a frame. The verdicts and their numbers are this project's own.
+/// The verdict on a frame. The verdicts and the numbers of their faults are this project's own.
 #[derive(Clone, Copy, Debug, PartialEq, Eq)]
 pub(crate) enum Verdict {
     /// A line feed without a CR before it.
     Cleared,
     /// A line of more than 512 bytes.
     Overlong,
-    /// A request whose call reads.
+    /// A request of a procedure of the table, with parameters that can be read.
     Request { rpc: u16 },
-    /// A request whose call doesn't.
+    /// A request whose procedure isn't in the table, or whose parameters can't be read.
     RequestFault { rpc: u16, fault: CallFault },
     /// A reply.
     Reply { rc_com: u16, rc: u16 },
-    /// A line that is neither. It has the fault of a reply where it begins as one, else that of a request.
+    /// A line that is neither a request nor a reply. The fault is that of a reply if the line begins as one, else that of a request.
     Fault { fault: LineFault },
 }
 
-// The verdict on a frame, if a line feed has ended it.
+// The verdict on a frame. `None`: no line feed has ended the frame yet.
 #[inline]
 pub(crate) fn verdict_of(frame: Lent<'_>) -> Option<Verdict>
     ensures { MatchOption result (lent_seen frame.entry ≡ Frame.More) (λ v. IsVerdict (lent_seen frame.entry) v) }
@@ -55,7 +55,7 @@ pub(crate) fn line_verdict(line: &[u8]) -> Verdict
     }
 }
 
-// The verdict on a line that has this fault as a reply.
+// The verdict on a line that is no reply, but has this fault as one.
 #[inline]
 fn faulty_verdict(line: &[u8], fault: LineFault) -> Verdict
     requires { FirstBadOfReply line.now fault }
@@ -93,7 +93,7 @@ fn request_verdict(request: &Request<'_>) -> Verdict
     }
 }
 
-// Appends a verdict in words, for which there is room.
+// Appends a verdict in words. There is room for it.
 #[inline]
 pub(crate) fn push_verdict(text: &mut Outgoing, verdict: Verdict)
     requires { length text.old.items + 100 ≤ 8192 }
@@ -119,7 +119,7 @@ pub(crate) fn push_verdict(text: &mut Outgoing, verdict: Verdict)
     }
 }
 
-// Appends a word and a number behind it, for which there is room.
+// Appends a word, and a number in decimal behind it. There is room for both.
 #[inline]
 fn push_number<I: Integer>(text: &mut Outgoing, word: &[u8], number: I)
     requires { length text.old.items + length word.now + 40 ≤ 8192 }
@@ -130,7 +130,7 @@ fn push_number<I: Integer>(text: &mut Outgoing, word: &[u8], number: I)
     push_decimal(text, number);
 }
 
-// Appends a number in decimal, for which there is room.
+// Appends a number in decimal. There is room for it.
 #[inline]
 pub(crate) fn push_decimal<I: Integer>(text: &mut Outgoing, number: I)
     requires { length text.old.items + 40 ≤ 8192 }

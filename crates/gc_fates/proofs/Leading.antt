@@ -3,10 +3,10 @@ use Rattle.std.proofs.Common.{◌≡◌, ℕ, ◌+◌, ◌<◌, ◌≤◌, List,
 use Rattle.gc_texts.specs.Cuts.{Cuts}
 use Rattle.gc_texts.specs.LineForms.{text_lines, without_cr, line_at}
 use Rattle.gc_texts.proofs.TextLines.{lines_left, much_left, lines-cut}
-use Rattle.gc_fates.specs.Rules.{no_rules, Leads, LeadAll, AreRules, IsIll, IsFirstIll, said_part}
+use Rattle.gc_fates.specs.Rules.{no_rules, Leads, LeadAll, AreRules, IsRuleFault, IsFirstFaultyRule, without_comment}
 use Rattle.gc_fates.specs.Spaced.{IsBlank}
 use Rattle.gc_fates.specs.declared.rules.Rules.{Rules}
-use Rattle.gc_fates.specs.declared.saying.Ill.{Ill}
+use Rattle.gc_fates.specs.declared.rule.RuleFault.{RuleFault}
 
 -- where lines lead from `old` to `mid`, and one more line from `mid` to `new`, all of them lead from `old` to `new`
 lead_more : (old mid new : Rules) (lines : List (List ℕ)) (line : List ℕ) → LeadAll old lines mid → Leads mid line new → LeadAll old (lines ++ line ∷ []) new
@@ -21,11 +21,11 @@ pub record Comes (text : List ℕ) (left : Option (List ℕ)) (number : ℕ) (ru
   pub few : number + much_left left ≤ length text + 1
   pub lead : LeadAll no_rules read rules
 
--- at the start nothing was read
+-- before the first line, the reading has come to no rules
 pub comes_first : (text : List ℕ) → Comes text (Some text) 0 no_rules
 comes_first text = record { read = []; lines_are = refl; count = refl; few = omega arith; lead = refl }
 
--- what is behind a cut has fewer bytes than there were
+-- what is left after the cut of a text is smaller than the text, by `much_left`, which counts the bytes and one more
 less_left : (now front : List ℕ) (rest : Option (List ℕ)) → Cuts 10 now front rest → 1 + much_left rest ≤ length now + 1
 less_left now front None cut = omega arith
 less_left now front (Some rest) cut =
@@ -40,11 +40,11 @@ left_falls now front rest cut = let less = less_left now front rest cut in omega
 first_line : (now front : List ℕ) (rest : Option (List ℕ)) → Cuts 10 now front rest → line_at now 1 ≡ without_cr front
 first_line now front rest cut = ap (λ ls. get_or ls 0 []) (lines-cut now front rest cut)
 
--- what is left are its first line and those behind the cut
+-- the lines of what is left are the one before the cut, and those after it
 next_lines : (now front : List ℕ) (rest : Option (List ℕ)) → Cuts 10 now front rest → text_lines now ≡ line_at now 1 ∷ lines_left rest
 next_lines now front rest cut = lines-cut now front rest cut ∙ ap (λ l. l ∷ lines_left rest) (sym (first_line now front rest cut))
 
--- one more line was read
+-- where the reading has come to a line that leads on, it goes on after that line, with the new rules
 pub comes_on : (text now front : List ℕ) (rest : Option (List ℕ)) (number : ℕ) (rules new : Rules) → Comes text (Some now) number rules → Cuts 10 now front rest
     → Leads rules (line_at now 1) new → Comes text rest (number + 1) new
 comes_on text now front rest number rules new c cut leads =
@@ -56,10 +56,10 @@ comes_on text now front rest number rules new c cut leads =
       lead = lead_more no_rules rules new c.read (line_at now 1) c.lead leads;
     }
 
--- the next line is the first faulty one
-pub first_ill : (text now front : List ℕ) (rest : Option (List ℕ)) (number : ℕ) (rules : Rules) (ill : Ill) → Comes text (Some now) number rules → Cuts 10 now front rest
-    → IsIll rules (line_at now 1) ill → (IsBlank (said_part (line_at now 1)) → ⊥) → IsFirstIll text (number + 1) ill
-first_ill text now front rest number rules ill c cut is worded = record {
+-- where the reading has come to a line that isn't blank and has a fault, that line is the first faulty one
+pub first_faulty : (text now front : List ℕ) (rest : Option (List ℕ)) (number : ℕ) (rules : Rules) (fault : RuleFault) → Comes text (Some now) number rules → Cuts 10 now front rest
+    → IsRuleFault rules (line_at now 1) fault → (IsBlank (without_comment (line_at now 1)) → ⊥) → IsFirstFaultyRule text (number + 1) fault
+first_faulty text now front rest number rules fault c cut is worded = record {
   front = c.read;
   line = line_at now 1;
   rest = lines_left rest;
@@ -68,10 +68,10 @@ first_ill text now front rest number rules ill c cut is worded = record {
   rules = rules;
   before = c.lead;
   worded = worded;
-  ill_is = is;
+  fault_is = is;
 }
 
--- where nothing is left, the text says the rules
+-- where nothing is left, the text has the rules that were read
 pub comes_last : (text : List ℕ) (left : Option (List ℕ)) (number : ℕ) (rules : Rules) → Comes text left number rules → left ≡ None → AreRules text rules
 comes_last text left number rules c end =
     let all : text_lines text ≡ c.read = c.lines_are ∙ ap (λ l. c.read ++ lines_left l) end ∙ append-nil c.read in

@@ -29,7 +29,7 @@ pub no_thousandths : (whole : List ℕ) (places : Option (List ℕ)) (digits : L
 no_thousandths whole places digits n cut none is =
     let parts : IsParts whole (Some digits) n = subst (λ p. IsParts whole p n) cut is in none parts.1 parts.3
 
--- how many thousandths digits are follows from how many they are, and from their number
+-- digits are one number of thousandths at most, by how many they are and the number that they write
 one_count : (count m x y : ℕ) → AreThousandths count m x → AreThousandths count m y → x ≡ y
 one_count count m x y (inl a) (inl b) = omega (arith, a.0, a.1, b.0, b.1)
 one_count count m x y (inl a) (inr (inl b)) = omega (arith, a.0, b.0)
@@ -41,13 +41,13 @@ one_count count m x y (inr (inr a)) (inl b) = omega (arith, a.0, b.0)
 one_count count m x y (inr (inr a)) (inr (inl b)) = omega (arith, a.0, b.0)
 one_count count m x y (inr (inr a)) (inr (inr b)) = omega (arith, a.1, b.1)
 
--- decimals are one number of thousandths
+-- digits after a point are one number of thousandths at most
 one_places : (digits : List ℕ) (m n : ℕ) → IsPlaces digits m → IsPlaces digits n → m ≡ n
 one_places digits m n x y =
     let same : x.0 ≡ y.0 = one_number digits x.0 y.0 999 x.1 y.1 in
     one_count (length digits) y.0 m n (subst (λ k. AreThousandths (length digits) k m) same x.2) y.2
 
--- a word above 100 is no percentage
+-- where the number before the point and the thousandths after it are together more than 100 percent, the word is no percentage
 pub too_much : (whole : List ℕ) (places : Option (List ℕ)) (digits : List ℕ) (w t n : ℕ) → places ≡ Some digits → IsNumber whole w 100
     → IsPlaces digits t → 100000 < w * 1000 + t → IsParts whole places n → ⊥
 too_much whole places digits w t n cut number are above is =

@@ -9,7 +9,7 @@ use Rattle.gc_fates.specs.declared.draw.Way.TheVariants.{Up, Down}
 abbrev pub golden : ℕ
 golden = 0x9e3779b97f4a7c15
 
--- what splitmix64 gives next in this state
+-- the next output of splitmix64 in this state
 abbrev pub word_at : ℕ → ℕ
 word_at state = (mix_u64 state).0
 
@@ -35,10 +35,10 @@ draws_before n k = (16 * (n - 1) % 2 ^ 64 + (k - 1)) % 2 ^ 64
 abbrev pub draw_at : ℕ → ℕ → ℕ → ℕ
 draw_at start n k = word_at (steps_on start (draws_before n k))
 
--- whether something that happens to `share` of 100,000 lines happens by this draw, whose upper half decides
+-- whether something that happens to `share` of 100,000 lines happens by this draw, whose upper 32 bits decide
 abbrev pub happens : ℕ → ℕ → Bool
 happens draw share = nat_lt (draw / 4294967296 * 100000 / 4294967296) share
 
--- the number from `least` to `most` that a draw gives; its lower half decides
+-- the number from `least` to `most` that a draw gives; its lower 32 bits decide. It is `least` if `most` is below that
 abbrev pub among : ℕ → ℕ → ℕ → ℕ
 among draw least most = least + draw % 4294967296 * (most - least + 1) / 4294967296

@@ -5,31 +5,32 @@ use Rattle.gc_fates.specs.Rules.{chance_of}
 use Rattle.gc_fates.specs.declared.chance.Chance.{Chance}
 use Rattle.gc_fates.specs.declared.fate.Fate.{Fate}
 use Rattle.gc_fates.specs.declared.rules.Rules.{Rules}
-use Rattle.gc_fates.specs.declared.saying.Word.TheVariants.{Delay, Lose, Repeat, Hold, Close, Refuse, Restart}
+use Rattle.gc_fates.specs.declared.rule.Word.TheVariants.{Delay, Lose, Repeat, Hold, Close, Refuse, Restart}
 
--- whether something happens by a draw. What the text doesn't name never happens
+-- whether what a word names happens by this draw; never, if the text doesn't have the word (`None`)
 abbrev pub hits : Option Chance → ℕ → Bool
 hits None draw = false
 hits (Some chance) draw = happens draw chance.share
 
--- the number that is drawn; 0 for what the text doesn't name
+-- the number that a word draws; 0 if the text doesn't have the word (`None`)
 abbrev pub drawn : Option Chance → ℕ → ℕ
 drawn None draw = 0
 drawn (Some chance) draw = among draw chance.least chance.most
 
--- the number that is drawn where something happens, else 0
+-- the number that a word draws if what it names happens, else 0
 abbrev pub drawn_if : Bool → Option Chance → ℕ → ℕ
 drawn_if happens chance draw = if happens then drawn chance draw else 0
 
--- a line is lost, by its first draw
+-- whether a line is lost, by its first draw
 abbrev pub loses : Rules → ℕ → ℕ → Bool
 loses rules start line = hits (chance_of rules Lose) (draw_at start line 1)
 
--- the connection ends in place of a line, by the line's fifth draw, if the line isn't lost
+-- whether the connection ends in place of a line, by the line's fifth draw; never in place of a lost line
 abbrev pub ends : Rules → ℕ → ℕ → Bool
 ends rules start line = not (loses rules start line) && hits (chance_of rules Close) (draw_at start line 5)
 
--- what happens to a line: each word has its own draw
+-- what happens to a line: each word has its own draw. An end is a reset if the lower 32 bits of its draw are in the upper half of their
+-- range
 abbrev pub fate_of : Rules → ℕ → ℕ → Fate
 fate_of rules start line = record {
   wait = drawn (chance_of rules Delay) (draw_at start line 3);

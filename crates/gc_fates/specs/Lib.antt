@@ -3,6 +3,6 @@ pub mod Fates
 pub mod Laws
 pub mod Refusals
 pub mod Rules
-pub mod Sayings
+pub mod RuleForms
 pub mod Shares
 pub mod Spaced

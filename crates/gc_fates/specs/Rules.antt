@@ -1,55 +1,56 @@
--- What the lines of a bad line's text say together: this project's own.
+-- The rules of a text together: this project's own.
 use Rattle.std.specs.Prelude.{◌≡◌, ℕ, ◌+◌, ◌<◌, ◌≤◌, ◌⊎◌, List, [], ◌∷◌, ◌++◌, length, get_or, slice_set, Option, None, Some}
 use Rattle.gc_texts.specs.Cuts.{before}
 use Rattle.gc_texts.specs.LineForms.{text_lines}
 use Rattle.gc_texts.specs.declared.text.TheConstants.{TEXT_LIMIT}
-use Rattle.gc_fates.specs.Sayings.{place_of, IsSaid, IsIllSaid}
+use Rattle.gc_fates.specs.RuleForms.{place_of, IsRule, IsNoRule}
 use Rattle.gc_fates.specs.Spaced.{IsBlank}
 use Rattle.gc_fates.specs.declared.chance.Chance.{Chance}
 use Rattle.gc_fates.specs.declared.rules.Rules.{Rules}
-use Rattle.gc_fates.specs.declared.saying.Ill.{Ill}
-use Rattle.gc_fates.specs.declared.saying.Ill.TheVariants.{NoWord, Form, Again}
-use Rattle.gc_fates.specs.declared.saying.Saying.{Saying}
-use Rattle.gc_fates.specs.declared.saying.Word.{Word}
+use Rattle.gc_fates.specs.declared.rule.RuleFault.{RuleFault}
+use Rattle.gc_fates.specs.declared.rule.RuleFault.TheVariants.{NoWord, Form, Again}
+use Rattle.gc_fates.specs.declared.rule.Rule.{Rule}
+use Rattle.gc_fates.specs.declared.rule.Word.{Word}
 
--- no word is said
+-- the rules of a text without a word
 abbrev pub no_rules : Rules
 no_rules = record { chances = None ∷ None ∷ None ∷ None ∷ None ∷ None ∷ None ∷ None ∷ [] }
 
--- what is said of a word
+-- the chance of a word; `None` if the text doesn't have the word
 abbrev pub chance_of : Rules → Word → Option Chance
 chance_of rules word = get_or rules.chances (place_of word) None
 
--- the rules with one more saying
-abbrev pub with_saying : Rules → Saying → Rules
-with_saying rules saying = record { chances = slice_set rules.chances (place_of saying.word) (Some saying.chance) }
+-- these rules, with one more rule, which replaces that of its word
+abbrev pub with_rule : Rules → Rule → Rules
+with_rule rules rule = record { chances = slice_set rules.chances (place_of rule.word) (Some rule.chance) }
 
--- what a line has in front of its comment, which begins with `#` (byte 35)
-abbrev pub said_part : List ℕ → List ℕ
-said_part line = before 35 line
+-- a line without its comment, which begins with `#` (byte 35)
+abbrev pub without_comment : List ℕ → List ℕ
+without_comment line = before 35 line
 
--- a line leads from the rules `old` of the lines before it to the rules `new`: it has no word, or a word that no earlier line has
+-- a line leads from the rules `old` of the lines before it to the rules `new`: it is blank and `new` are `old`, or it is a rule whose word
+-- no earlier line has, and `new` are `old` with this rule
 abbrev pub Leads : Rules → List ℕ → Rules → Type 0
-Leads old line new = (IsBlank (said_part line) × (new ≡ old))
-    ⊎ ((saying : Saying) × IsSaid (said_part line) saying × (chance_of old saying.word ≡ None) × (new ≡ with_saying old saying))
+Leads old line new = (IsBlank (without_comment line) × (new ≡ old))
+    ⊎ ((rule : Rule) × IsRule (without_comment line) rule × (chance_of old rule.word ≡ None) × (new ≡ with_rule old rule))
 
 -- these lines lead from the rules `old` to the rules `new`
 abbrev pub LeadAll : Rules → List (List ℕ) → Rules → Type 0
 LeadAll old [] new = new ≡ old
 LeadAll old (line ∷ lines) new = (between : Rules) × Leads old line between × LeadAll between lines new
 
--- the text says these rules
+-- the text has these rules: its lines lead from no rules to these
 abbrev pub AreRules : List ℕ → Rules → Type 0
 AreRules text rules = LeadAll no_rules (text_lines text) rules
 
--- what is wrong with a line, where the lines before it say these rules: its word was said already, or the line has no form
-abbrev pub IsIll : Rules → List ℕ → Ill → Type 0
-IsIll rules line (Again word) = (saying : Saying) × IsSaid (said_part line) saying × (saying.word ≡ word) × (chance_of rules word ≡ None → ⊥)
-IsIll rules line ill = IsIllSaid (said_part line) ill
+-- what is wrong with a line after lines that have these rules: an earlier line has its word, or it is no rule
+abbrev pub IsRuleFault : Rules → List ℕ → RuleFault → Type 0
+IsRuleFault rules line (Again word) = (rule : Rule) × IsRule (without_comment line) rule × (rule.word ≡ word) × (chance_of rules word ≡ None → ⊥)
+IsRuleFault rules line fault = IsNoRule (without_comment line) fault
 
--- line number n of a text, counted from 1, is the first faulty one, and this is wrong with it: the lines before it lead to rules, and it leads
--- nowhere
-pub record IsFirstIll (text : List ℕ) (n : ℕ) (ill : Ill) : Type 0 where
+-- line number n of a text, counted from 1, is its first faulty line, and has this fault: the lines before it lead to rules, and it is
+-- neither blank nor a rule whose word is new
+pub record IsFirstFaultyRule (text : List ℕ) (n : ℕ) (fault : RuleFault) : Type 0 where
   pub front : List (List ℕ)
   pub line : List ℕ
   pub rest : List (List ℕ)
@@ -57,5 +58,5 @@ pub record IsFirstIll (text : List ℕ) (n : ℕ) (ill : Ill) : Type 0 where
   pub place : n ≡ length front + 1
   pub rules : Rules
   pub before : LeadAll no_rules front rules
-  pub worded : IsBlank (said_part line) → ⊥
-  pub ill_is : IsIll rules line ill
+  pub worded : IsBlank (without_comment line) → ⊥
+  pub fault_is : IsRuleFault rules line fault

@@ -3,19 +3,20 @@ use Rattle.std.specs.Prelude.{◌≡◌, ℕ, ◌+◌, ◌*◌, ◌≤◌, ◌�
 use Rattle.gc_texts.specs.Cuts.{Cuts}
 use Rattle.gc_texts.specs.Procedures.{IsNumber}
 
--- digits as thousandths by how many they are, one to three
+-- `count` digits after a point, which write `number`, are `n` thousandths: one digit is tenths, two are hundredths, and three
+-- thousandths
 abbrev pub AreThousandths : ℕ → ℕ → ℕ → Type 0
 AreThousandths count number n = ((count ≡ 1) × (n ≡ number * 100)) ⊎ (((count ≡ 2) × (n ≡ number * 10)) ⊎ ((count ≡ 3) × (n ≡ number)))
 
--- one to three decimals are this many thousandths
+-- one to three digits after a point are this many thousandths
 abbrev pub IsPlaces : List ℕ → ℕ → Type 0
 IsPlaces digits n = (number : ℕ) × IsNumber digits number 999 × AreThousandths (length digits) number n
 
--- a whole number of percent, and the decimals after the point, if there is one, are this many thousandths
+-- the digits before a point, and those after it, if there is one, are a percentage of at most 100, in thousandths of a percent
 abbrev pub IsParts : List ℕ → Option (List ℕ) → ℕ → Type 0
 IsParts whole None n = (number : ℕ) × IsNumber whole number 100 × (n ≡ number * 1000)
 IsParts whole (Some places) n = (number : ℕ) × (thousandths : ℕ) × IsNumber whole number 100 × IsPlaces places thousandths × (n ≡ number * 1000 + thousandths) × (n ≤ 100000)
 
--- the word is a percentage of this many thousandths, at most 100. A point is byte 46
+-- the word is a percentage of at most 100, which is `n` thousandths of a percent. A point is byte 46
 abbrev pub IsShare : List ℕ → ℕ → Type 0
 IsShare word n = (whole : List ℕ) × (places : Option (List ℕ)) × Cuts 46 word whole places × IsParts whole places n

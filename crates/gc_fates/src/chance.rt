@@ -1,11 +1,11 @@
-//! Chances: how often something happens to a line, and what then is drawn.
+//! Chances: how often something happens to a line, and from which range a number is drawn for it.
 
-/// How often something happens, and among which numbers it draws.
+/// How often something happens, and from which range a number is drawn for it: a time in milliseconds, or how many times.
 #[derive(Clone, Copy, Debug, PartialEq, Eq)]
 pub struct Chance {
-    /// In how many of 100,000 lines.
+    /// In how many of 100,000 lines it happens.
     pub share: u32,
-    /// The least number that is drawn: milliseconds, or how many.
+    /// The least number that is drawn. 0, as `most`, if no number is drawn.
     pub least: u32,
     /// The greatest number that is drawn.
     pub most: u32,

@@ -23,7 +23,7 @@ pub enum Way {
     Down,
 }
 
-/// What splitmix64 gives next in this state.
+/// The next output of splitmix64 in this state.
 pub fn word_of_state(state: u64) -> u64
     ensures { result ≡ word_at state }
 {
@@ -34,7 +34,7 @@ pub fn word_of_state(state: u64) -> u64
 /// The draws of a seed for the lines of one direction.
 #[derive(Clone, Copy, Debug, PartialEq, Eq)]
 pub struct Draws {
-    /// The state of splitmix64 before the first of them.
+    /// The state of splitmix64 before the first draw of line 1.
     pub start: u64,
 }
 
@@ -52,7 +52,7 @@ impl Draws {
         }
     }
 
-    /// The draws of this seed for what happens to the station and not to a line.
+    /// The draws of this seed for kills of the station.
     pub fn of_kills(seed: u64) -> Draws
         ensures { result.start ≡ start_of_kills seed }
     {
@@ -61,7 +61,7 @@ impl Draws {
         }
     }
 
-    /// Draw `place`, 1 to 16, of a line, counted from 1.
+    /// The draw with number `place`, 1 to 16, of line number `line`, counted from 1.
     pub fn draw(self, line: u64, place: u64) -> u64
         ensures { result ≡ draw_at self.start line place }
     {
@@ -72,7 +72,7 @@ impl Draws {
     }
 }
 
-// Whether something happens by a draw that happens to `share` of 100,000 lines: the upper half of the draw decides.
+// Whether something that happens to `share` of 100,000 lines happens by this draw: the upper 32 bits of the draw decide.
 pub(crate) fn happens(draw: u64, share: u32) -> bool
     ensures { result ≡ happens draw share }
 {
@@ -80,7 +80,7 @@ pub(crate) fn happens(draw: u64, share: u32) -> bool
     upper * WHOLE / 4_294_967_296 < u64::from(share)
 }
 
-/// The number that a draw gives from `least` to `most`: the lower half of the draw decides.
+/// The number from `least` to `most` that a draw gives: the lower 32 bits of the draw decide. It is `least` if `most` is below that.
 pub fn among(draw: u64, least: u32, most: u32) -> u64
     ensures { result ≡ among draw least most }
 {

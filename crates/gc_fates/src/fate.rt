@@ -5,31 +5,31 @@ ghost use Rattle.gc_fates.specs.Fates.{hits, drawn, drawn_if, fate_of};
 
 use crate::chance::Chance;
 use crate::draw::{Draws, among, happens};
+use crate::rule::Word;
 use crate::rules::Rules;
-use crate::saying::Word;
 
 /// What happens to a line. Times are in milliseconds.
 #[derive(Clone, Copy, Debug, PartialEq, Eq)]
 pub struct Fate {
-    /// How long it is on its way.
+    /// How long it is on the way.
     pub wait: u64,
-    /// It doesn't arrive.
+    /// Whether it doesn't arrive.
     pub is_lost: bool,
-    /// A second copy directly follows it.
+    /// Whether a second copy directly follows it.
     pub is_repeated: bool,
-    /// For how long nothing passes in either direction after it; 0 where it holds nothing up.
+    /// For how long nothing passes in either direction after it; 0 if it holds nothing up.
     pub hold: u64,
-    /// The connection ends in place of its arrival.
+    /// Whether the connection ends in place of its arrival.
     pub closes: bool,
-    /// Where the connection ends, it does so by a reset.
+    /// Whether the connection ends by a reset. `false` if it doesn't end.
     pub is_reset: bool,
-    /// After that close no connection is made for so long.
+    /// For how long no connection is made after that end; 0 if the connection doesn't end or none is refused.
     pub refuse: u64,
-    /// The instrument restarts when it arrives.
+    /// Whether the instrument restarts when it arrives.
     pub restarts: bool,
 }
 
-// Whether something happens by this draw. A word that the text doesn't have never happens.
+// Whether what a word names happens by this draw. `None`: the text doesn't have the word, and it never happens.
 fn hits(chance: Option<Chance>, draw: u64) -> bool
     ensures { result ≡ hits chance draw }
 {
@@ -39,7 +39,7 @@ fn hits(chance: Option<Chance>, draw: u64) -> bool
     }
 }
 
-// The number that is drawn; 0 for a word that the text doesn't have.
+// The number that a word draws. `None`: the text doesn't have the word, and the number is 0.
 fn drawn(chance: Option<Chance>, draw: u64) -> u64
     ensures { result ≡ drawn chance draw }
 {
@@ -49,24 +49,25 @@ fn drawn(chance: Option<Chance>, draw: u64) -> u64
     }
 }
 
-// The number that is drawn where something happens, else 0.
+// The number that a word draws if what it names happens, else 0.
 fn drawn_if(happens: bool, chance: Option<Chance>, draw: u64) -> u64
     ensures { result ≡ drawn_if happens chance draw }
 {
     if happens { drawn(chance, draw) } else { 0 }
 }
 
-/// Whether the instrument restarts when a line arrives, as `fate_of` says it.
+/// Whether the instrument restarts at a line, counted from 1: the field `restarts` of `fate_of`, without the draws of the others.
 pub fn restarts_at(rules: &Rules, draws: Draws, line: u64) -> bool
     ensures { result ≡ (fate_of rules.now draws.start line).restarts }
 {
     hits(rules.chance(Word::Restart), draws.draw(line, 8))
 }
 
-/// What happens by these rules and draws to a line of one direction, counted from 1.
+/// What happens by these rules and draws to a line of one direction, counted from 1. Each word has a draw of its own.
 ///
 /// A lost line holds up what follows it and restarts the instrument all the same, and nothing else happens to it. A line in whose place the
-/// connection ends isn't repeated, and only such a line has connections refused.
+/// connection ends isn't repeated, and only such a line has connections refused. The end is a reset if the lower 32 bits of its draw are in
+/// the upper half of their range.
 pub fn fate_of(rules: &Rules, draws: Draws, line: u64) -> Fate
     ensures { result ≡ fate_of rules.now draws.start line }
 {

@@ -2,7 +2,7 @@
 
 ghost use Rattle.gc_fates.specs.Laws.{DrawsAsWritten};
 
-/// The draws that `docs/BAD-LINES.md` has as an example.
+/// The draws of seed 7 that `docs/BAD-LINES.md` has as an example follow from the definitions.
 pub fn draws_are_as_written()
     ensures { DrawsAsWritten }
 {}

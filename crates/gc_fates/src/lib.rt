@@ -1,14 +1,14 @@
-//! Fates: what happens to each line between a station and an instrument, as the text of a bad line says it and a seed draws it.
+//! Fates: what happens to each line between a simulated station and an instrument, by the rules of a text and the draws of a seed.
 #![tactic(auto)]
 
 mod chance;
 mod draw;
 mod fate;
-mod ill;
 pub mod laws;
 mod reading;
+mod rule;
+mod rule_fault;
 mod rules;
-mod saying;
 mod share;
 mod spaced;
 
@@ -16,5 +16,5 @@ pub use chance::Chance;
 pub use draw::{Draws, Way, among, word_of_state};
 pub use fate::{Fate, fate_of, restarts_at};
 pub use reading::{Refusal, read_rules};
+pub use rule::{MILLIS_MAX, RuleFault, Word};
 pub use rules::Rules;
-pub use saying::{Ill, MILLIS_MAX, Word};

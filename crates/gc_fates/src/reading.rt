@@ -1,14 +1,14 @@
-//! The reading of a text: its rules, or its first faulty line.
+//! Reads a text: its rules, or its first faulty line.
 
 ghost use Rattle.std.specs.Prelude.{◌≡◌, ◌+◌, ◌<◌, ◌≤◌, ◌↔◌, ℕ, length, Err, IfOk, IfErr, OnOk, ◌++◌, codes};
-ghost use Rattle.gc_fates.specs.Rules.{AreRules, Leads, IsFirstIll, IsIll, said_part};
+ghost use Rattle.gc_fates.specs.Rules.{AreRules, Leads, IsFirstFaultyRule, IsRuleFault, without_comment};
 ghost use Rattle.gc_fates.specs.Spaced.{IsBlank};
 ghost use Rattle.gc_fates.specs.Refusals.{RefusesText, RefusesLine};
 ghost use Rattle.gc_fates.specs.declared.reading.Refusal.{Refusal};
 ghost use Rattle.gc_texts.specs.declared.text.TheConstants.{TEXT_LIMIT};
 
+use crate::rule::{RuleFault, read_rule};
 use crate::rules::Rules;
-use crate::saying::{Ill, read_saying};
 use crate::spaced::is_blank;
 use gc_texts::{TEXT_LIMIT, before, cut_at, line_at};
 
@@ -18,32 +18,33 @@ pub enum Refusal {
     /// It has more than 65,536 bytes.
     TooLong,
     /// This line, counted from 1, is its first faulty one.
-    Line { line: u32, ill: Ill },
+    Line { line: u32, fault: RuleFault },
 }
 
-// Reads the line after those that say `rules`, and returns the rules with what it says. `Err`: what is wrong with it.
-fn read_line(rules: &Rules, line: &[u8]) -> Result<Rules, Ill>
+// Reads the next line of a text whose earlier lines gave `rules`: returns these with the rule of the line, or the same if the line is
+// blank but for a comment. `Err`: what is wrong with the line.
+fn read_line(rules: &Rules, line: &[u8]) -> Result<Rules, RuleFault>
     ensures found { IfOk result (λ new. Leads rules.now line.now new) }
-    ensures fault { IfErr result (λ ill. IsIll rules.now line.now ill × (IsBlank (said_part line.now) → ⊥)) }
+    ensures fault { IfErr result (λ fault. IsRuleFault rules.now line.now fault × (IsBlank (without_comment line.now) → ⊥)) }
 {
-    let said = before(b'#', line);
-    if is_blank(said) {
+    let text = before(b'#', line);
+    if is_blank(text) {
         return Ok(*rules);
     }
-    match read_saying(said) {
-        Ok(saying) => {
-            if rules.chance(saying.word).is_some() {
-                return Err(Ill::Again(saying.word));
+    match read_rule(text) {
+        Ok(rule) => {
+            if rules.chance(rule.word).is_some() {
+                return Err(RuleFault::Again(rule.word));
             }
-            Ok(rules.with(saying))
+            Ok(rules.with(rule))
         }
-        Err(ill) => Err(ill),
+        Err(fault) => Err(fault),
     }
 }
 
-/// Reads a text: a line for each word, in any order, with comments behind `#`. A word is said once at most.
+/// Reads a text, and returns its rules: a line for each of its words, in any order, with comments after `#`. A word has one line at most.
 ///
-/// `TooLong` refuses a text of more than 65,536 bytes before any line is looked at, and `Line` names the first faulty line.
+/// Fails with `TooLong` if the text has more than 65,536 bytes, before any line is read, and with `Line` at the first faulty line.
 pub fn read_rules(text: &[u8]) -> Result<Rules, Refusal>
     ensures found { IfOk result (λ rules. AreRules text.now rules) }
     ensures too_long { (result ≡ Err Refusal.TooLong) ↔ (TEXT_LIMIT < length text.now) }
@@ -55,7 +56,7 @@ pub fn read_rules(text: &[u8]) -> Result<Rules, Refusal>
     read_lines(text)
 }
 
-// Reads the lines of a text that isn't too long.
+// Reads the lines of a text that isn't too long, and returns its rules. Fails with `Line` at the first faulty line.
 fn read_lines(text: &[u8]) -> Result<Rules, Refusal>
     requires { length text.now ≤ TEXT_LIMIT }
     ensures found { IfOk result (λ rules. AreRules text.now rules) }
@@ -70,7 +71,10 @@ fn read_lines(text: &[u8]) -> Result<Rules, Refusal>
         number += 1;
         match read_line(&rules, line) {
             Ok(new) => rules = new,
-            Err(ill) => return Err(Refusal::Line { line: number, ill }),
+            Err(fault) => return Err(Refusal::Line {
+                line: number,
+                fault,
+            }),
         }
     }
     Ok(rules)

@@ -1,15 +1,15 @@
-//! Rules: what the lines of a text say together. Each word is said once at most.
+//! The rules of a text together: at most one for each word.
 
 ghost use Rattle.std.specs.Prelude.{◌≡◌, ◌<◌, get_or, Option, None};
-ghost use Rattle.gc_fates.specs.Rules.{no_rules, chance_of, with_saying};
+ghost use Rattle.gc_fates.specs.Rules.{no_rules, chance_of, with_rule};
 
 use crate::chance::Chance;
-use crate::saying::{Saying, WORDS, Word};
+use crate::rule::{Rule, WORDS, Word};
 
-/// What a text says: for each word how often it applies and among which numbers it draws, if the text has it.
+/// The rules of a text: for each word that the text has, how often it applies and from which range it draws a number.
 #[derive(Clone, Copy, Debug, PartialEq, Eq)]
 pub struct Rules {
-    // What is said of each word, at the word's place.
+    // The chance of each word, at the word's place. `None`: the text doesn't have the word.
     pub(crate) chances: [Option<Chance>; WORDS],
 }
 
@@ -23,19 +23,19 @@ impl Rules {
         }
     }
 
-    /// What the text says of a word. `None`: it doesn't have the word.
+    /// The chance of a word. `None`: the text doesn't have the word.
     pub fn chance(&self, word: Word) -> Option<Chance>
         ensures { result ≡ chance_of self.now word }
     {
         self.chances[word.place()]
     }
 
-    // These rules, with what one more line says.
-    pub(crate) fn with(&self, saying: Saying) -> Rules
-        ensures { result ≡ with_saying self.now saying }
+    // These rules, with one more rule, which replaces that of its word.
+    pub(crate) fn with(&self, rule: Rule) -> Rules
+        ensures { result ≡ with_rule self.now rule }
     {
         let mut chances = self.chances;
-        chances[saying.word.place()] = Some(saying.chance);
+        chances[rule.word.place()] = Some(rule.chance);
         Rules { chances }
     }
 }

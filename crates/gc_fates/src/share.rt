@@ -1,4 +1,4 @@
-//! Percentages: 0 to 100 with at most three decimals, in thousandths of a percent.
+//! Percentages: 0 to 100 with at most three decimals, as whole numbers of thousandths of a percent.
 
 ghost use Rattle.std.specs.Prelude.{◌≡◌, ◌≤◌, ◌*◌, ℕ, MatchOption};
 ghost use Rattle.gc_fates.specs.Shares.{IsShare, IsPlaces};
@@ -8,7 +8,7 @@ use gc_texts::{cut_at, number_of};
 // 100 percent, in thousandths of a percent.
 pub(crate) const WHOLE: u64 = 100_000;
 
-// Reads one to three decimals as thousandths. `None`: they are fewer or more, or no digits.
+// Reads the one to three digits after a decimal point as thousandths: `5` is 500. `None`: there are fewer or more, or other bytes.
 fn read_places(digits: &[u8]) -> Option<u64>
     ensures { MatchOption result ((n : ℕ) → IsPlaces digits.now n → ⊥) (λ n. IsPlaces digits.now n) }
 {
@@ -23,7 +23,7 @@ fn read_places(digits: &[u8]) -> Option<u64>
     }
 }
 
-// Reads a percentage, in thousandths. `None`: the word is no percentage, or is above 100.
+// Reads a percentage, in thousandths of a percent. `None`: the word is no percentage, or is above 100.
 pub(crate) fn read_share(word: &[u8]) -> Option<u32>
     ensures { MatchOption result ((n : ℕ) → IsShare word.now n → ⊥) (λ n. IsShare word.now n) }
 {

@@ -1,13 +1,13 @@
 //! Words of a line, before each of which any number of spaces may be. A space is byte 32.
 
 ghost use Rattle.std.specs.Prelude.{◌≡◌, [], length, ◌≤◌, IsTrue, ◌↔◌};
-ghost use Rattle.gc_fates.specs.Spaced.{trimmed, first_word, other_words, IsBlank};
+ghost use Rattle.gc_fates.specs.Spaced.{without_leading_spaces, first_word, other_words, IsBlank};
 
 use gc_texts::{before, behind};
 
 // The text without the spaces at its beginning.
-fn trimmed(text: &[u8]) -> &[u8]
-    ensures { result.now ≡ trimmed text.now }
+fn without_leading_spaces(text: &[u8]) -> &[u8]
+    ensures { result.now ≡ without_leading_spaces text.now }
 {
     let mut left = text;
     while let Some(rest) = left.strip_prefix(b" ") {
@@ -16,23 +16,23 @@ fn trimmed(text: &[u8]) -> &[u8]
     left
 }
 
-// The first word of a text; empty where it has none.
+// The first word of a text; empty if it has none.
 pub(crate) fn first_word(text: &[u8]) -> &[u8]
     ensures { result.now ≡ first_word text.now }
 {
-    before(b' ', trimmed(text))
+    before(b' ', without_leading_spaces(text))
 }
 
-// What comes after the first word of a text.
+// What comes after the first word of a text and one space; empty if nothing does.
 pub(crate) fn other_words(text: &[u8]) -> &[u8]
     ensures { result.now ≡ other_words text.now }
 {
-    behind(b' ', trimmed(text))
+    behind(b' ', without_leading_spaces(text))
 }
 
-// Whether a text has no word.
+// Whether a text has nothing but spaces.
 pub(crate) fn is_blank(text: &[u8]) -> bool
     ensures { IsTrue result ↔ IsBlank text.now }
 {
-    trimmed(text).is_empty()
+    without_leading_spaces(text).is_empty()
 }

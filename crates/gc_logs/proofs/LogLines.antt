@@ -2,7 +2,7 @@
 -- (`wire`). `Takes` says that a log's sink, if it hasn't failed, took a text.
 use Rattle.std.proofs.Common.{◌≡◌, ℕ, ◌+◌, ◌-◌, ◌<◌, ◌==◌, ◌&&◌, Bool, true, false, cond, not, List, [], ◌∷◌, ◌++◌, length, take, get_or, Option, refl, sym, ap, subst, ◌∙◌, arith, append_assoc, append-nil}
 use Rattle.std.specs.Prelude.{nat_lt}
-use Rattle.std.proofs.lemmas.Bool.{cond_both, eqb-true, ltb-true}
+use Rattle.std.proofs.lemmas.Bool.{cond_both, eqb-true, ltb-true, and_parts}
 use Rattle.std.proofs.lemmas.List.{take_all, take_more}
 use Rattle.std.proofs.lemmas.List.Concat.{flat_map-append}
 use Rattle.gc_lines.proofs.Known.{Appends-append}
@@ -59,21 +59,11 @@ module _ (a b c : Option (List ℕ)) (fa fb fc : Bool) (utc : ℕ) (way : Way) (
   pub is_behind : q ≡ pending_behind p (take i bs) → r ≡ pending_at q (get_or bs i 0) → r ≡ pending_behind p (take (i + 1) bs)
   is_behind behind next = next ∙ ap (λ z. pending_at z (get_or bs i 0)) behind ∙ sym (ap (pending_behind p) more ∙ pending_more p (take i bs) (get_or bs i 0))
 
--- the second of two tests holds where both do
-and_right : (a b : Bool) → (a && b) ≡ true → b ≡ true
-and_right true b e = e
-and_right false b e = let bad : false ≡ true = e in cc
-
--- the first of two tests holds where both do
-and_left : (a b : Bool) → (a && b) ≡ true → a ≡ true
-and_left true b e = refl
-and_left false b e = e
-
 -- bytes that end in a CR are the bytes before the CR, and the CR
 last_return : (bytes : List ℕ) → ends_in_return bytes ≡ true → bytes ≡ take (length bytes - 1) bytes ++ 13 ∷ []
 last_return bytes e =
-    let some : 0 < length bytes = ltb-true 0 (length bytes) (and_left (nat_lt 0 (length bytes)) _ e) in
-    let last : get_or bytes (length bytes - 1) 0 ≡ 13 = eqb-true (get_or bytes (length bytes - 1) 0) 13 (and_right (nat_lt 0 (length bytes)) _ e) in
+    let some : 0 < length bytes = ltb-true 0 (length bytes) (and_parts (nat_lt 0 (length bytes)) _ e).0 in
+    let last : get_or bytes (length bytes - 1) 0 ≡ 13 = eqb-true (get_or bytes (length bytes - 1) 0) 13 (and_parts (nat_lt 0 (length bytes)) _ e).1 in
     let n : length bytes - 1 + 1 ≡ length bytes = omega (arith, some) in
     sym (take_all (length bytes) bytes (omega arith)) ∙ ap (λ k. take k bytes) (sym n) ∙ take_more bytes (length bytes - 1) 0 (omega (arith, some))
     ∙ ap (λ b. take (length bytes - 1) bytes ++ b ∷ []) last
@@ -95,7 +85,7 @@ line_wire way p =
     (λ e. wire (e ∷ []) ≡ p.bytes.items ++ 10 ∷ [])
     (λ is.
     let front = take (length p.bytes.items - 1) p.bytes.items in
-    let cut : p.bytes.items ≡ front ++ 13 ∷ [] = last_return p.bytes.items (and_right (not p.is_long) (ends_in_return p.bytes.items) is) in
+    let cut : p.bytes.items ≡ front ++ 13 ∷ [] = last_return p.bytes.items (and_parts (not p.is_long) (ends_in_return p.bytes.items) is).1 in
     whole_wire way front ∙ sym (append_assoc front (13 ∷ []) (10 ∷ [])) ∙ ap (λ bs. bs ++ 10 ∷ []) (sym cut))
     (λ _. part_wire way (p.bytes.items ++ 10 ∷ []))
 

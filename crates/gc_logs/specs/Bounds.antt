@@ -2,6 +2,7 @@
 use Rattle.std.specs.Prelude.{◌≡◌, ◌⊎◌, ℕ, ◌+◌, ◌≤◌, ◌<◌, min, Bool, true, false, List, ◌++◌, length, take, Option, Result, IfOk, codes}
 use Rattle.std.specs.Io.KnownBytes.{Appends}
 use Rattle.gc_lines.specs.Ports.{TakesBytes, TakesFront}
+use Rattle.gc_lines.specs.declared.ports.Sink.{Ghosts as Sink}
 use Rattle.gc_logs.specs.declared.bounded.Bounded.{Bounded}
 use Rattle.gc_logs.specs.declared.logged.Logged.{Logged}
 
@@ -19,6 +20,10 @@ pub record BoundSeen : Type 0 where
   pub left : ℕ
   pub ended : Bool
 
+-- what is seen of this sink with a bound, by the ghost members of the sink below
+abbrev pub bound_seen : {K : Type 0} → Sink K → Bounded K → BoundSeen
+bound_seen of_sink bounded = record { taken = of_sink.taken bounded.sink; left = bounded.left; ended = bounded.is_ended }
+
 -- a write of bytes that have room goes to the sink below, and the room gets less by as many bytes as that sink takes
 pub record Fits {E : Type 0} (old new : BoundSeen) (result : Result ℕ E) (bytes : List ℕ) : Type 0 where
   pub took : TakesBytes old.taken new.taken result bytes
@@ -35,6 +40,6 @@ pub record Bounds {E : Type 0} (old new : BoundSeen) (result : Result ℕ E) (by
 abbrev pub has_ended : {K : Type 0} → Bounded K → Bool
 has_ended bounded = bounded.is_ended
 
--- where a link's log is written
+-- the sink that a link's log is written into
 abbrev pub sink_of : {L K : Type 0} → Logged L K → K
 sink_of logged = logged.log.sink

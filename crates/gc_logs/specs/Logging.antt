@@ -14,7 +14,7 @@ use Rattle.gc_logs.specs.declared.logging.Unwritten.{Unwritten}
 use Rattle.gc_logs.specs.declared.logging.Way.{Way}
 use Rattle.gc_logs.specs.declared.logging.Way.TheVariants.{Went, Came}
 
--- one line of a log
+-- a line of a log without its moment: its mark and its bytes
 pub record Entry : Type 0 where
   pub mark : LogMark
   pub bytes : List ℕ
@@ -33,11 +33,11 @@ abbrev pub part_mark : Way → LogMark
 part_mark Went = mark.WentPart
 part_mark Came = mark.CamePart
 
--- nothing is pending
+-- the state of a direction of which nothing is pending
 abbrev pub nothing : Unwritten
 nothing = record { bytes = record { items = [] }; is_long = false }
 
--- what is pending: these bytes, and whether a front of their line was written
+-- these bytes are pending; `long` says whether a front of their line was written already
 abbrev pub pending : List ℕ → Bool → Unwritten
 pending bytes long = record { bytes = record { items = bytes }; is_long = long }
 
@@ -76,7 +76,7 @@ abbrev pub entries_of_pending : Way → List ℕ → List Entry
 entries_of_pending way [] = []
 entries_of_pending way (b ∷ bs) = entry (part_mark way) (b ∷ bs) ∷ []
 
--- the text of lines that are written at a moment
+-- the text of these lines, each with the moment `utc`
 abbrev pub log_text_of : ℕ → List Entry → List ℕ
 log_text_of utc es = flat_map (λ (e : Entry). log_line utc e.mark e.bytes) es
 
@@ -85,7 +85,13 @@ pub record Takes (old new : Option (List ℕ)) (old_failed new_failed : Bool) (t
   pub took : new_failed ≡ false → Appends old new text
   pub stood : new_failed ≡ false → old_failed ≡ false
 
--- the bytes that a line of a log stands for
+-- if this sink hasn't failed now, it took the text of these lines, written at the moment `utc` (`Takes`). `old` and `new` are the sink
+-- before and after
+abbrev pub TakesEntries : {K : Type 0} → Sink K → K → K → ℕ → List Entry → Type 0
+TakesEntries of_sink old new utc es = Takes (of_sink.taken old) (of_sink.taken new) (of_sink.failed old) (of_sink.failed new) (log_text_of utc es)
+
+-- the bytes on the link that a line of a log with this mark stands for: its bytes, with CR LF after a whole line; none for a
+-- word on the connection
 abbrev pub wire_of : LogMark → List ℕ → List ℕ
 wire_of mark.Went bytes = bytes ++ 13 ∷ 10 ∷ []
 wire_of mark.WentPart bytes = bytes
@@ -93,7 +99,7 @@ wire_of mark.Came bytes = bytes ++ 13 ∷ 10 ∷ []
 wire_of mark.CamePart bytes = bytes
 wire_of mark.Link bytes = []
 
--- the bytes that lines of a log stand for, in order
+-- the bytes on the link that lines of a log stand for (`wire_of`), in order
 abbrev pub wire : List Entry → List ℕ
 wire es = flat_map (λ (e : Entry). wire_of e.mark e.bytes) es
 

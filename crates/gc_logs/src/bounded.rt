@@ -3,7 +3,7 @@
 ghost use Rattle.std.specs.Prelude.{◌≡◌, ◌+◌, ◌<◌, ◌≤◌, None, false, length, take, min, OnOk, IfErr};
 ghost use Rattle.std.specs.Io.KnownBytes.{Appends};
 ghost use Rattle.gc_lines.specs.Ports.{TakesBytes, TakesFront, Fails};
-ghost use Rattle.gc_logs.specs.Bounds.{full_line, TakesFull, Bounds};
+ghost use Rattle.gc_logs.specs.Bounds.{full_line, bound_seen, TakesFull, Bounds};
 
 use arrayvec::ArrayVec;
 use gc_lines::{PortFailed, Sink, append, write_whole};
@@ -46,7 +46,7 @@ impl<K: Sink> Bounded<K> {
         }
     }
 
-    /// Whether this sink has ended, and the sink below hasn't failed: so this one ended at its bound.
+    /// Whether this sink has ended at its bound: it has ended, and the sink below hasn't failed.
     pub fn is_full(&self) -> bool {
         self.is_ended && !self.sink.has_failed()
     }
@@ -67,7 +67,7 @@ fn moment_of(line: &[u8]) -> &[u8]
     &line[..line.len().min(MOMENT)]
 }
 
-// The line that replaces the first one that has no room.
+// The line that replaces `line`, the first that has no room: the moment of `line`, and words that say that the rest is left out.
 fn full_line(line: &[u8]) -> ArrayVec<u8, 100>
     ensures { result.items ≡ full_line line.now }
 {
@@ -88,8 +88,8 @@ fn write_full_line<K: Sink>(sink: &mut K, line: &[u8]) -> Result<(), usize>
     write_whole(sink, &full_line(line))
 }
 
-// Notes in the log that it is full: writes the line that says so, as far as the sink takes it. A part of that line is cut off
-// when the log is next opened.
+// Writes the line that replaces `line`, as far as the sink takes it. If it takes only a part, that part is cut off when the log is next
+// opened.
 fn note_full<K: Sink>(sink: &mut K, line: &[u8])
     ensures { TakesFull (K.taken sink.old) (K.taken sink.new) line.now }
 {
@@ -107,10 +107,7 @@ impl<K: Sink> Sink for Bounded<K> {
         requires { 0 < length bytes.now }
         ensures bytes { TakesBytes None None result bytes.now }
         ensures fails { Fails self.old.is_ended self.new.is_ended result }
-        ensures bounds { Bounds
-            (record { taken = K.taken self.old.sink; left = self.old.left; ended = self.old.is_ended })
-            (record { taken = K.taken self.new.sink; left = self.new.left; ended = self.new.is_ended })
-            result bytes.now }
+        ensures bounds { Bounds (bound_seen K.Sink self.old) (bound_seen K.Sink self.new) result bytes.now }
     {
         if self.is_ended {
             return Err(PortFailed);
@@ -132,6 +129,7 @@ impl<K: Sink> Sink for Bounded<K> {
         }
     }
 
+    // Whether this sink has ended: at its bound, or because the sink below failed.
     fn has_failed(&self) -> bool {
         self.is_ended
     }

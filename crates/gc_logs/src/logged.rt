@@ -1,7 +1,7 @@
 //! Any link, with a log of what is on it.
 
 ghost use Rattle.std.specs.Prelude.{◌≡◌, ◌<◌, [], ◌∷◌, length};
-ghost use Rattle.gc_links.specs.Acts.{Tells, Closed, told_as, came_as, put_as, opened_as, IsWithin, IsPart};
+ghost use Rattle.gc_links.specs.Acts.{Tells, Closed, clock_act, read_act, put_act, open_act, IsWithin, IsPart};
 ghost use Rattle.gc_logs.specs.Bounds.{sink_of};
 ghost use Rattle.gc_logs.specs.Logging.{Logs, log_seen};
 
@@ -22,7 +22,7 @@ pub struct Logged<L, K> {
 }
 
 impl<L: Link, K: Sink> Logged<L, K> {
-    /// A link of which nothing was logged. What is logged before the link's clock gives a moment has the moment `utc`, in
+    /// A link over `link`, with an empty log. What is logged before the link's clock gives a moment has the moment `utc`, in
     /// milliseconds since 1970, UTC.
     pub fn new(link: L, sink: K, utc: u64) -> Logged<L, K>
         ensures { result.link ≡ link }
@@ -40,7 +40,7 @@ impl<L: Link, K: Sink> Logged<L, K> {
         self.log.sink.has_failed()
     }
 
-    /// Where the log is written.
+    /// The sink that the log is written into.
     pub fn sink(&self) -> &K
         ensures { result.now ≡ self.now.log.sink }
     {
@@ -61,10 +61,10 @@ impl<L, K: Drop> Logged<L, K> {
 impl<L: Link, K: Sink> Link for Logged<L, K> {
     ghost acts = { λ l. L.acts l.link };
 
-    // Reads the clock of the link inside. What is logged next has its moment.
+    // Reads the clock of the link inside. The lines that are logged next have the moment that it gives.
     fn now(&mut self) -> Result<Moment, PortFailed>
-        ensures tells { Tells (L.acts self.old.link) (L.acts self.new.link) (told_as result ∷ []) }
-        ensures logs { Logs (log_seen K.Sink self.old.log) (log_seen K.Sink self.new.log) (told_as result) }
+        ensures tells { Tells (L.acts self.old.link) (L.acts self.new.link) (clock_act result ∷ []) }
+        ensures logs { Logs (log_seen K.Sink self.old.log) (log_seen K.Sink self.new.log) (clock_act result) }
     {
         let told = self.link.now();
         if let Ok(moment) = &told {
@@ -76,19 +76,19 @@ impl<L: Link, K: Sink> Link for Logged<L, K> {
     // Reads from the link inside, and logs the lines that end in the received bytes, or that the connection ended or failed.
     fn read(&mut self, buf: &mut [u8], millis: u64) -> Came
         requires { 0 < length buf.old }
-        ensures tells { Tells (L.acts self.old.link) (L.acts self.new.link) (came_as result buf.new ∷ []) }
+        ensures tells { Tells (L.acts self.old.link) (L.acts self.new.link) (read_act result buf.new ∷ []) }
         ensures within { IsWithin result buf.new }
-        ensures logs { Logs (log_seen K.Sink self.old.log) (log_seen K.Sink self.new.log) (came_as result buf.new) }
+        ensures logs { Logs (log_seen K.Sink self.old.log) (log_seen K.Sink self.new.log) (read_act result buf.new) }
     {
         let came = self.link.read(buf, millis);
         match came {
             Came::Bytes(n, moment) => {
                 self.log.utc = moment.utc;
-                self.log.came(&buf[..n]);
+                self.log.add_received(&buf[..n]);
             }
             Came::Silence(moment) => self.log.utc = moment.utc,
-            Came::End => self.log.says(b"ended"),
-            Came::Failure => self.log.says(b"failed"),
+            Came::End => self.log.add_word(b"ended"),
+            Came::Failure => self.log.add_word(b"failed"),
             Came::NoMoment => {}
         }
         came
@@ -97,16 +97,16 @@ impl<L: Link, K: Sink> Link for Logged<L, K> {
     // Writes to the link inside, and logs the lines that end in the sent bytes, and that the connection failed, if it did.
     fn put(&mut self, bytes: &[u8]) -> Result<(), usize>
         requires { 0 < length bytes.now }
-        ensures tells { Tells (L.acts self.old.link) (L.acts self.new.link) (put_as result bytes.now ∷ []) }
+        ensures tells { Tells (L.acts self.old.link) (L.acts self.new.link) (put_act result bytes.now ∷ []) }
         ensures part { IsPart result bytes.now }
-        ensures logs { Logs (log_seen K.Sink self.old.log) (log_seen K.Sink self.new.log) (put_as result bytes.now) }
+        ensures logs { Logs (log_seen K.Sink self.old.log) (log_seen K.Sink self.new.log) (put_act result bytes.now) }
     {
         let put = self.link.put(bytes);
         match put {
-            Ok(()) => self.log.went(bytes),
+            Ok(()) => self.log.add_sent(bytes),
             Err(n) => {
-                self.log.went(&bytes[..n]);
-                self.log.says(b"failed");
+                self.log.add_sent(&bytes[..n]);
+                self.log.add_word(b"failed");
             }
         }
         put
@@ -118,19 +118,19 @@ impl<L: Link, K: Sink> Link for Logged<L, K> {
         ensures logs { Logs (log_seen K.Sink self.old.log) (log_seen K.Sink self.new.log) (Closed) }
     {
         self.link.close();
-        self.log.cut();
-        self.log.says(b"closed");
+        self.log.flush();
+        self.log.add_word(b"closed");
     }
 
     // Opens the link inside, and logs whether a connection was made.
     fn open(&mut self) -> Result<(), PortFailed>
-        ensures tells { Tells (L.acts self.old.link) (L.acts self.new.link) (opened_as result ∷ []) }
-        ensures logs { Logs (log_seen K.Sink self.old.log) (log_seen K.Sink self.new.log) (opened_as result) }
+        ensures tells { Tells (L.acts self.old.link) (L.acts self.new.link) (open_act result ∷ []) }
+        ensures logs { Logs (log_seen K.Sink self.old.log) (log_seen K.Sink self.new.log) (open_act result) }
     {
         let opened = self.link.open();
         match &opened {
-            Ok(()) => self.log.says(b"open"),
-            Err(_) => self.log.says(b"not open"),
+            Ok(()) => self.log.add_word(b"open"),
+            Err(_) => self.log.add_word(b"not open"),
         }
         opened
     }

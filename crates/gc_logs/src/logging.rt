@@ -2,7 +2,7 @@
 //! written into the log yet are pending.
 
 ghost use Rattle.std.specs.Prelude.{◌≡◌, ◌++◌, ◌≤◌, [], ◌∷◌, length, codes};
-ghost use Rattle.gc_logs.specs.Logging.{entry, line_mark, part_mark, nothing, entry_of_line, entries_at, pending_at, entries, pending_behind, entries_of_pending, log_text_of, Takes};
+ghost use Rattle.gc_logs.specs.Logging.{entry, line_mark, part_mark, nothing, entry_of_line, entries_at, pending_at, entries, pending_behind, entries_of_pending, TakesEntries};
 ghost use Rattle.gc_texts.specs.Logs.{log_line};
 ghost use Rattle.gc_texts.specs.declared.log_line.LogMark.TheVariants as mark;
 ghost use Rattle.gc_logs.specs.declared.logging.Way.TheVariants.{Went, Came};
@@ -11,7 +11,7 @@ use arrayvec::ArrayVec;
 use gc_lines::{Sink, append};
 use gc_texts::{LogBytes, LogMark, write_log_line};
 
-// Which way bytes go.
+// The direction of bytes: sent (`Went`) or received (`Came`).
 #[derive(Clone, Copy)]
 enum Way {
     Went,
@@ -19,7 +19,7 @@ enum Way {
 }
 
 impl Way {
-    // The mark of a whole line, which ended with CR LF.
+    // The mark of a line that went or came with its CR LF.
     fn line(self) -> LogMark
         ensures { result ≡ line_mark self }
     {
@@ -40,17 +40,16 @@ impl Way {
     }
 }
 
-// What of one direction is not written yet: the bytes of a line that has no end, of at most 512 bytes and a CR, or the last
-// ones of a longer one.
+// The pending bytes of one direction: those of a line whose end hasn't come yet, at most 512 and a CR; of a longer line, the last ones.
 #[derive(Drop)]
 struct Unwritten {
     bytes: ArrayVec<u8, 513>,
-    // Whether a front of this line was written.
+    // Whether the first bytes of this line were written already.
     is_long: bool,
 }
 
 impl Unwritten {
-    // Nothing is pending.
+    // No pending bytes.
     fn nothing() -> Unwritten
         ensures { result ≡ nothing }
     {
@@ -72,7 +71,7 @@ pub(crate) struct Log<K> {
 }
 
 impl<K: Sink> Log<K> {
-    // A log of which nothing was written, at a moment in milliseconds since 1970.
+    // A log without a line, at the moment `utc`, in milliseconds since 1970.
     pub(crate) fn new(sink: K, utc: u64) -> Log<K>
         ensures sink { result.sink ≡ sink }
         ensures went { result.went ≡ nothing }
@@ -87,9 +86,9 @@ impl<K: Sink> Log<K> {
         }
     }
 
-    // Logs sent bytes.
-    pub(crate) fn went(&mut self, bytes: &[u8])
-        ensures took { Takes (K.taken self.old.sink) (K.taken self.new.sink) (K.failed self.old.sink) (K.failed self.new.sink) (log_text_of self.old.utc (entries Went self.old.went bytes.now)) }
+    // Logs sent bytes: writes the lines that end in them. The rest is pending then.
+    pub(crate) fn add_sent(&mut self, bytes: &[u8])
+        ensures took { TakesEntries K.Sink self.old.sink self.new.sink self.old.utc (entries Went self.old.went bytes.now) }
         ensures went { self.new.went ≡ pending_behind self.old.went bytes.now }
         ensures came { self.new.came ≡ self.old.came }
         ensures utc { self.new.utc ≡ self.old.utc }
@@ -97,9 +96,9 @@ impl<K: Sink> Log<K> {
         log_bytes(&mut self.sink, self.utc, Way::Went, &mut self.went, bytes);
     }
 
-    // Logs received bytes.
-    pub(crate) fn came(&mut self, bytes: &[u8])
-        ensures took { Takes (K.taken self.old.sink) (K.taken self.new.sink) (K.failed self.old.sink) (K.failed self.new.sink) (log_text_of self.old.utc (entries Came self.old.came bytes.now)) }
+    // Logs received bytes: writes the lines that end in them. The rest is pending then.
+    pub(crate) fn add_received(&mut self, bytes: &[u8])
+        ensures took { TakesEntries K.Sink self.old.sink self.new.sink self.old.utc (entries Came self.old.came bytes.now) }
         ensures went { self.new.went ≡ self.old.went }
         ensures came { self.new.came ≡ pending_behind self.old.came bytes.now }
         ensures utc { self.new.utc ≡ self.old.utc }
@@ -109,9 +108,8 @@ impl<K: Sink> Log<K> {
 
     // Writes the pending bytes of both directions, each as a part of a line, at a close: no more bytes of these lines will be
     // sent or received.
-    pub(crate) fn cut(&mut self)
-        ensures took { Takes (K.taken self.old.sink) (K.taken self.new.sink) (K.failed self.old.sink) (K.failed self.new.sink)
-            (log_text_of self.old.utc (entries_of_pending Went self.old.went.bytes.items ++ entries_of_pending Came self.old.came.bytes.items)) }
+    pub(crate) fn flush(&mut self)
+        ensures took { TakesEntries K.Sink self.old.sink self.new.sink self.old.utc (entries_of_pending Went self.old.went.bytes.items ++ entries_of_pending Came self.old.came.bytes.items) }
         ensures went { self.new.went ≡ nothing }
         ensures came { self.new.came ≡ nothing }
         ensures utc { self.new.utc ≡ self.old.utc }
@@ -120,10 +118,10 @@ impl<K: Sink> Log<K> {
         log_pending(&mut self.sink, self.utc, Way::Came, &mut self.came);
     }
 
-    // Logs what became of the connection, in words.
-    pub(crate) fn says(&mut self, word: &[u8])
+    // Writes a line that says, in these words, what became of the connection.
+    pub(crate) fn add_word(&mut self, word: &[u8])
         requires { length word.now ≤ 514 }
-        ensures took { Takes (K.taken self.old.sink) (K.taken self.new.sink) (K.failed self.old.sink) (K.failed self.new.sink) (log_text_of self.old.utc (entry mark.Link word.now ∷ [])) }
+        ensures took { TakesEntries K.Sink self.old.sink self.new.sink self.old.utc (entry mark.Link word.now ∷ []) }
         ensures went { self.new.went ≡ self.old.went }
         ensures came { self.new.came ≡ self.old.came }
         ensures utc { self.new.utc ≡ self.old.utc }
@@ -132,10 +130,10 @@ impl<K: Sink> Log<K> {
     }
 }
 
-// Takes bytes sent or received. Writes each line that they end, in parts if it has more than 513 bytes, and leaves the rest
-// pending.
+// Logs bytes of this direction that come after the pending ones. Writes each line that they end, with the moment `utc`, and of a line with
+// more than 513 bytes each 513 as a part. The rest is pending then.
 fn log_bytes<K: Sink>(sink: &mut K, utc: u64, way: Way, pending: &mut Unwritten, bytes: &[u8])
-    ensures took { Takes (K.taken sink.old) (K.taken sink.new) (K.failed sink.old) (K.failed sink.new) (log_text_of utc (entries way pending.old bytes.now)) }
+    ensures took { TakesEntries K.Sink sink.old sink.new utc (entries way pending.old bytes.now) }
     ensures pending { pending.new ≡ pending_behind pending.old bytes.now }
 {
     for b in bytes {
@@ -143,10 +141,10 @@ fn log_bytes<K: Sink>(sink: &mut K, utc: u64, way: Way, pending: &mut Unwritten,
     }
 }
 
-// Takes one more byte. A line feed ends a line, which is written. If 513 bytes are pending already, these are written as a part
-// of their line.
+// Logs one more byte. A line feed ends a line, which is written. Any other byte is pending; if 513 bytes are pending already, these are
+// first written as a part of their line.
 fn log_byte<K: Sink>(sink: &mut K, utc: u64, way: Way, pending: &mut Unwritten, b: u8)
-    ensures took { Takes (K.taken sink.old) (K.taken sink.new) (K.failed sink.old) (K.failed sink.new) (log_text_of utc (entries_at way pending.old b)) }
+    ensures took { TakesEntries K.Sink sink.old sink.new utc (entries_at way pending.old b) }
     ensures pending { pending.new ≡ pending_at pending.old b }
 {
     if b == b'\n' {
@@ -163,9 +161,10 @@ fn log_byte<K: Sink>(sink: &mut K, utc: u64, way: Way, pending: &mut Unwritten, 
     pending.is_long = true;
 }
 
-// Writes the line, or the last part of one, that a line feed ends.
+// Logs a line feed: writes the pending bytes as a line, without CR LF, if they are all of it and end in a CR, else as a part, with the line
+// feed. Nothing is pending after that.
 fn log_line_end<K: Sink>(sink: &mut K, utc: u64, way: Way, pending: &mut Unwritten)
-    ensures took { Takes (K.taken sink.old) (K.taken sink.new) (K.failed sink.old) (K.failed sink.new) (log_text_of utc (entry_of_line way pending.old ∷ [])) }
+    ensures took { TakesEntries K.Sink sink.old sink.new utc (entry_of_line way pending.old ∷ []) }
     ensures pending { pending.new ≡ nothing }
 {
     let is_line = !pending.is_long && pending.bytes.last() == Some(&b'\r');
@@ -182,9 +181,9 @@ fn log_line_end<K: Sink>(sink: &mut K, utc: u64, way: Way, pending: &mut Unwritt
     pending.is_long = false;
 }
 
-// Writes the pending bytes of one direction, if there are any.
+// Writes the pending bytes of one direction, if there are any, as a part of a line. Nothing is pending after that.
 fn log_pending<K: Sink>(sink: &mut K, utc: u64, way: Way, pending: &mut Unwritten)
-    ensures took { Takes (K.taken sink.old) (K.taken sink.new) (K.failed sink.old) (K.failed sink.new) (log_text_of utc (entries_of_pending way pending.old.bytes.items)) }
+    ensures took { TakesEntries K.Sink sink.old sink.new utc (entries_of_pending way pending.old.bytes.items) }
     ensures pending { pending.new ≡ nothing }
 {
     if !pending.bytes.is_empty() {
@@ -194,10 +193,11 @@ fn log_pending<K: Sink>(sink: &mut K, utc: u64, way: Way, pending: &mut Unwritte
     pending.is_long = false;
 }
 
-// Writes a line of the log. If the sink fails, the line is lost, and `failed` of the sink says so.
+// Writes a line of the log with this moment, mark and bytes. If the sink fails, the line isn't written whole, and the sink's `failed`
+// shows it.
 fn write_entry<K: Sink>(sink: &mut K, utc: u64, mark: LogMark, bytes: &[u8])
     requires { length bytes.now ≤ 514 }
-    ensures { Takes (K.taken sink.old) (K.taken sink.new) (K.failed sink.old) (K.failed sink.new) (log_text_of utc (entry mark bytes.now ∷ [])) }
+    ensures { TakesEntries K.Sink sink.old sink.new utc (entry mark bytes.now ∷ []) }
 {
     let mut line = LogBytes::new();
     append(&mut line, bytes);

@@ -5,24 +5,24 @@
 //!     do again 39 %R1Q,0,0:\r\n    the last caller writes this that many times more
 //!     do shut, leave           the last caller writes no more, or goes away
 //!     do serve 2 9             so many callers are served, in that many reads each
-//!     do keep 3                so many callers are served at a kept port, which leaves one that is idle for a second
-//!     do slow drop 5003 200    a caller is served by an instrument whose reply to this procedure takes this many milliseconds, and that drops
-//!                              what comes meanwhile, or queues it (`queue`)
+//!     do keep 3                so many callers are served at a kept port, which gives up one that is idle for a second
+//!     do slow drop 5003 200    a caller is served by an instrument whose reply to this procedure takes this many milliseconds, and
+//!                              that drops what comes meanwhile, or queues it (`queue`)
 //!     do hear 0                what this caller, counted from 0, has heard at the end of its connection, or that it waits
 //!     do ask 9 7 5003\n        these commands are asked at the port, in that many reads
-//!     do accept                the connection that an asking made is accepted, and its end here is one more caller
-//!     do listen [::1]          another port, of this address; where the machine hasn't such addresses, `at` is done
+//!     do accept                the connection that `ask` made is accepted, and its end here is one more caller
+//!     do listen [::1]          another port, of this address; on a machine without such addresses `at` reports `done`
 //!     do at [::1]              a text without commands is asked there
 //!     do port 7                a text without commands is asked at this port, by its number and as a place, and the port is served
 //!     do ends, cut_ends        in ends.rt
 
 ghost use Rattle.std.specs.Prelude.{◌≤◌};
 
-use crate::ends::{tell_cut_ends, tell_ends, told_word};
-use crate::streams::{accepted, at, bounded, hear};
+use crate::ends::{tell_cut_ends, tell_ends, written_word};
+use crate::streams::{accepted, bounded, hear, local_address, tell_end_behind};
 use arrayvec::ArrayVec;
 use gc_ask::{Address, BusyClock, Keeping, Slow, ask_at, ask_tcp, keep_on, serve_on, serve_tcp};
-use gc_cases::{Case, Player, Rows, Told, bytes_behind, cut_word, play_rows};
+use gc_cases::{Case, Player, Rows, Told, bytes_behind, cut_word, play_rows, port_of};
 use gc_instrument::Instrument;
 use gc_links::Place;
 use gc_probes::{PieceSink, PieceSource};
@@ -40,7 +40,7 @@ pub struct Callers;
 impl Player for Callers {
     // Plays a case at a free port of its own.
     fn play(&self, rt: &HostRuntime, case: &Case<'_>, wrong: &mut Told) -> io::Result<()> {
-        let listener = TcpListener::bind(rt, at(0))?;
+        let listener = TcpListener::bind(rt, local_address(0))?;
         play_at(rt, listener, case, wrong);
         Ok(())
     }
@@ -58,7 +58,7 @@ fn play_at(rt: &HostRuntime, listener: TcpListener, case: &Case<'_>, wrong: &mut
     play_rows(rt.alloc(), case, &mut played, wrong);
 }
 
-// A port and its callers.
+// A port, the instrument that is served there, and the port's callers.
 #[derive(Drop)]
 struct Played<'a> {
     rt: &'a HostRuntime,
@@ -70,7 +70,7 @@ struct Played<'a> {
 }
 
 impl<'a> Rows for Played<'a> {
-    // Plays a row by its word: here where something is served, asked or heard, and else in `prepare`.
+    // Plays a row by its word: here if something is served, asked or heard, otherwise in `prepare`.
     fn play(&mut self, alloc: Global, word: &str, what: &str, bytes: &[u8], came: &mut Told) {
         match word {
             "serve" => self.serve(what, came),
@@ -92,13 +92,13 @@ fn number(digits: &str, most: u64) -> u64 {
     number_of(digits.as_bytes(), most).unwrap_or(0)
 }
 
-// The number that digits write, as `number` reads it, in 32 bits.
+// The number that digits write, in 32 bits, if it is at most `most`; otherwise 0.
 fn small_number(digits: &str, most: u32) -> u32 {
     u32::try_from(number(digits, u64::from(most))).unwrap_or(0)
 }
 
-// Reports how an asking or a serving ended. Of a write that failed the number of replies before is left out: how many the system
-// takes isn't known.
+// Reports how asking or serving ended. Of a write that failed, the number of replies before it is left out, because it isn't known how
+// many the system takes.
 fn tell_end(end: Result<(), RunFault>, came: &mut Told) {
     match end {
         Ok(()) => came.text("done"),
@@ -109,7 +109,7 @@ fn tell_end(end: Result<(), RunFault>, came: &mut Told) {
     }
 }
 
-// Reports these lines, with `+` for the number after the first `reply`: how many replies the system takes isn't known.
+// Reports these lines, with `+` for the number after the first `reply`, because it isn't known how many replies the system takes.
 fn tell_uncounted(lines: &str, came: &mut Told) {
     let Some((front, behind)) = lines.split_once(" reply ") else {
         return came.text(lines);
@@ -120,7 +120,7 @@ fn tell_uncounted(lines: &str, came: &mut Told) {
 }
 
 impl<'a> Played<'a> {
-    // Plays a row in which a caller does something, or in which another port is listened at.
+    // Plays a row in which a caller does something, or in which another port is listened at, and reports what can't be done.
     fn prepare(&mut self, word: &str, what: &str, bytes: &[u8], came: &mut Told) {
         match word {
             "call" => tell_done(self.call(bytes), came),
@@ -139,7 +139,7 @@ impl<'a> Played<'a> {
         self.keep_caller(stream) && self.write(bytes)
     }
 
-    // Accepts the connection that an asking made, and returns whether its end could be kept as one more caller.
+    // Accepts the connection that `ask` made, and returns whether its end could be kept as one more caller.
     fn accept(&mut self) -> bool {
         let stream = accepted(&self.listener);
         self.keep_caller(stream)
@@ -153,7 +153,7 @@ impl<'a> Played<'a> {
         }
     }
 
-    // The last caller writes what is in `bytes` after the number `times`, that many times.
+    // The last caller writes what is in `bytes` after the number `times`, that many times. Returns whether that could be done.
     fn write_again(&mut self, times: &str, bytes: &[u8]) -> bool {
         for _ in 0..number(times, 1000) {
             if !self.write(bytes_behind(times, bytes)) {
@@ -163,7 +163,7 @@ impl<'a> Played<'a> {
         true
     }
 
-    // The last caller writes these bytes.
+    // The last caller writes these bytes. Returns whether that could be done; without a caller nothing is written, and it is.
     fn write(&mut self, bytes: &[u8]) -> bool {
         match self.callers.last_mut() {
             Some(caller) => caller.write_all(bytes).is_ok(),
@@ -171,7 +171,7 @@ impl<'a> Played<'a> {
         }
     }
 
-    // The last caller writes no more.
+    // The last caller writes no more. Returns whether that could be done; without a caller it is.
     fn shut(&self) -> bool {
         match self.callers.last() {
             Some(caller) => caller.shutdown(Shutdown::Write).is_ok(),
@@ -179,7 +179,8 @@ impl<'a> Played<'a> {
         }
     }
 
-    // Listens at another port of this address from now on. If the machine hasn't the IPv6 address, that is noted.
+    // Listens at a free port of the address 127.0.0.2, if `what` says so, and otherwise of ::1, from now on. Returns whether that could be
+    // done; a machine without ::1 counts as one that could, and `is_absent` notes it.
     fn listen(&mut self, what: &str) -> bool {
         if what == "127.0.0.2" {
             let address = SocketAddr::from(([127, 0, 0, 2], 0));
@@ -200,7 +201,7 @@ impl<'a> Played<'a> {
         }
     }
 
-    // Serves as many callers as `what` says, in that many reads each, and reports how that ended.
+    // Serves callers, and reports how that ended. `what` says how many callers, and how many reads each may take.
     fn serve(&mut self, what: &str, came: &mut Told) {
         let (count, reads) = cut_word(what);
         let count = small_number(count, 9).min(1000);
@@ -216,7 +217,8 @@ impl<'a> Played<'a> {
         tell_end(end, came)
     }
 
-    // Serves a caller with an instrument whose reply to a procedure takes time, and reports how that ended, and whether it took so long.
+    // Serves a caller with an instrument whose reply to a procedure takes time. `what` is `drop` or `queue`, the procedure and the time in
+    // milliseconds. Reports how serving ended, and `late` if it took at least that time.
     fn serve_slowly(&mut self, what: &str, came: &mut Told) {
         let (busy, rest) = cut_word(what);
         let (rpc, ms) = cut_word(rest);
@@ -228,20 +230,7 @@ impl<'a> Played<'a> {
         let (Ok(clock), Ok(begun)) = (BusyClock::new(self.rt, drops), Instant::now(self.rt)) else {
             return came.text("no clock");
         };
-        let mut delays = ArrayVec::new();
-        delays.push(delay);
-        let scene = SceneInstrument::new(
-            7,
-            named(),
-            ArrayVec::new(),
-            ArrayVec::new(),
-            ArrayVec::new(),
-            None,
-            true,
-            Ways::none(),
-        );
-        let slow = SlowInstrument::new(scene, delays, drops);
-        let mut instrument = Slow::new(&clock, slow);
+        let mut instrument = Slow::new(&clock, slow_instrument(delay, drops));
         let end = serve_on(
             self.rt,
             &self.listener,
@@ -256,8 +245,8 @@ impl<'a> Played<'a> {
         }
     }
 
-    // Serves as many callers as `what` says at a kept port, which leaves one that is idle for a second, and reports the lines of
-    // faults.
+    // Serves as many callers as `what` says at a kept port, which gives up one that is idle for a second. Reports
+    // the lines that it wrote on their faults, and whether all could be written.
     fn keep(&mut self, alloc: Global, what: &str, came: &mut Told) {
         let keeping = Keeping {
             connections: Some(small_number(what, 9)),
@@ -285,7 +274,8 @@ impl<'a> Played<'a> {
         }
     }
 
-    // Asks the commands in `bytes` after the number `reads` at the port, in that many reads.
+    // Asks the commands in `bytes` after the number `reads` at the port, in that many reads, and reports what was written and how it
+    // ended.
     fn ask(&mut self, alloc: Global, reads: &str, bytes: &[u8], came: &mut Told) {
         let port = port_of(&self.listener);
         if port == 0 {
@@ -299,7 +289,8 @@ impl<'a> Played<'a> {
         tell_end(end, came)
     }
 
-    // Asks a text without commands at this address or name, with the listener's port.
+    // Asks a text without commands at the address or name `what`, with the listener's port, and reports how that ended. On a machine
+    // without that address `done` is reported.
     fn ask_at(&mut self, alloc: Global, what: &str, came: &mut Told) {
         if self.is_absent {
             return came.text("done");
@@ -311,18 +302,18 @@ impl<'a> Played<'a> {
         tell_end(ask_place(self.rt, alloc, Place::Host(name)), came)
     }
 
-    // Asks a text without commands at this port, by its number and as a place, then serves the port, and reports how each of
-    // these ended.
+    // Asks a text without commands at the port that `what` says, by its number and as a place, then serves that port, and reports how
+    // each of these ended.
     fn ask_port(&mut self, alloc: Global, what: &str, came: &mut Told) {
         let port = u16::try_from(number(what, 65535)).unwrap_or(0);
         if port == 0 {
             return came.text("no port");
         }
         // A listener at 1024: a port below that is no other one, so nothing connects there.
-        let _other = TcpListener::bind(self.rt, at(1024));
+        let _other = TcpListener::bind(self.rt, local_address(1024));
         tell_asked(self.rt, alloc, port, came);
         // Serving fails then: the port is in use, or this user can't bind it.
-        let _taken = TcpListener::bind(self.rt, at(port));
+        let _taken = TcpListener::bind(self.rt, local_address(port));
         let end = serve_tcp(
             self.rt,
             Address::Here(port),
@@ -335,12 +326,29 @@ impl<'a> Played<'a> {
     }
 }
 
-// A name for an instrument. These plain bytes make a text.
-fn named() -> Text {
+// An instrument without rules whose reply to one procedure takes time, and that drops what comes meanwhile (`drops`), or queues it.
+fn slow_instrument(delay: Delay, drops: bool) -> SlowInstrument {
+    let mut delays = ArrayVec::new();
+    delays.push(delay);
+    let scene = SceneInstrument::new(
+        7,
+        slow_name(),
+        ArrayVec::new(),
+        ArrayVec::new(),
+        ArrayVec::new(),
+        None,
+        true,
+        Ways::none(),
+    );
+    SlowInstrument::new(scene, delays, drops)
+}
+
+// The name of the slow instrument. These plain bytes make a text.
+fn slow_name() -> Text {
     Text::new(b"SLOW").unwrap_or(Text::empty())
 }
 
-// Whether this many milliseconds have passed since this moment.
+// Whether `ms` milliseconds have passed since the moment `begun`; `false` if the clock can't be read.
 fn has_passed(rt: &HostRuntime, begun: &Instant, ms: u32) -> bool {
     match begun.elapsed(rt) {
         Ok(time) => time.as_millis() >= u128::from(ms),
@@ -348,28 +356,20 @@ fn has_passed(rt: &HostRuntime, begun: &Instant, ms: u32) -> bool {
     }
 }
 
-// Reports nothing if an act was done, and else that it can't be done.
+// Reports that an act can't be done, unless it was done.
 fn tell_done(is_done: bool, came: &mut Told) {
     came.either(is_done, "", "it can't be done");
 }
 
-// The end of a new connection to a port.
+// Connects to the port of this listener, and returns the caller's end, of which each read waits for a bounded time.
 fn connected(rt: &HostRuntime, listener: &TcpListener) -> io::Result<TcpStream> {
     let address = listener.local_addr()?;
     bounded(TcpStream::connect(rt, address)?)
 }
 
-// The port of a listener; 0 if the system doesn't say.
-fn port_of(listener: &TcpListener) -> u16 {
-    match listener.local_addr() {
-        Ok(address) => address.port(),
-        Err(_) => 0,
-    }
-}
-
-// Reports whether all lines on the callers of a kept port were written, and these lines.
+// Reports whether all lines on the callers of a kept port were written (`all`), and these lines, `messages`.
 fn tell_kept(all: bool, messages: &[u8], came: &mut Told) {
-    came.text(told_word(all));
+    came.text(written_word(all));
     came.text(": ");
     tell_uncounted(str::from_utf8(messages).unwrap_or("no text"), came);
 }
@@ -377,20 +377,13 @@ fn tell_kept(all: bool, messages: &[u8], came: &mut Told) {
 // Reports what a caller hears until the end of its connection, or that it is still waiting.
 fn tell_heard(alloc: Global, caller: &mut TcpStream, came: &mut Told) {
     let mut bytes = Vec::new(alloc);
-    let is_end = hear(caller, &mut bytes);
-    tell_bytes(is_end, bytes.as_slice(), came);
-}
-
-// Reports these bytes as what a caller heard until the end, or that it is still waiting.
-fn tell_bytes(is_end: bool, bytes: &[u8], came: &mut Told) {
-    if !is_end {
+    if !hear(caller, &mut bytes) {
         return came.text("it waits");
     }
-    came.either(bytes.is_empty(), "the end", "the end behind ");
-    came.bytes(bytes);
+    tell_end_behind(bytes.as_slice(), came);
 }
 
-// Asks a text without commands at a place, in at most nine reads.
+// Asks a text without commands at a place, in at most nine reads, and returns how that ended.
 fn ask_place(rt: &HostRuntime, alloc: Global, place: Place<'_>) -> Result<(), RunFault> {
     let mut none = PieceSource::new(b"", &[], u64::MAX);
     let mut sink = PieceSink::new(alloc, 1000, u64::MAX);

@@ -3,7 +3,7 @@
 
 use crate::links::{dots, put_of, silence_of};
 use crate::rig::{Done, Rig};
-use crate::streams::at;
+use crate::streams::local_address;
 use gc_cases::Told;
 use gc_links::{Came, Link, Place, PlacedLink, TcpLink, Unusable};
 use std::alloc::Global;
@@ -15,7 +15,7 @@ use std::os::unix::net::UnixStream;
 use std::time::Duration;
 use std::{io, thread};
 
-/// Reports what the row of this word comes to.
+/// Reports what the row of this word comes to: `device`, `pulled`, `second_address` or `own_connection`.
 pub fn tell_placed(rt: &HostRuntime, alloc: Global, word: &str, came: &mut Told) {
     match word {
         "device" => tell_device(rt, alloc, came),
@@ -123,7 +123,7 @@ fn is_held(rig: &Rig<'_, '_, '_>) -> bool {
     }
 }
 
-// What an opening, a read and a put come to.
+// What an opening of this link, a read and a put of the bytes `much` come to: `Device` if all is as it should be.
 fn acts_outcome<L: Link>(link: &mut L, much: &[u8]) -> Outcome {
     if link.open().is_err() {
         return Outcome::Shut;
@@ -153,7 +153,8 @@ fn link_to<'a, 'b, 'c, 'd>(
     None
 }
 
-// What a link comes to over a device of which each read fails, as of one that was pulled out: it can't be read.
+// What a link comes to over a device of which each read fails, as of one that was pulled out. It should be `Failure`; a machine without
+// such devices counts as right.
 fn pulled(rt: &HostRuntime) -> Outcome {
     let Some(device) = terminal(rt, false) else {
         return Outcome::Failure;
@@ -171,7 +172,7 @@ fn pulled(rt: &HostRuntime) -> Outcome {
     }
 }
 
-// What an opening of this link, and a read, come to.
+// Opens this link, and reads. Returns `Failure` if the read fails, `NoFailure` if it doesn't, and `Shut` if the link can't be opened.
 fn failure_outcome<L: Link>(link: &mut L) -> Outcome {
     if link.open().is_err() {
         return Outcome::Shut;
@@ -183,7 +184,7 @@ fn failure_outcome<L: Link>(link: &mut L) -> Outcome {
     }
 }
 
-// What an opening of this link, and a put, come to.
+// Opens this link, puts bytes and closes it. Returns `Open` if both could be done, and otherwise `Shut`.
 fn opening_outcome<L: Link>(link: &mut L) -> Outcome {
     if link.open().is_err() {
         return Outcome::Shut;
@@ -195,7 +196,8 @@ fn opening_outcome<L: Link>(link: &mut L) -> Outcome {
     Outcome::Open
 }
 
-// What a link to a name with two addresses comes to, over these connections.
+// What a link to a name with two addresses comes to, if its attempts to connect make these connections, in their order. `Nothing`: the
+// link can't be made.
 fn named_outcome(connections: &[Option<TcpStream>]) -> Outcome {
     let done = RefCell::new(Done::nothing());
     let rig = Rig {
@@ -209,12 +211,13 @@ fn named_outcome(connections: &[Option<TcpStream>]) -> Outcome {
     }
 }
 
-// A link to a name, which has two addresses in a rig.
+// A link to a name, which has two addresses in a rig. `None`: it can't be made.
 fn named_link<'a, 'b, 'c, 'd>(rig: &'a Rig<'b, 'c, 'd>) -> Option<TcpLink<'a, Rig<'b, 'c, 'd>>> {
     TcpLink::to_host(rig, "station:4001").ok()
 }
 
-// What a link comes to where the first address of its name doesn't answer and the second one does.
+// What a link comes to whose name has a first address that doesn't answer and a second one that does. `Nothing`: there are no sockets
+// for it.
 fn second_address(rt: &HostRuntime) -> Outcome {
     match UnixStream::pair(rt) {
         Ok((near, _far)) => {
@@ -224,7 +227,7 @@ fn second_address(rt: &HostRuntime) -> Outcome {
     }
 }
 
-// What a link comes to whose connection leads to itself.
+// What a link comes to whose connection leads to itself. `Nothing`: there is no such connection.
 fn own_connection(rt: &HostRuntime) -> Outcome {
     match own_socket(rt) {
         Ok(own) => named_outcome([Some(TcpStream::from(OwnedFd::from(own)))].as_slice()),
@@ -234,7 +237,7 @@ fn own_connection(rt: &HostRuntime) -> Outcome {
 
 // A socket that is connected to itself.
 fn own_socket(rt: &HostRuntime) -> io::Result<UdpSocket> {
-    let own = UdpSocket::bind(rt, at(0))?;
+    let own = UdpSocket::bind(rt, local_address(0))?;
     own.connect(own.local_addr()?)?;
     Ok(own)
 }

@@ -6,14 +6,15 @@ use gc_ask::{CallerFault, Callers, keep};
 use gc_cases::Told;
 use std::alloc::Global;
 
-// Callers whose connections end as `EACH` says, in this order, and those of all later callers well.
+// Callers whose connections end as `FIRST_ENDS` says, in this order, and those of all later callers well.
 #[derive(Drop)]
 struct Ends {
+    // How many callers were served.
     at: usize,
 }
 
 // How the connections of the first seven callers end.
-const EACH: [Result<(), CallerFault>; 7] = [
+const FIRST_ENDS: [Result<(), CallerFault>; 7] = [
     Ok(()),
     Err(CallerFault::Read),
     Err(CallerFault::Write {
@@ -29,15 +30,16 @@ const EACH: [Result<(), CallerFault>; 7] = [
 impl Callers for Ends {
     ghost served = { λ _. None };
 
-    // Serves nobody: the end is the next of `EACH`, and after these a good one.
+    // Serves nobody: the end is the next of `FIRST_ENDS`, and after these a good one.
     fn serve_next(&mut self) -> Result<(), CallerFault> {
-        let end = EACH.get(self.at).copied().unwrap_or(Ok(()));
+        let end = FIRST_ENDS.get(self.at).copied().unwrap_or(Ok(()));
         self.at = self.at.saturating_add(1);
         end
     }
 }
 
-/// Serves eight of these callers, and reports how many were served, whether all lines on them were written, and these lines.
+/// Serves eight callers whose connections end as `FIRST_ENDS` says, and reports how many were served, whether all lines on them were
+/// written, and these lines.
 pub fn tell_ends(alloc: Global, came: &mut Told) {
     let mut ends = Ends { at: 0 };
     let mut messages = Vec::new(alloc);
@@ -47,8 +49,8 @@ pub fn tell_ends(alloc: Global, came: &mut Told) {
     came.bytes(messages.as_slice());
 }
 
-/// Serves eight of them, with room for forty bytes of messages, and reports how many were served and whether all lines were
-/// written.
+/// Serves the same eight callers with room for forty bytes of messages, and reports how many were served and whether all lines
+/// were written.
 pub fn tell_cut_ends(came: &mut Told) {
     let mut ends = Ends { at: 0 };
     let mut room = [0; 40];
@@ -57,13 +59,13 @@ pub fn tell_cut_ends(came: &mut Told) {
     tell_served(ends.at, all, came);
 }
 
-// Reports how many callers were served, and whether all lines on them were written.
+// Reports that `count` callers were served, and whether all lines on them were written (`all`).
 fn tell_served(count: usize, all: bool, came: &mut Told) {
     came.counted(&count, " served, ");
-    came.text(told_word(all));
+    came.text(written_word(all));
 }
 
-/// Whether all lines were written, in words.
-pub fn told_word(all: bool) -> &'static str {
+/// The words by which a case says that all lines were written, or that not all were.
+pub fn written_word(all: bool) -> &'static str {
     if all { "all told" } else { "not all told" }
 }

@@ -15,7 +15,7 @@
 //!     do device, pulled, second_address, own_connection   in devices.rt
 
 use crate::devices::tell_placed;
-use crate::streams::{accepted, at, hear};
+use crate::streams::{accepted, hear, local_address, tell_end_behind};
 use gc_cases::{Case, Player, Rows, Told, play_rows};
 use gc_links::{Came, Link, TcpLink};
 use gc_texts::number_of;
@@ -26,7 +26,7 @@ use std::net::{TcpListener, TcpStream};
 // A moment of November 2023 in milliseconds since 1970, which has passed.
 const YEAR_2023: u64 = 1_700_000_000_000;
 
-// How long a put waits if the case says no patience, in milliseconds.
+// How long a put waits at most if the case says no patience, in milliseconds.
 const PATIENCE: u64 = 10_000;
 
 /// Plays `.links`.
@@ -35,9 +35,9 @@ pub struct Links;
 impl Player for Links {
     // Plays a case, with a free port of its own for the link to lead to.
     fn play(&self, rt: &HostRuntime, case: &Case<'_>, wrong: &mut Told) -> io::Result<()> {
-        let listener = TcpListener::bind(rt, at(0))?;
+        let listener = TcpListener::bind(rt, local_address(0))?;
         // A listener at 1024: a port below that is no other one, so nothing connects there.
-        let _other = TcpListener::bind(rt, at(1024));
+        let _other = TcpListener::bind(rt, local_address(1024));
         play_at(rt, listener, case, wrong);
         Ok(())
     }
@@ -81,19 +81,21 @@ fn play_over<'a>(
     play_rows(rt.alloc(), case, &mut played, wrong);
 }
 
-// A link and its far end.
+// A link, its far end, and the listener at its port.
 #[derive(Drop)]
 struct Played<'a> {
     rt: &'a HostRuntime,
+    // `None`: nobody listens any more.
     listener: Option<TcpListener>,
     link: TcpLink<'a, HostRuntime>,
+    // The far end of the connection that was accepted last. `None`: none was, or it went away.
     far: Option<TcpStream>,
     // How many bytes of the put that stalled were sent.
     sent: usize,
 }
 
 impl<'a> Rows for Played<'a> {
-    // Plays a row by its word.
+    // Plays a row by its word: here, or in devices.rt.
     fn play(&mut self, alloc: Global, word: &str, what: &str, bytes: &[u8], came: &mut Told) {
         match word {
             "open" => came.either(self.link.open().is_ok(), "open", "shut"),
@@ -104,7 +106,7 @@ impl<'a> Rows for Played<'a> {
             "look" => self.look(came),
             "wait" => self.wait(what, came),
             "hear" => self.hear(alloc, came),
-            "accept" => self.far = self.caller(),
+            "accept" => self.far = self.accept(),
             "far" => self.write_far(bytes, came),
             "go" => self.far = None,
             "deaf" => self.listener = None,
@@ -125,7 +127,7 @@ impl<'a> Played<'a> {
         }
     }
 
-    // Puts sixteen million bytes, which is more than a connection takes while nobody reads.
+    // Puts sixteen million bytes, which is more than a connection takes while nobody reads, and reports what came of it.
     fn stall(&mut self, alloc: Global, came: &mut Told) {
         match dots(alloc, 16_000_000) {
             Ok(much) => self.put_much(much.as_slice(), came),
@@ -161,7 +163,8 @@ impl<'a> Played<'a> {
         tell_came(ended, buf.as_slice(), came)
     }
 
-    // Waits for a silence of this many milliseconds, and reports whether it came within a second.
+    // Waits until the link was silent for as many milliseconds as `what` says, which is 0 if it is no number. Reports that this took less
+    // than a second, or else for how many milliseconds the link was silent.
     fn wait(&mut self, what: &str, came: &mut Told) {
         let millis = number_of(what.as_bytes(), u64::MAX).unwrap_or(0);
         let waited = silence_of(&mut self.link, millis);
@@ -179,18 +182,18 @@ impl<'a> Played<'a> {
         }
     }
 
-    // The far end writes these bytes.
+    // The far end writes these bytes. Reports only if it can't.
     fn write_far(&mut self, bytes: &[u8], came: &mut Told) {
         came.either(write_all(&mut self.far, bytes), "", "it can't be written");
     }
 
-    // The other end of the connection that was made last.
-    fn caller(&self) -> Option<TcpStream> {
+    // Accepts the connection that the link made, and returns its far end. `None`: none was made, or nobody listens any more.
+    fn accept(&self) -> Option<TcpStream> {
         accepted(self.listener.as_ref()?).ok()
     }
 }
 
-// Writes bytes at the far end, and returns whether that could be done.
+// Writes bytes at the far end, and returns whether that could be done. Without a far end it can't.
 fn write_all(far: &mut Option<TcpStream>, bytes: &[u8]) -> bool {
     match far {
         Some(far) => far.write_all(bytes).is_ok(),
@@ -203,18 +206,17 @@ fn write_all(far: &mut Option<TcpStream>, bytes: &[u8]) -> bool {
 fn tell_heard(alloc: Global, far: &mut TcpStream, sent: usize, came: &mut Told) {
     let mut bytes = Vec::new(alloc);
     let is_end = hear(far, &mut bytes);
-    tell_bytes(is_end, bytes.as_slice(), sent, came);
+    tell_heard_bytes(is_end, bytes.as_slice(), sent, came);
 }
 
-// Reports what a far end heard. Of a hundred bytes or more only their number is looked at: whether it is `sent`, that of
-// the stalled put.
-fn tell_bytes(is_end: bool, bytes: &[u8], sent: usize, came: &mut Told) {
+// Reports what a far end heard: `bytes` until its connection was shut, or `open` where it isn't shut (`is_end` is false). Of a hundred
+// bytes or more only the number is reported, and as "that part" if it is `sent`, how many bytes the stalled put sent.
+fn tell_heard_bytes(is_end: bool, bytes: &[u8], sent: usize, came: &mut Told) {
     if !is_end {
         return came.text("open");
     }
     if bytes.len() < 100 {
-        came.either(bytes.is_empty(), "the end", "the end behind ");
-        return came.bytes(bytes);
+        return tell_end_behind(bytes, came);
     }
     if bytes.len() == sent {
         return came.text("the end behind that part");
@@ -247,7 +249,8 @@ pub fn put_of<L: Link>(link: &mut L, bytes: &[u8]) -> usize {
     }
 }
 
-// Reports what a read came to.
+// Reports what a read into `buf` came to, as `ended` says: the bytes that came, or, if their moment isn't after `YEAR_2023`, that moment;
+// and if no bytes came, a word.
 fn tell_came(ended: Came, buf: &[u8], came: &mut Told) {
     match ended {
         Came::Bytes(n, moment) if moment.utc > YEAR_2023 => {
@@ -261,8 +264,8 @@ fn tell_came(ended: Came, buf: &[u8], came: &mut Told) {
     }
 }
 
-/// Reads a link until it was silent for `millis` milliseconds, and returns how many these were; 0 where something came. A read that
-/// ends early is made again.
+/// Reads a link until it was silent for `millis` milliseconds, and returns for how many milliseconds it was: 0 if something else came. A
+/// read that ends early is made again, up to a thousand times.
 pub fn silence_of<L: Link>(link: &mut L, millis: u64) -> u64 {
     let begun = elapsed(link);
     let mut buf = [0; 2];

@@ -1,9 +1,11 @@
-//! A runtime whose devices and connections a case made before, and whose clock goes only while a link rests.
+//! A runtime whose devices and connections a case made before, and whose clock goes only while a link rests. It has no other file
+//! and no folder.
 
+use gc_cases::{in_use, not_found};
 use std::alloc::Allocator;
 use std::cell::RefCell;
 use std::fs::{File, Files, Metadata, OpenOptions};
-use std::io::{self, ErrorKind};
+use std::io;
 use std::net::{Net, SocketAddr, TcpListener, TcpStream};
 use std::time::{Clock, Duration};
 
@@ -35,18 +37,8 @@ pub(crate) struct Rig<'a, 'b, 'c> {
     pub(crate) done: &'c RefCell<Done>,
 }
 
-// The error of what isn't there.
-fn none<T>() -> io::Result<T> {
-    Err(io::Error::from(ErrorKind::NotFound))
-}
-
-// The error of a call that comes while another one is made.
-fn in_use() -> io::Error {
-    io::Error::from(ErrorKind::ResourceBusy)
-}
-
 impl<'a, 'b, 'c> Clock for Rig<'a, 'b, 'c> {
-    // The time that a link rested.
+    // How long links have rested so far.
     fn monotonic(&self) -> io::Result<Duration> {
         let Ok(done) = self.done.try_borrow() else {
             return Err(in_use());
@@ -54,6 +46,7 @@ impl<'a, 'b, 'c> Clock for Rig<'a, 'b, 'c> {
         Ok(Duration::from_millis(done.rested))
     }
 
+    // The same time, as if the rests had begun with 1970.
     fn since_1970(&self) -> io::Result<Duration> {
         self.monotonic()
     }
@@ -72,15 +65,17 @@ impl<'a, 'b, 'c> Net for Rig<'a, 'b, 'c> {
 
     type Listener = TcpListener;
 
+    // No port can be listened at.
     fn bind(&self, _addr: SocketAddr) -> io::Result<TcpListener> {
-        none()
+        not_found()
     }
 
+    // Makes no connection: a link connects with a time-out.
     fn connect(&self, _addr: SocketAddr) -> io::Result<TcpStream> {
-        none()
+        not_found()
     }
 
-    // The next of the connections, in their order.
+    // The next of the connections, in their order; an error if it is `None`, or none is left.
     fn connect_timeout(&self, _addr: SocketAddr, _timeout: Duration) -> io::Result<TcpStream> {
         let Ok(mut done) = self.done.try_borrow_mut() else {
             return Err(in_use());
@@ -89,7 +84,7 @@ impl<'a, 'b, 'c> Net for Rig<'a, 'b, 'c> {
         done.tried = at.saturating_add(1);
         match self.connections.get(at) {
             Some(Some(stream)) => stream.try_clone(),
-            _ => none(),
+            _ => not_found(),
         }
     }
 
@@ -104,7 +99,7 @@ impl<'a, 'b, 'c> Files for Rig<'a, 'b, 'c> {
 
     type Dir = File;
 
-    // A handle of the device in whose number the path ends.
+    // A handle of device 0 if the path ends in `0`, and otherwise of device 1.
     fn open_file(&self, _how: &OpenOptions, path: &str) -> io::Result<File> {
         let number = match path.as_bytes().last() {
             Some(b'0') => 0,
@@ -112,43 +107,43 @@ impl<'a, 'b, 'c> Files for Rig<'a, 'b, 'c> {
         };
         match self.devices.get(number) {
             Some(device) => device.try_clone(),
-            None => none(),
+            None => not_found(),
         }
     }
 
     fn open_dir(&self, _path: &str) -> io::Result<File> {
-        none()
+        not_found()
     }
 
     fn metadata(&self, _path: &str) -> io::Result<Metadata> {
-        none()
+        not_found()
     }
 
     fn symlink_metadata(&self, _path: &str) -> io::Result<Metadata> {
-        none()
+        not_found()
     }
 
     fn copy(&self, _from: &str, _to: &str) -> io::Result<u64> {
-        none()
+        not_found()
     }
 
     fn rename(&self, _from: &str, _to: &str) -> io::Result<()> {
-        none()
+        not_found()
     }
 
     fn remove_file(&self, _path: &str) -> io::Result<()> {
-        none()
+        not_found()
     }
 
     fn create_dir(&self, _path: &str) -> io::Result<()> {
-        none()
+        not_found()
     }
 
     fn remove_dir(&self, _path: &str) -> io::Result<()> {
-        none()
+        not_found()
     }
 
     fn remove_dir_all<B: Allocator>(&self, _alloc: B, _path: &str) -> io::Result<()> {
-        none()
+        not_found()
     }
 }

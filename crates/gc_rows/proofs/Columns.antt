@@ -26,7 +26,7 @@ digits_lack mark [] digits other = tt
 digits_lack mark (d ∷ ds) digits other = ((λ e. no_digit d mark e (digit_from_value d digits.0) other), digits_lack mark ds digits.1 other)
 
 -- a text lacks a mark that both its parts lack
-lacks_both : (mark : ℕ) (xs ys : List ℕ) → Lacks mark xs → Lacks mark ys → Lacks mark (xs ++ ys)
+pub lacks_both : (mark : ℕ) (xs ys : List ℕ) → Lacks mark xs → Lacks mark ys → Lacks mark (xs ++ ys)
 lacks_both mark [] ys lx ly = ly
 lacks_both mark (x ∷ xs) ys lx ly = (lx.0, lacks_both mark xs ys lx.1 ly)
 

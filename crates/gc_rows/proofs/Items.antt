@@ -4,37 +4,36 @@ use Rattle.std.proofs.Common.{◌≡◌, ◌<◌, ◌≤◌, ◌+◌, ◌%◌, �
 use Rattle.std.specs.Prelude.{not, nat_lt, ◌&&◌}
 use Rattle.std.specs.List.{AllByRecursion, flat_map}
 use Rattle.std.proofs.lemmas.Bool.{cases_eq, ne_eqb, eqb-true, eq-eqb, cond_both, and_from, lt-ltb, ltb-true, false≢true}
-use Rattle.gc_values.specs.Params.{quotes, AreSpaces, IsParam, IsPadded, ArePieces, joined, IsParams}
-use Rattle.gc_values.specs.Pieces.{KeepsCommas}
+use Rattle.gc_values.specs.Params.{quotes, AreSpaces, HasCommasInQuotes, IsParam, IsPadded, ArePieces, joined, IsParams}
 use Rattle.gc_values.specs.declared.fault.ValueFault.{ValueFault}
 use Rattle.gc_values.specs.declared.fault.ValueFault.TheVariants.{OpenQuote, TooMany}
 use Rattle.gc_values.proofs.ParamLists.{IsPiece, pieces_of, params_even}
 use Rattle.gc_values.proofs.Quotes.{quotes-append, quotes-cons}
 use Rattle.gc_values.proofs.Trimming.{front_off, kept_front, back_off, param_is_trimmed, trimmed_is}
-use Rattle.gc_rows.specs.Items.{without_front, before_text, without_end, trimmed, onto, turned, pieces, is_blank, items_of, split_items, bytes_in}
+use Rattle.gc_rows.specs.Items.{without_front_spaces, put_before, without_end_spaces, trimmed, onto, quoted_after, pieces, is_blank, items_of, split_items, bytes_in}
 use Rattle.gc_rows.specs.Laws.{ItemsAreTheGrammars}
 
 -- Spaces at the ends.
 
--- the spaces at the front are taken off as gc_values does it
-same_front : (text : List ℕ) → without_front text ≡ front_off text
+-- `without_front_spaces` is `front_off` of gc_values
+same_front : (text : List ℕ) → without_front_spaces text ≡ front_off text
 same_front [] = refl
 same_front (b ∷ bs) = ap (λ t. cond (b == 32) t (b ∷ bs)) (same_front bs)
 
--- a byte comes before a text as in gc_values
-same_before : (b : ℕ) (text : List ℕ) → before_text b text ≡ kept_front b text
+-- `put_before` is `kept_front` of gc_values
+same_before : (b : ℕ) (text : List ℕ) → put_before b text ≡ kept_front b text
 same_before b [] = refl
 same_before b (x ∷ xs) = refl
 
--- the spaces at the end are taken off as gc_values does it
-same_end : (text : List ℕ) → without_end text ≡ back_off text
+-- `without_end_spaces` is `back_off` of gc_values
+same_end : (text : List ℕ) → without_end_spaces text ≡ back_off text
 same_end [] = refl
-same_end (b ∷ bs) = same_before b (without_end bs) ∙ ap (kept_front b) (same_end bs)
+same_end (b ∷ bs) = same_before b (without_end_spaces bs) ∙ ap (kept_front b) (same_end bs)
 
 -- a parameter with any spaces round it is trimmed to that parameter
 item_is : (piece item : List ℕ) → IsPadded piece item → IsParam item → trimmed piece ≡ item
 item_is piece item padded param =
-    same_end (without_front piece) ∙ ap back_off (same_front piece) ∙ sym (trimmed_is piece item (param_is_trimmed piece item padded param))
+    same_end (without_front_spaces piece) ∙ ap back_off (same_front piece) ∙ sym (trimmed_is piece item (param_is_trimmed piece item padded param))
 
 -- padded parameters are trimmed to these
 items_are : (ps is : List (List ℕ)) → ArePieces ps is → map trimmed ps ≡ is
@@ -48,11 +47,11 @@ items_are (p ∷ ps) (i ∷ is) are = ap (λ t. t ∷ map trimmed ps) (item_is p
 -- a text without a byte but spaces is spaces alone
 blank_spaces : (text : List ℕ) → is_blank text ≡ true → AreSpaces text
 blank_spaces [] blank = (0, refl)
-blank_spaces (b ∷ bs) blank = behind (b == 32) refl blank (λ all. blank_spaces bs all) where
-  -- the same, where `z` says whether the first byte is a space
-  behind : (z : Bool) → (b == 32) ≡ z → (z && is_blank bs) ≡ true → (is_blank bs ≡ true → AreSpaces bs) → AreSpaces (b ∷ bs)
-  behind true is all others = let rest = others all in (suc rest.0, ap (λ x. x ∷ bs) (eqb-true b 32 is) ∙ ap (λ xs. 32 ∷ xs) rest.1)
-  behind false is all others = absurd (false≢true all)
+blank_spaces (b ∷ bs) blank = by_first (b == 32) refl blank (λ all. blank_spaces bs all) where
+  -- the lemma above for the text `b ∷ bs`, by whether its first byte is a space (`z`)
+  by_first : (z : Bool) → (b == 32) ≡ z → (z && is_blank bs) ≡ true → (is_blank bs ≡ true → AreSpaces bs) → AreSpaces (b ∷ bs)
+  by_first true is all others = let rest = others all in (suc rest.0, ap (λ x. x ∷ bs) (eqb-true b 32 is) ∙ ap (λ xs. 32 ∷ xs) rest.1)
+  by_first false is all others = absurd (false≢true all)
 
 -- spaces alone are blank
 spaces_blank : (n : ℕ) → is_blank (replicate n 32) ≡ true
@@ -61,85 +60,85 @@ spaces_blank (suc n) = spaces_blank n
 
 -- a text that isn't spaces alone isn't blank
 not_blank : (text : List ℕ) → (AreSpaces text → ⊥) → is_blank text ≡ false
-not_blank text some = is (is_blank text) refl where
-  -- the same of what the test says
-  is : (z : Bool) → is_blank text ≡ z → z ≡ false
-  is true blank = absurd (some (blank_spaces text blank))
-  is false blank = refl
+not_blank text some = by_test (is_blank text) refl where
+  -- the lemma above, by whether the text is blank (`z`)
+  by_test : (z : Bool) → is_blank text ≡ z → z ≡ false
+  by_test true blank = absurd (some (blank_spaces text blank))
+  by_test false blank = refl
 
 -- Commas outside double quotes.
 
--- no comma of a text is outside double quotes; `quoted` says whether one is open before the text
-abbrev Keeps : Bool → List ℕ → Type 0
-Keeps quoted [] = Unit {0}
-Keeps quoted (b ∷ bs) = (b ≡ 44 → quoted ≡ true) × Keeps (turned b quoted) bs
+-- no comma of a text is outside double quotes; `quoted` says whether a double quote is open before the text
+abbrev HasNoOpenComma : Bool → List ℕ → Type 0
+HasNoOpenComma quoted [] = Unit {0}
+HasNoOpenComma quoted (b ∷ bs) = (b ≡ 44 → quoted ≡ true) × HasNoOpenComma (quoted_after b quoted) bs
 
--- whether a double quote is open after a text
-abbrev ends : Bool → List ℕ → Bool
-ends quoted [] = quoted
-ends quoted (b ∷ bs) = ends (turned b quoted) bs
+-- whether a double quote is open after a text; `quoted` says whether one is open before it
+abbrev is_open_after : Bool → List ℕ → Bool
+is_open_after quoted [] = quoted
+is_open_after quoted (b ∷ bs) = is_open_after (quoted_after b quoted) bs
 
--- whether a number of double quotes is odd
+-- a number of double quotes is odd (`true`) or even (`false`)
 abbrev IsOdd : Bool → ℕ → Type 0
 IsOdd true n = n % 2 ≡ 1
 IsOdd false n = n % 2 ≡ 0
 
--- a text before the first piece
+-- these pieces, with a text put in front of the first one
 abbrev before_first : List ℕ → List (List ℕ) → List (List ℕ)
 before_first [] ps = ps
 before_first (b ∷ bs) ps = onto b (before_first bs ps)
 
 -- a byte that is no comma outside double quotes ends no piece
 no_end : (b : ℕ) (quoted : Bool) → (b ≡ 44 → quoted ≡ true) → ((b == 44) && not quoted) ≡ false
-no_end b quoted keeps = is (b == 44) refl where
-  -- the same, where `z` says whether the byte is a comma
-  is : (z : Bool) → (b == 44) ≡ z → (z && not quoted) ≡ false
-  is true comma = ap not (keeps (eqb-true b 44 comma))
-  is false comma = refl
+no_end b quoted keeps = by_test (b == 44) refl where
+  -- the lemma above, by whether the byte is a comma (`z`)
+  by_test : (z : Bool) → (b == 44) ≡ z → (z && not quoted) ≡ false
+  by_test true comma = ap not (keeps (eqb-true b 44 comma))
+  by_test false comma = refl
 
 -- the bytes of a text without a comma outside double quotes are in the first piece
-walked : (quoted : Bool) (piece rest : List ℕ) → Keeps quoted piece → pieces quoted (piece ++ rest) ≡ before_first piece (pieces (ends quoted piece) rest)
+walked : (quoted : Bool) (piece rest : List ℕ) → HasNoOpenComma quoted piece → pieces quoted (piece ++ rest) ≡ before_first piece (pieces (is_open_after quoted piece) rest)
 walked quoted [] rest keeps = refl
 walked quoted (b ∷ bs) rest keeps =
-    ap (λ z. cond z ([] ∷ pieces false (bs ++ rest)) (onto b (pieces (turned b quoted) (bs ++ rest)))) (no_end b quoted keeps.0)
-    ∙ ap (onto b) (walked (turned b quoted) bs rest keeps.1)
+    ap (λ z. cond z ([] ∷ pieces false (bs ++ rest)) (onto b (pieces (quoted_after b quoted) (bs ++ rest)))) (no_end b quoted keeps.0)
+    ∙ ap (onto b) (walked (quoted_after b quoted) bs rest keeps.1)
 
--- one more byte changes whether the number of double quotes is odd exactly as `turned` says
-odd_more : (quoted : Bool) (front : List ℕ) (b : ℕ) → IsOdd quoted (quotes front) → IsOdd (turned b quoted) (quotes (front ++ b ∷ []))
-odd_more quoted front b odd = is quoted (b == 34) odd (quotes-append front (b ∷ []) ∙ ap (λ n. quotes front + n) (quotes-cons b [])) where
-  -- the same, where `z` says whether the byte is a double quote
-  is : (quoted z : Bool) → IsOdd quoted (quotes front) → quotes (front ++ b ∷ []) ≡ quotes front + (cond z 1 0 + quotes [])
+-- one more byte changes whether the number of double quotes is odd exactly as `quoted_after` says
+odd_more : (quoted : Bool) (front : List ℕ) (b : ℕ) → IsOdd quoted (quotes front) → IsOdd (quoted_after b quoted) (quotes (front ++ b ∷ []))
+odd_more quoted front b odd = by_test quoted (b == 34) odd (quotes-append front (b ∷ []) ∙ ap (λ n. quotes front + n) (quotes-cons b [])) where
+  -- the lemma above, by whether the byte is a double quote (`z`)
+  by_test : (quoted z : Bool) → IsOdd quoted (quotes front) → quotes (front ++ b ∷ []) ≡ quotes front + (cond z 1 0 + quotes [])
       → IsOdd (cond z (not quoted) quoted) (quotes (front ++ b ∷ []))
-  is true true odd more = omega (arith, odd, more)
-  is true false odd more = omega (arith, odd, more)
-  is false true odd more = omega (arith, odd, more)
-  is false false odd more = omega (arith, odd, more)
+  by_test true true odd more = omega (arith, odd, more)
+  by_test true false odd more = omega (arith, odd, more)
+  by_test false true odd more = omega (arith, odd, more)
+  by_test false false odd more = omega (arith, odd, more)
 
--- if a number is odd, a double quote is open
+-- if `quoted` says whether a number is odd, and the number is odd, `quoted` is true
 open_where : (quoted : Bool) (n : ℕ) → IsOdd quoted n → n % 2 ≡ 1 → quoted ≡ true
 open_where true n odd one = refl
 open_where false n odd one = absurd (omega (arith, odd, one))
 
 -- a text whose commas are each after an odd number of double quotes has none outside them; `front` is what comes before `piece`
-keeps_from : (quoted : Bool) (front piece : List ℕ) → KeepsCommas (front ++ piece) → IsOdd quoted (quotes front) → Keeps quoted piece
+keeps_from : (quoted : Bool) (front piece : List ℕ) → HasCommasInQuotes (front ++ piece) → IsOdd quoted (quotes front) → HasNoOpenComma quoted piece
 keeps_from quoted front [] keeps odd = tt
 keeps_from quoted front (b ∷ bs) keeps odd = (
   λ comma. open_where quoted (quotes front) odd (keeps front bs (ap (λ x. front ++ x ∷ bs) comma)),
-  keeps_from (turned b quoted) (front ++ b ∷ []) bs (subst KeepsCommas (sym (append_assoc front (b ∷ []) bs)) keeps) (odd_more quoted front b odd),
+  keeps_from (quoted_after b quoted) (front ++ b ∷ []) bs (subst HasCommasInQuotes (sym (append_assoc front (b ∷ []) bs)) keeps) (odd_more quoted front b odd),
 )
 
 -- whether a double quote is open after a text says whether the number of double quotes is odd
-odd_behind : (quoted : Bool) (front piece : List ℕ) → IsOdd quoted (quotes front) → IsOdd (ends quoted piece) (quotes (front ++ piece))
+odd_behind : (quoted : Bool) (front piece : List ℕ) → IsOdd quoted (quotes front) → IsOdd (is_open_after quoted piece) (quotes (front ++ piece))
 odd_behind quoted front [] odd = subst (λ t. IsOdd quoted (quotes t)) (sym (append-nil front)) odd
 odd_behind quoted front (b ∷ bs) odd =
-    subst (λ t. IsOdd (ends (turned b quoted) bs) (quotes t)) (append_assoc front (b ∷ []) bs) (odd_behind (turned b quoted) (front ++ b ∷ []) bs (odd_more quoted front b odd))
+    subst (λ t. IsOdd (is_open_after (quoted_after b quoted) bs) (quotes t)) (append_assoc front (b ∷ []) bs) (odd_behind (quoted_after b quoted) (front ++ b ∷ []) bs (odd_more quoted front b odd))
 
--- after a piece no double quote is open
+-- if `quoted` says whether a number is odd, and the number is even, `quoted` is false
 closed_where : (quoted : Bool) (n : ℕ) → IsOdd quoted n → n % 2 ≡ 0 → quoted ≡ false
 closed_where true n odd even = absurd (omega (arith, odd, even))
 closed_where false n odd even = refl
 
--- bytes before an empty piece are that piece
+-- with a text put in front of an empty first piece, the first piece is that text
 first_is : (piece : List ℕ) (ps : List (List ℕ)) → before_first piece ([] ∷ ps) ≡ piece ∷ ps
 first_is [] ps = refl
 first_is (b ∷ bs) ps = ap (onto b) (first_is bs ps)
@@ -148,7 +147,7 @@ first_is (b ∷ bs) ps = ap (onto b) (first_is bs ps)
 cut_behind : (piece rest : List ℕ) → IsPiece piece → pieces false (piece ++ rest) ≡ before_first piece (pieces false rest)
 cut_behind piece rest is =
     walked false piece rest (keeps_from false [] piece is.keeps refl)
-    ∙ ap (λ quoted. before_first piece (pieces quoted rest)) (closed_where (ends false piece) (quotes piece) (odd_behind false [] piece refl) is.even)
+    ∙ ap (λ quoted. before_first piece (pieces quoted rest)) (closed_where (is_open_after false piece) (quotes piece) (odd_behind false [] piece refl) is.even)
 
 -- pieces joined by commas are cut into these pieces
 pieces_are : (p : List ℕ) (ps : List (List ℕ)) → AllByRecursion IsPiece (p ∷ ps) → pieces false (joined (p ∷ ps)) ≡ p ∷ ps
@@ -177,13 +176,13 @@ splits text items are few =
     ap (λ z. cond (z && not (nat_lt 16 (length (items_of text)))) (Some (items_of text)) None) (eq-eqb (quotes text % 2) 0 (params_even text items are))
     ∙ ap (λ is. cond (not (nat_lt 16 (length is))) (Some is) None) same ∙ ap (λ z. cond (not z) (Some items) None) (not_below (length items) few)
   where
-    -- a number up to 16 has not 16 below it
+    -- 16 isn't below a number that is at most 16
     not_below : (n : ℕ) → n ≤ 16 → nat_lt 16 n ≡ false
-    not_below n few = is (nat_lt 16 n) refl where
-      -- the same of what the test says
-      is : (z : Bool) → nat_lt 16 n ≡ z → z ≡ false
-      is true below = absurd (omega (arith, few, ltb-true 16 n below))
-      is false below = refl
+    not_below n few = by_test (nat_lt 16 n) refl where
+      -- the lemma above, by whether 16 is below n (`z`)
+      by_test : (z : Bool) → nat_lt 16 n ≡ z → z ≡ false
+      by_test true below = absurd (omega (arith, few, ltb-true 16 n below))
+      by_test false below = refl
 
 -- a text with an odd number of double quotes doesn't split
 pub open_is_none : (text : List ℕ) → quotes text % 2 ≡ 1 → split_items text ≡ None
@@ -211,12 +210,12 @@ items_short (p ∷ ps) (i ∷ is) are =
     let rest = items_short ps is are.2 in
     omega (arith, whole, front, behind, rest)
 
--- texts, each after a comma, have at least as many bytes as the texts
-behind_commas : (ts : List (List ℕ)) → bytes_in ts ≤ length (flat_map (λ u. 44 ∷ u) ts)
-behind_commas [] = omega arith
-behind_commas (t ∷ ts) =
+-- texts, each after a comma, have together at least as many bytes as the texts alone
+after_commas_long : (ts : List (List ℕ)) → bytes_in ts ≤ length (flat_map (λ u. 44 ∷ u) ts)
+after_commas_long [] = omega arith
+after_commas_long (t ∷ ts) =
     let both = length-append (44 ∷ t) (flat_map (λ u. 44 ∷ u) ts) in
-    let rest = behind_commas ts in
+    let rest = after_commas_long ts in
     omega (arith, both, rest)
 
 -- texts joined by commas have at least as many bytes as the texts
@@ -224,7 +223,7 @@ joined_long : (ts : List (List ℕ)) → bytes_in ts ≤ length (joined ts)
 joined_long [] = omega arith
 joined_long (t ∷ ts) =
     let both = length-append t (flat_map (λ u. 44 ∷ u) ts) in
-    let rest = behind_commas ts in
+    let rest = after_commas_long ts in
     omega (arith, both, rest)
 
 -- the items of a text have together at most as many bytes as the text
@@ -239,19 +238,19 @@ items_fit text (item ∷ items) are =
 -- a text's items are of bytes if the text is.
 
 -- a text of bytes is of bytes without the spaces at its front
-front_bytes : (text : List ℕ) → AllByRecursion (λ b. b < 256) text → AllByRecursion (λ b. b < 256) (without_front text)
+front_bytes : (text : List ℕ) → AllByRecursion (λ b. b < 256) text → AllByRecursion (λ b. b < 256) (without_front_spaces text)
 front_bytes [] are = tt
-front_bytes (b ∷ bs) are = cond_both (b == 32) (without_front bs) (b ∷ bs) (AllByRecursion (λ b. b < 256)) (λ _. front_bytes bs are.1) (λ _. are)
+front_bytes (b ∷ bs) are = cond_both (b == 32) (without_front_spaces bs) (b ∷ bs) (AllByRecursion (λ b. b < 256)) (λ _. front_bytes bs are.1) (λ _. are)
 
 -- a byte before a text of bytes makes a text of bytes
-before_bytes : (b : ℕ) (text : List ℕ) → b < 256 → AllByRecursion (λ b. b < 256) text → AllByRecursion (λ b. b < 256) (before_text b text)
+before_bytes : (b : ℕ) (text : List ℕ) → b < 256 → AllByRecursion (λ b. b < 256) text → AllByRecursion (λ b. b < 256) (put_before b text)
 before_bytes b [] is are = cond_both (b == 32) [] (b ∷ []) (AllByRecursion (λ b. b < 256)) (λ _. tt) (λ _. (is, tt))
 before_bytes b (x ∷ xs) is are = (is, are)
 
 -- a text of bytes is of bytes without the spaces at its end
-end_bytes : (text : List ℕ) → AllByRecursion (λ b. b < 256) text → AllByRecursion (λ b. b < 256) (without_end text)
+end_bytes : (text : List ℕ) → AllByRecursion (λ b. b < 256) text → AllByRecursion (λ b. b < 256) (without_end_spaces text)
 end_bytes [] are = tt
-end_bytes (b ∷ bs) are = before_bytes b (without_end bs) are.0 (end_bytes bs are.1)
+end_bytes (b ∷ bs) are = before_bytes b (without_end_spaces bs) are.0 (end_bytes bs are.1)
 
 -- the texts are of bytes
 abbrev pub AreOfBytes : List (List ℕ) → Type 0
@@ -266,13 +265,13 @@ onto_bytes b (t ∷ ts) is are = ((is, are.0), are.1)
 pieces_bytes : (quoted : Bool) (text : List ℕ) → AllByRecursion (λ b. b < 256) text → AreOfBytes (pieces quoted text)
 pieces_bytes quoted [] are = (tt, tt)
 pieces_bytes quoted (b ∷ bs) are =
-    cond_both ((b == 44) && not quoted) ([] ∷ pieces false bs) (onto b (pieces (turned b quoted) bs)) AreOfBytes (λ _. (tt, pieces_bytes false bs are.1))
-    (λ _. onto_bytes b (pieces (turned b quoted) bs) are.0 (pieces_bytes (turned b quoted) bs are.1))
+    cond_both ((b == 44) && not quoted) ([] ∷ pieces false bs) (onto b (pieces (quoted_after b quoted) bs)) AreOfBytes (λ _. (tt, pieces_bytes false bs are.1))
+    (λ _. onto_bytes b (pieces (quoted_after b quoted) bs) are.0 (pieces_bytes (quoted_after b quoted) bs are.1))
 
 -- texts of bytes are of bytes without the spaces at their ends
 trimmed_bytes : (texts : List (List ℕ)) → AreOfBytes texts → AreOfBytes (map trimmed texts)
 trimmed_bytes [] are = tt
-trimmed_bytes (t ∷ ts) are = (end_bytes (without_front t) (front_bytes t are.0), trimmed_bytes ts are.1)
+trimmed_bytes (t ∷ ts) are = (end_bytes (without_front_spaces t) (front_bytes t are.0), trimmed_bytes ts are.1)
 
 -- the items of bytes are of bytes
 pub items_bytes : (text : List ℕ) → AllByRecursion (λ b. b < 256) text → AreOfBytes (items_of text)
@@ -295,9 +294,9 @@ bytes_below [] k lt = absurd (omega (arith, lt))
 bytes_below (t ∷ ts) zero lt = omega arith
 bytes_below (t ∷ ts) (suc k) lt = let rest = bytes_below ts k (omega (arith, lt)) in omega (arith, rest)
 
--- if a number is at most another, and that one at most a third, it is at most the third
-pub up_to : (a b c : ℕ) → a ≤ b → b ≤ c → a ≤ c
-up_to a b c first second = omega (arith, first, second)
+-- if a is at most b, and b at most c, a is at most c
+pub le_trans : (a b c : ℕ) → a ≤ b → b ≤ c → a ≤ c
+le_trans a b c first second = omega (arith, first, second)
 
 -- if a text is refused for its double quotes, or for its many items, it doesn't split
 pub refused_is_none : (text : List ℕ) (e : ValueFault) → (e ≡ OpenQuote) ⊎ (e ≡ TooMany) → (e ≡ OpenQuote → quotes text % 2 ≡ 1)

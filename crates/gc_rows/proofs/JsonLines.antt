@@ -16,16 +16,16 @@ use Rattle.json.specs.Tree.{ItemsHaveNumbers, MembersHaveNumbers, items_depth, i
 use Rattle.json.proofs.Printed.Strings.{escape_byte_plain}
 use Rattle.json.proofs.Printed.Trees.{document-print}
 use Rattle.gc_rows.specs.JsonLines.{Member, Text, Number, Texts, behind_backslash, string_text, number_member, comma_where, strings_text, list_text, member_text, members_text}
-use Rattle.gc_rows.specs.Laws.{IsPlainName, IsMember, texts_read, members_read, record_read, JsonLinesReadBack}
+use Rattle.gc_rows.specs.Laws.{IsPlainName, IsPlainMember, texts_read, members_read, record_read, JsonLinesReadBack}
 use Rattle.gc_texts.specs.Logs.{escaped}
 use Rattle.gc_texts.specs.Stamps.{stamp_text}
 use Rattle.gc_texts.proofs.LogStamps.{IsShown, escaped_prints, stamp_shown}
 
 -- the target, the name and the procedure, appended one after the other, are the members of a command
-pub what_text : (old target procedure : List ℕ) (name : List Member)
+pub command_text : (old target procedure : List ℕ) (name : List Member)
     → ((old ++ number_member (codes "target") target) ++ members_text name) ++ number_member (codes "procedure") procedure
     ≡ old ++ members_text (Number (codes "target") target ∷ (name ++ Number (codes "procedure") procedure ∷ []))
-what_text old target procedure name =
+command_text old target procedure name =
     let t = number_member (codes "target") target in
     let p = number_member (codes "procedure") procedure in
     let n = members_text name in
@@ -133,7 +133,7 @@ unfolding print_from
 list_as texts others are = ap (λ l. 91 ∷ l) (append_assoc (strings_text false texts) (codes "]") (print_from true others) ∙ texts_as false texts others are)
 
 -- members and the closing brace are written as a writer of JSON does it
-members_as : (members : List Member) → AllByRecursion IsMember members → members_text members ++ codes "}" ≡ print_from true (members_tokens (members_read members))
+members_as : (members : List Member) → AllByRecursion IsPlainMember members → members_text members ++ codes "}" ≡ print_from true (members_tokens (members_read members))
 unfolding print_from
 members_as [] are = refl
 members_as (Text name bytes ∷ ms) are =
@@ -157,7 +157,7 @@ no_numbers [] = tt
 no_numbers (text ∷ texts) = (tt, no_numbers texts)
 
 -- the numbers among members are numbers of JSON
-have_numbers : (members : List Member) → AllByRecursion IsMember members → MembersHaveNumbers (members_read members)
+have_numbers : (members : List Member) → AllByRecursion IsPlainMember members → MembersHaveNumbers (members_read members)
 have_numbers [] are = tt
 have_numbers (Text name bytes ∷ ms) are = (tt, have_numbers ms are.1)
 have_numbers (Number name digits ∷ ms) are = (are.0.1, have_numbers ms are.1)
@@ -199,7 +199,7 @@ front_of a m =
     append_assoc a m (codes "}\n") ∙ ap (λ l. a ++ l) (sym (append_assoc m (codes "}") (codes "\n"))) ∙ sym (append_assoc a (m ++ codes "}") (codes "\n"))
 
 -- a line of JSON without its line feed is what the writer of JSON writes of its members
-whole_as : (run : ℕ) (members : List Member) → run < 2 ^ 64 → AllByRecursion IsMember members
+whole_as : (run : ℕ) (members : List Member) → run < 2 ^ 64 → AllByRecursion IsPlainMember members
     → (codes "{\"run\":" ++ string_text (stamp_text run)) ++ (members_text members ++ codes "}") ≡ print (json_tokens (json.object (record_read run members)))
 unfolding print_from escape_byte
 whole_as run members below are =
@@ -207,7 +207,7 @@ whole_as run members below are =
     ∙ ap (λ l. (codes "{\"run\":" ++ (34 ∷ (escape (escaped (stamp_text run)) ++ 34 ∷ []))) ++ l) (members_as members are)
 
 -- a line of JSON without its line feed reads as the object of its members
-pub reads_as : (run : ℕ) (members : List Member) → run < 2 ^ 64 → AllByRecursion IsMember members
+pub reads_as : (run : ℕ) (members : List Member) → run < 2 ^ 64 → AllByRecursion IsPlainMember members
     → document ((codes "{\"run\":" ++ string_text (stamp_text run)) ++ (members_text members ++ codes "}")) ≡ Some (json.object (record_read run members))
 reads_as run members below are =
     let same = zero-max (members_depth (members_read members)) in

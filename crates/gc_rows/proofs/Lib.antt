@@ -3,4 +3,4 @@ pub mod Rows
 pub mod JsonLines
 pub mod Items
 pub mod Members
-pub mod Told
+pub mod ProcedureQuantities

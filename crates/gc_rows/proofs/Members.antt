@@ -1,12 +1,12 @@
 -- The members of a record's line: their names are plain, their texts hold bytes, and their numbers are JSON's. That is
--- `IsMember`; a member of which it holds is said to read back.
+-- `IsPlainMember`; a member of which it holds is said to read back.
 use Rattle.std.proofs.Common.{zero, suc, ◌≡◌, ◌≢◌, ◌<◌, ◌≤◌, ◌^◌, ◌%◌, ◌==◌, ◌++◌, ◌∷◌, ◌∙◌, [], ℕ, ◌+◌, List, Bool, true, false, cond, Option, Some, None, IfSome, length, drop, get_or, option_and_then, refl, sym, ap, subst, arith, append-nil}
 use Rattle.std.specs.Prelude.{codes, nat_lt, not, ◌&&◌}
 use Rattle.std.specs.Char.{is_ascii_digit}
 use Rattle.std.specs.Fmt.{decimal}
 use Rattle.std.specs.List.{All, AllByRecursion, prefix_len}
 use Rattle.std.specs.Str.Parse.{AllDigits}
-use Rattle.std.proofs.lemmas.Bool.{cond_both, ltb-true, eqb-true, eq-eqb, ne_eqb, false≢true, le-leb, and_from}
+use Rattle.std.proofs.lemmas.Bool.{cond_both, ltb-true, eqb-true, eq-eqb, ne_eqb, false≢true, le-leb, and_from, and_parts}
 use Rattle.std.proofs.lemmas.List.{drop_at}
 use Rattle.std.proofs.lemmas.List.Elements.{recursion_from_All, All-from_recursion}
 use Rattle.std.proofs.lemmas.Str.Parse.{digit_from_value}
@@ -32,8 +32,8 @@ use Rattle.gc_values.specs.declared.value.Value.{Value}
 use Rattle.gc_values.specs.declared.value.Value.TheVariants as value
 use Rattle.gc_values.proofs.OneText.{whole_text_once, decimal_text_once}
 use Rattle.gc_texts.specs.Endings.{End, Answered, Unreadable, Elsewhere, Late, Lost, Skipped, Missed, quality_of, quality_text}
-use Rattle.gc_rows.specs.JsonLines.{Text, Number, without_zeros, sent_members, when_members, name_members, what_members, reply_members, ending_members, value_members, values_members, item_members, answer_members, quantity_members, worded_members, attempt_members, last_members, more_members}
-use Rattle.gc_rows.specs.Laws.{IsPlainName, IsMember, IsReplyOfBytes, IsAnswerOfBytes, IsEnd, IsWhen, ColumnsSay, RecordsAreMembers}
+use Rattle.gc_rows.specs.JsonLines.{Text, Number, without_zeros, sent_members, when_members, name_members, command_members, reply_members, ending_members, value_members, values_members, item_members, answer_members, quantity_members, quality_members, attempt_members, last_members, members_after_ending}
+use Rattle.gc_rows.specs.Laws.{IsPlainName, IsPlainMember, IsReplyOfBytes, IsAnswerOfBytes, IsEndOfBytes, FitsIn64Bits, ColumnsSay, RecordsAreMembers}
 use Rattle.gc_rows.specs.Quantities.{column_of, quantity_name, quantity_names}
 use Rattle.gc_texts.specs.declared.quality.Quality.TheVariants.{Fine, Warning, Refused}
 use Rattle.gc_texts.specs.Cuts.{before, behind}
@@ -52,7 +52,7 @@ all_both : {X : Type 0} (P : X → Type 0) (xs ys : List X) → AllByRecursion P
 all_both P [] ys hx hy = hy
 all_both P (x ∷ xs) ys hx hy = (hx.0, all_both P xs ys hx.1 hy)
 
--- whether a byte may occur in a plain name: printable ASCII but the double quote and the backslash
+-- whether a byte may occur in a plain name: printable ASCII other than the double quote and the backslash
 abbrev is_fit : ℕ → Bool
 is_fit b = (nat_lt 31 b && nat_lt b 127) && (not (b == 34) && not (b == 92))
 
@@ -61,40 +61,30 @@ abbrev are_fit : List ℕ → Bool
 are_fit [] = true
 are_fit (b ∷ bs) = is_fit b && are_fit bs
 
--- where `a && b` is true, a is
-left : (a b : Bool) → (a && b) ≡ true → a ≡ true
-left true b e = refl
-left false b e = e
-
--- where `a && b` is true, b is
-right : (a b : Bool) → (a && b) ≡ true → b ≡ true
-right true b e = e
-right false b e = let bad : false ≡ true = e in cc
-
 -- a byte that tests as unequal to a mark isn't the mark
-other : (b mark : ℕ) → not (b == mark) ≡ true → b ≢ mark
-other b mark e is = let bad : not (mark == mark) ≡ true = subst (λ x. not (x == mark) ≡ true) is e in absurd (false≢true (ap not (sym (eq-eqb mark mark refl)) ∙ bad))
+not_the_mark : (b mark : ℕ) → not (b == mark) ≡ true → b ≢ mark
+not_the_mark b mark e is = let bad : not (mark == mark) ≡ true = subst (λ x. not (x == mark) ≡ true) is e in absurd (false≢true (ap not (sym (eq-eqb mark mark refl)) ∙ bad))
 
 -- a name that passes the test `are_fit` is plain
 plain_name : (name : List ℕ) → are_fit name ≡ true → IsPlainName name
 plain_name [] e = tt
 plain_name (b ∷ bs) e =
-    let one = left (is_fit b) (are_fit bs) e in
-    let shown = left (nat_lt 31 b && nat_lt b 127) (not (b == 34) && not (b == 92)) one in
-    let marks = right (nat_lt 31 b && nat_lt b 127) (not (b == 34) && not (b == 92)) one in
-    let above = ltb-true 31 b (left (nat_lt 31 b) (nat_lt b 127) shown) in (
-      (omega (arith, above), (other b 34 (left (not (b == 34)) (not (b == 92)) marks), other b 92 (right (not (b == 34)) (not (b == 92)) marks))),
-      plain_name bs (right (is_fit b) (are_fit bs) e),
+    let one = (and_parts (is_fit b) (are_fit bs) e).0 in
+    let shown = (and_parts (nat_lt 31 b && nat_lt b 127) (not (b == 34) && not (b == 92)) one).0 in
+    let marks = (and_parts (nat_lt 31 b && nat_lt b 127) (not (b == 34) && not (b == 92)) one).1 in
+    let above = ltb-true 31 b (and_parts (nat_lt 31 b) (nat_lt b 127) shown).0 in (
+      (omega (arith, above), (not_the_mark b 34 (and_parts (not (b == 34)) (not (b == 92)) marks).0, not_the_mark b 92 (and_parts (not (b == 34)) (not (b == 92)) marks).1)),
+      plain_name bs (and_parts (is_fit b) (are_fit bs) e).1,
     )
 
 -- a name that passes the test `are_fit` is of bytes
 plain_bytes : (name : List ℕ) → are_fit name ≡ true → AllByRecursion (λ b. b < 256) name
 plain_bytes [] e = tt
 plain_bytes (b ∷ bs) e =
-    let one = left (is_fit b) (are_fit bs) e in
-    let shown = left (nat_lt 31 b && nat_lt b 127) (not (b == 34) && not (b == 92)) one in
-    let below = ltb-true b 127 (right (nat_lt 31 b) (nat_lt b 127) shown) in
-    (omega (arith, below), plain_bytes bs (right (is_fit b) (are_fit bs) e))
+    let one = (and_parts (is_fit b) (are_fit bs) e).0 in
+    let shown = (and_parts (nat_lt 31 b && nat_lt b 127) (not (b == 34) && not (b == 92)) one).0 in
+    let below = ltb-true b 127 (and_parts (nat_lt 31 b) (nat_lt b 127) shown).1 in
+    (omega (arith, below), plain_bytes bs (and_parts (is_fit b) (are_fit bs) e).1)
 
 -- whether each of these names passes the test `are_fit`
 abbrev all_fit : List (List ℕ) → Bool
@@ -104,8 +94,8 @@ all_fit (name ∷ names) = are_fit name && all_fit names
 -- if each of these names passes the test `are_fit`, the one at place n does
 name_fits : (names : List (List ℕ)) (n : ℕ) → all_fit names ≡ true → are_fit (get_or names n []) ≡ true
 name_fits [] n e = refl
-name_fits (name ∷ names) zero e = left (are_fit name) (all_fit names) e
-name_fits (name ∷ names) (suc n) e = name_fits names n (right (are_fit name) (all_fit names) e)
+name_fits (name ∷ names) zero e = (and_parts (are_fit name) (all_fit names) e).0
+name_fits (name ∷ names) (suc n) e = name_fits names n (and_parts (are_fit name) (all_fit names) e).1
 
 -- the name of a quantity is plain
 quantity_named : (column : ℕ) → IsPlainName (quantity_name column)
@@ -194,7 +184,7 @@ decimal_form_number text form =
     subst IsNumber (sym form.text_is) (signed_then form.negative form.whole (46 ∷ form.fraction) form.whole_is refl (fraction_ends form.fraction form.fraction_is.are_digits form.fraction_is.some))
 
 -- digits as std has them (`AllDigits 10`) are digits as gc_values has them (`AreDigits`)
-digits_are : (ds : List ℕ) → AllDigits 10 ds → AreDigits ds
+pub digits_are : (ds : List ℕ) → AllDigits 10 ds → AreDigits ds
 digits_are [] h = tt
 digits_are (d ∷ ds) h = (digit_from_value d h.0, digits_are ds h.1)
 
@@ -218,15 +208,15 @@ fault_fits OpenQuote = omega arith
 fault_fits TooMany = omega arith
 fault_fits Count = omega arith
 
--- the member that says when a command was sent is one that reads back (`IsMember`)
-sent_are : (sent : Option ℕ) → IfSome sent (λ utc. utc < 2 ^ 64) → AllByRecursion IsMember (sent_members sent)
+-- the member that says when a command was sent is one that reads back (`IsPlainMember`)
+sent_are : (sent : Option ℕ) → IfSome sent (λ utc. utc < 2 ^ 64) → AllByRecursion IsPlainMember (sent_members sent)
 sent_are None h = tt
 sent_are (Some utc) h = ((plain_name (codes "sent") refl, stamp_bytes utc h), tt)
 
 -- the members that say when a command was sent and ended, and which one it was, read back
-when_are : (when : When) → IsWhen when → AllByRecursion IsMember (when_members when)
+when_are : (when : When) → FitsIn64Bits when → AllByRecursion IsPlainMember (when_members when)
 when_are when is =
-    all_both IsMember (sent_members when.stamp.sent) (Text (codes "time") (stamp_text when.stamp.utc) ∷ Number (codes "cycle")
+    all_both IsPlainMember (sent_members when.stamp.sent) (Text (codes "time") (stamp_text when.stamp.utc) ∷ Number (codes "cycle")
     (decimal when.stamp.cycle) ∷ Number (codes "place") (decimal when.stamp.turn.place) ∷ [])
     (sent_are when.stamp.sent is.sent) (
       (plain_name (codes "time") refl, stamp_bytes when.stamp.utc is.utc),
@@ -234,7 +224,7 @@ when_are when is =
     )
 
 -- the member of a name reads back
-name_are : (name : List ℕ) → All (λ b. b < 256) name → AllByRecursion IsMember (name_members name)
+name_are : (name : List ℕ) → All (λ b. b < 256) name → AllByRecursion IsPlainMember (name_members name)
 name_are [] h = tt
 name_are (b ∷ bs) h = ((plain_name (codes "name") refl, h), tt)
 
@@ -244,19 +234,19 @@ procedure_fits (Table call) = omega (arith, number_fits call)
 procedure_fits (Raw raw) = omega (arith, raw.is.bound)
 
 -- the members of a command's target, its name and the procedure read back
-what_are : (command : Wish) (name : List ℕ) → All (λ b. b < 256) name → command.target < 2 ^ 64 → AllByRecursion IsMember (what_members command name)
-what_are command name bytes target = (
+command_are : (command : Wish) (name : List ℕ) → All (λ b. b < 256) name → command.target < 2 ^ 64 → AllByRecursion IsPlainMember (command_members command name)
+command_are command name bytes target = (
   (plain_name (codes "target") refl, IsNumber-decimal command.target target),
-  all_both IsMember (name_members name) (Number (codes "procedure") (decimal (procedure_of command.call)) ∷ []) (name_are name bytes)
+  all_both IsPlainMember (name_members name) (Number (codes "procedure") (decimal (procedure_of command.call)) ∷ []) (name_are name bytes)
       ((plain_name (codes "procedure") refl, IsNumber-decimal (procedure_of command.call) (procedure_fits command.call)), tt),
 )
 
 -- the member of an outcome reads back
-outcome : (text : List ℕ) → are_fit text ≡ true → IsMember (Text (codes "outcome") text)
-outcome text fit = (plain_name (codes "outcome") refl, all_bytes text (plain_bytes text fit))
+outcome_is : (text : List ℕ) → are_fit text ≡ true → IsPlainMember (Text (codes "outcome") text)
+outcome_is text fit = (plain_name (codes "outcome") refl, all_bytes text (plain_bytes text fit))
 
 -- the members of a reply's line read back
-reply_are : (line : List ℕ) → IsReplyOfBytes line → AllByRecursion IsMember (reply_members (Some line))
+reply_are : (line : List ℕ) → IsReplyOfBytes line → AllByRecursion IsPlainMember (reply_members (Some line))
 reply_are line is =
     let say : ColumnsSay line is.0 = reply_columns line is.0 is.1 in (
       (plain_name (codes "rc_com") refl, code_number (com_of line) say.rc_com.digits say.rc_com.some),
@@ -267,16 +257,16 @@ reply_are line is =
     )
 
 -- the members that say how a command ended read back
-ending_are : (end : End) → IsEnd end → AllByRecursion IsMember (ending_members end)
-ending_are (Answered quality (Some answer) line) is = (outcome (codes "answered") refl, reply_are line is.0)
-ending_are (Answered quality None line) is = (outcome (codes "answered") refl, reply_are line is)
+ending_are : (end : End) → IsEndOfBytes end → AllByRecursion IsPlainMember (ending_members end)
+ending_are (Answered quality (Some answer) line) is = (outcome_is (codes "answered") refl, reply_are line is.0)
+ending_are (Answered quality None line) is = (outcome_is (codes "answered") refl, reply_are line is)
 ending_are (Unreadable line fault) is =
-    (outcome (codes "unreadable") refl, ((plain_name (codes "fault") refl, IsNumber-decimal (fault_number fault) (fault_fits fault)), reply_are line is))
-ending_are (Elsewhere line) is = (outcome (codes "elsewhere") refl, reply_are line is)
-ending_are Late is = (outcome (codes "late") refl, tt)
-ending_are Lost is = (outcome (codes "lost") refl, tt)
-ending_are Skipped is = (outcome (codes "skipped") refl, tt)
-ending_are Missed is = (outcome (codes "missed") refl, tt)
+    (outcome_is (codes "unreadable") refl, ((plain_name (codes "fault") refl, IsNumber-decimal (fault_number fault) (fault_fits fault)), reply_are line is))
+ending_are (Elsewhere line) is = (outcome_is (codes "elsewhere") refl, reply_are line is)
+ending_are Late is = (outcome_is (codes "late") refl, tt)
+ending_are Lost is = (outcome_is (codes "lost") refl, tt)
+ending_are Skipped is = (outcome_is (codes "skipped") refl, tt)
+ending_are Missed is = (outcome_is (codes "missed") refl, tt)
 
 -- a value whose members read back: of a byte that it is below 256, and of a text that its bytes are; of other values nothing is
 -- asked
@@ -290,7 +280,7 @@ HoldsBytes (value.Text bytes) = All (λ b. b < 256) bytes
 
 -- the members of a number, in its one written form and as it came, read back
 number_are : (name digits came : List ℕ) → IsPlainName name → IsNumber digits → AllByRecursion (λ b. b < 256) came
-    → AllByRecursion IsMember (Number name digits ∷ Text (name ++ codes "_text") came ∷ [])
+    → AllByRecursion IsPlainMember (Number name digits ∷ Text (name ++ codes "_text") came ∷ [])
 number_are name digits came named number bytes = ((named, number), ((text_named name named, all_bytes came bytes), tt))
 
 -- a boolean is written as a number of JSON
@@ -300,7 +290,7 @@ boolean_number false = refl
 boolean_number true = refl
 
 -- the members of a value read back
-value_are : (name : List ℕ) (v : Value) (came : List ℕ) → IsPlainName name → HoldsBytes v → AllByRecursion (λ b. b < 256) came → AllByRecursion IsMember (value_members name v came)
+value_are : (name : List ℕ) (v : Value) (came : List ℕ) → IsPlainName name → HoldsBytes v → AllByRecursion (λ b. b < 256) came → AllByRecursion IsPlainMember (value_members name v came)
 value_are name (value.Double d) came named is bytes =
     number_are name (written d.digits d.scale) came named (decimal_form_number (written d.digits d.scale) ((decimal_text_once d (written d.digits d.scale)).0 refl).0) bytes
 value_are name (value.Long z) came named is bytes = number_are name (signed_text z) came named (whole_form_number (signed_text z) ((whole_text_once z (signed_text z)).0 refl).0) bytes
@@ -310,10 +300,10 @@ value_are name (value.Bool b) came named is bytes = number_are name (boolean_tex
 value_are name (value.Text text) came named is bytes = ((named, is), tt)
 
 -- the members of values read back
-values_are : (column : ℕ) (vs : List Value) (came : List ℕ) → AllByRecursion HoldsBytes vs → AllByRecursion (λ b. b < 256) came → AllByRecursion IsMember (values_members column vs came)
+values_are : (column : ℕ) (vs : List Value) (came : List ℕ) → AllByRecursion HoldsBytes vs → AllByRecursion (λ b. b < 256) came → AllByRecursion IsPlainMember (values_members column vs came)
 values_are column [] came hold bytes = tt
 values_are column (v ∷ vs) came hold bytes =
-    all_both IsMember (value_members (quantity_name column) v (before 44 came)) (values_members (column + 1) vs (behind 44 came))
+    all_both IsPlainMember (value_members (quantity_name column) v (before 44 came)) (values_members (column + 1) vs (behind 44 came))
     (value_are (quantity_name column) v (before 44 came) (quantity_named column) hold.0 (before_bytes 44 came bytes))
     (values_are (column + 1) vs (behind 44 came) hold.1 (behind_bytes 44 came bytes))
 
@@ -338,49 +328,49 @@ all_texts [] are = tt
 all_texts (text ∷ texts) are = (all_bytes text are.0, all_texts texts are.1)
 
 -- the member of a text's items, if it splits, reads back; `z` is whether it does
-items_where : (z : Bool) (items : List (List ℕ)) → AreOfBytes items → AllByRecursion IsMember (item_members (cond z (Some items) None))
+items_where : (z : Bool) (items : List (List ℕ)) → AreOfBytes items → AllByRecursion IsPlainMember (item_members (cond z (Some items) None))
 items_where true items are = ((plain_name (codes "items") refl, all_texts items are), tt)
 items_where false items are = tt
 
 -- the member of a text's items reads back
-items_are : (text : List ℕ) → AllByRecursion (λ b. b < 256) text → AllByRecursion IsMember (item_members (split_items text))
+items_are : (text : List ℕ) → AllByRecursion (λ b. b < 256) text → AllByRecursion IsPlainMember (item_members (split_items text))
 items_are text are = items_where ((quotes text % 2 == 0) && not (nat_lt 16 (length (items_of text)))) (items_of text) (items_bytes text are)
 
 -- the members of an answer's quantities read back
-columns_are : (asked : Asked) (answer : Answer) (line : List ℕ) → IsReplyOfBytes line → IsAnswerOfBytes answer → AllByRecursion IsMember (answer_members asked answer line)
+columns_are : (asked : Asked) (answer : Answer) (line : List ℕ) → IsReplyOfBytes line → IsAnswerOfBytes answer → AllByRecursion IsPlainMember (answer_members asked answer line)
 columns_are (Table call) answer line is fits = values_are (column_of call answer) (answer_fields answer).values (values_of line) (answer_holds answer fits) (values_bytes line is.2)
 columns_are (Raw raw) answer line is fits = items_are (values_of line) (values_bytes line is.2)
 
 -- the members of a command's quantities read back
-quantities_are : (asked : Asked) (end : End) → IsEnd end → AllByRecursion IsMember (quantity_members asked end)
+quantities_are : (asked : Asked) (end : End) → IsEndOfBytes end → AllByRecursion IsPlainMember (quantity_members asked end)
 quantities_are asked (Answered quality (Some answer) line) is = columns_are asked answer line is.0 is.1
 quantities_are asked end is = tt
 
 -- the member of a quality reads back
-quality_is : (text : List ℕ) → are_fit text ≡ true → IsMember (Text (codes "quality") text)
+quality_is : (text : List ℕ) → are_fit text ≡ true → IsPlainMember (Text (codes "quality") text)
 quality_is text fit = (plain_name (codes "quality") refl, all_bytes text (plain_bytes text fit))
 
 -- the member of the quality of a command's answer reads back
-worded_are : (end : End) → AllByRecursion IsMember (worded_members (quality_text (quality_of end)))
-worded_are (Answered Fine answer line) = (quality_is (codes "ok") refl, tt)
-worded_are (Answered Warning answer line) = (quality_is (codes "warning") refl, tt)
-worded_are (Answered Refused answer line) = (quality_is (codes "refused") refl, tt)
-worded_are end = tt
+quality_members_are : (end : End) → AllByRecursion IsPlainMember (quality_members (quality_text (quality_of end)))
+quality_members_are (Answered Fine answer line) = (quality_is (codes "ok") refl, tt)
+quality_members_are (Answered Warning answer line) = (quality_is (codes "warning") refl, tt)
+quality_members_are (Answered Refused answer line) = (quality_is (codes "refused") refl, tt)
+quality_members_are end = tt
 
 -- the members after all others read back
-last_are : (when : When) (end : End) → IsWhen when → AllByRecursion IsMember (last_members when end)
+last_are : (when : When) (end : End) → FitsIn64Bits when → AllByRecursion IsPlainMember (last_members when end)
 last_are when end is =
-    all_both IsMember (worded_members (quality_text (quality_of end))) (attempt_members when) (worded_are end)
+    all_both IsPlainMember (quality_members (quality_text (quality_of end))) (attempt_members when) (quality_members_are end)
     ((plain_name (codes "attempt") refl, IsNumber-decimal when.stamp.turn.attempt is.attempt), tt)
 
 -- the law: all members of a record's line read back
 pub are_members : RecordsAreMembers
 are_members when name command end is bytes target ended =
     let ws = when_members when in
-    let hs = what_members command name in
+    let hs = command_members command name in
     let es = ending_members end in
     let qs = quantity_members command.call end in
     let ls = last_members when end in
-    all_both IsMember ws (hs ++ (es ++ (qs ++ ls))) (when_are when is)
-    (all_both IsMember hs (es ++ (qs ++ ls)) (what_are command name bytes target)
-    (all_both IsMember es (qs ++ ls) (ending_are end ended) (all_both IsMember qs ls (quantities_are command.call end ended) (last_are when end is))))
+    all_both IsPlainMember ws (hs ++ (es ++ (qs ++ ls))) (when_are when is)
+    (all_both IsPlainMember hs (es ++ (qs ++ ls)) (command_are command name bytes target)
+    (all_both IsPlainMember es (qs ++ ls) (ending_are end ended) (all_both IsPlainMember qs ls (quantities_are command.call end ended) (last_are when end is))))

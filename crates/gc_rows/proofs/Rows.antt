@@ -19,7 +19,7 @@ use Rattle.gc_rows.specs.Quantities.{quantity_text}
 use Rattle.gc_rows.specs.Rows.{is_special, within_quotes, csv_field, field_text, behind_comma, behind_commas, row_of, spread, value_text}
 use Rattle.gc_values.specs.declared.value.Value.{Value}
 use Rattle.gc_texts.proofs.LogStamps.{IsShown, escaped_prints}
-use Rattle.gc_texts.proofs.Logs.{one_text}
+use Rattle.gc_texts.proofs.Logs.{escaped_injective}
 
 -- the field of the run and four lists of fields, each field after a comma, and then a line feed, are one row of all these
 -- fields
@@ -132,7 +132,7 @@ read_back = record {
   row = row_back;
   table = table_back;
   names = (refl, refl);
-  once = one_text;
+  once = escaped_injective;
 }
 
 -- a list of one printable byte is printable

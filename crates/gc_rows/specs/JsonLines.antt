@@ -26,22 +26,22 @@ use Rattle.gc_texts.specs.Stamps.{stamp_text}
 abbrev pub behind_backslash : ℕ → List ℕ
 behind_backslash b = if (b == 34) || (b == 92) then 92 ∷ b ∷ [] else b ∷ []
 
--- a printable text as a string
+-- a printable text as a string of JSON, with its double quotes
 abbrev pub in_quotes : List ℕ → List ℕ
 in_quotes text = codes "\"" ++ flat_map behind_backslash text ++ codes "\""
 
--- a string that holds these bytes
+-- a string of JSON that holds these bytes, each escaped as in a log line if it isn't printable
 abbrev pub string_text : List ℕ → List ℕ
 string_text bytes = in_quotes (escaped bytes)
 
--- a member of an object: its name, and its value, which is a string that holds these bytes, a number with these digits, or a list of strings
--- that hold these bytes
+-- a member of an object: its name, and its value, which is a string that holds these bytes, a number with these digits, or a list of
+-- strings that hold these bytes
 pub data Member : Type 0 where
   Text : (name bytes : List ℕ) → Member
   Number : (name digits : List ℕ) → Member
   Texts : (name : List ℕ) (texts : List (List ℕ)) → Member
 
--- the name of a member after a comma, with its colon
+-- a comma, the name of a member in double quotes, and a colon
 abbrev pub named : List ℕ → List ℕ
 named name = codes ",\"" ++ name ++ codes "\":"
 
@@ -53,12 +53,12 @@ text_member name bytes = named name ++ string_text bytes
 abbrev pub number_member : List ℕ → List ℕ → List ℕ
 number_member name digits = named name ++ digits
 
--- a comma, where one is wanted, or nothing
+-- the comma before an item of a list, if the argument says that another item is before it; else nothing
 abbrev pub comma_where : Bool → List ℕ
 comma_where true = codes ","
 comma_where false = []
 
--- strings that hold these bytes, with commas between them, and one before the first where `behind` says so
+-- strings that hold these bytes, with commas between them, and one before the first if `behind` is true
 abbrev pub strings_text : Bool → List (List ℕ) → List ℕ
 strings_text behind [] = []
 strings_text behind (bytes ∷ others) = comma_where behind ++ (string_text bytes ++ strings_text true others)
@@ -67,7 +67,7 @@ strings_text behind (bytes ∷ others) = comma_where behind ++ (string_text byte
 abbrev pub list_text : List (List ℕ) → List ℕ
 list_text texts = codes "[" ++ (strings_text false texts ++ codes "]")
 
--- a member that is a list of such strings, as it is written
+-- a member that is a list of strings of these bytes, as it is written
 abbrev pub texts_member : List ℕ → List (List ℕ) → List ℕ
 texts_member name texts = named name ++ list_text texts
 
@@ -81,7 +81,7 @@ member_text (Texts name texts) = texts_member name texts
 abbrev pub members_text : List Member → List ℕ
 members_text members = flat_map member_text members
 
--- the line of a record, with the moment at which its run began and these members
+-- the line of JSON of a record, with its line feed: the moment at which its run began, and these members
 abbrev pub json_line : ℕ → List Member → List ℕ
 json_line run members = codes "{\"run\":" ++ string_text (stamp_text run) ++ members_text members ++ codes "}\n"
 
@@ -91,44 +91,44 @@ without_zeros [] = []
 without_zeros (b ∷ []) = b ∷ []
 without_zeros (b ∷ c ∷ rest) = if b == 48 then without_zeros (c ∷ rest) else b ∷ c ∷ rest
 
--- when a command was sent, if it was
+-- the member that says when a command was sent; none if it wasn't
 abbrev pub sent_members : Option ℕ → List Member
 sent_members None = []
 sent_members (Some utc) = Text (codes "sent") (stamp_text utc) ∷ []
 
--- when a command was sent and ended, and which command of its run it was
+-- the members that say when a command was sent and ended, and which command of its run it was
 abbrev pub when_members : When → List Member
 when_members when =
     sent_members when.stamp.sent
     ++ (Text (codes "time") (stamp_text when.stamp.utc) ∷ Number (codes "cycle") (decimal when.stamp.cycle) ∷ Number (codes "place") (decimal when.stamp.turn.place) ∷ [])
 
--- what a target is called, if it has a name
+-- the member of a target's name; none if the name is empty
 abbrev pub name_members : List ℕ → List Member
 name_members [] = []
 name_members (b ∷ bs) = Text (codes "name") (b ∷ bs) ∷ []
 
--- the target of a command, its name, and the number of the procedure
-abbrev pub what_members : Wish → List ℕ → List Member
-what_members command name =
+-- the members of a command's target, the target's name, and the number of the procedure
+abbrev pub command_members : Wish → List ℕ → List Member
+command_members command name =
     Number (codes "target") (decimal command.target) ∷ (name_members name ++ Number (codes "procedure") (decimal (procedure_of command.call)) ∷ [])
 
--- the fault of a reply's values, if they don't read
+-- the member of a fault's number; none if there is no fault
 abbrev pub fault_members : Option ValueFault → List Member
 fault_members None = []
 fault_members (Some fault) = Number (codes "fault") (decimal (fault_number fault)) ∷ []
 
--- what a reply's line says, if there is one: its communication code, its return code, and its values
+-- the members of a reply's line: its communication code, its return code, and its values; none if there is no reply
 abbrev pub reply_members : Option (List ℕ) → List Member
 reply_members None = []
 reply_members (Some line) =
     Number (codes "rc_com") (without_zeros (com_of line)) ∷ Number (codes "rc") (without_zeros (code_of line)) ∷ Text (codes "values") (values_of line) ∷ []
 
--- how a command ended: the outcome, the fault, and what the reply's line says
+-- the members that say how a command ended: its word, its fault, and those of the reply's line
 abbrev pub ending_members : End → List Member
 ending_members end = Text (codes "outcome") (word_of end) ∷ (fault_members (fault_of end) ++ reply_members (line_of end))
 
 -- the members of a value under this name. A text gives one, its bytes. A number gives two: the number in its one written form,
--- and, under the name with `_text`, how the reply's line wrote it (`came`)
+-- and, under the name with `_text`, the number as the reply's line wrote it (`came`)
 abbrev pub value_members : List ℕ → Value → List ℕ → List Member
 value_members name (value.Text bytes) came = Text name bytes ∷ []
 value_members name v came = Number name (quantity_text v) ∷ Text (name ++ codes "_text") came ∷ []
@@ -139,25 +139,26 @@ abbrev pub values_members : ℕ → List Value → List ℕ → List Member
 values_members column [] came = []
 values_members column (v ∷ vs) came = value_members (quantity_name column) v (before 44 came) ++ values_members (column + 1) vs (behind 44 came)
 
--- the items of a reply's values, if these split
+-- the member of the items into which a reply's values split; none if they don't split
 abbrev pub item_members : Option (List (List ℕ)) → List Member
 item_members None = []
 item_members (Some items) = Texts (codes "items") items ∷ []
 
--- the quantities of an answer to a call of the table, which this line gave; of any other procedure the items of the line's values
+-- the members of an answer, whose reply this line is: the quantities of a call of the table, and of any other procedure the items of the
+-- line's values
 abbrev pub answer_members : Asked → Answer → List ℕ → List Member
 answer_members (Table call) answer line = values_members (column_of call answer) (answer_fields answer).values (values_of line)
 answer_members (Raw raw) answer line = item_members (split_items (values_of line))
 
--- the quantities or the items of a command's answer, if it ended with one
+-- the members of a command's answer: its quantities or its items; none if the command ended without one
 abbrev pub quantity_members : Asked → End → List Member
 quantity_members asked (Answered quality (Some answer) line) = answer_members asked answer line
 quantity_members asked _ = []
 
 -- the member `quality`, which holds this word; none if the word is empty
-abbrev pub worded_members : List ℕ → List Member
-worded_members [] = []
-worded_members (b ∷ bs) = Text (codes "quality") (b ∷ bs) ∷ []
+abbrev pub quality_members : List ℕ → List Member
+quality_members [] = []
+quality_members (b ∷ bs) = Text (codes "quality") (b ∷ bs) ∷ []
 
 -- the member of the attempt of a command's chain
 abbrev pub attempt_members : When → List Member
@@ -165,12 +166,12 @@ attempt_members when = Number (codes "attempt") (decimal when.stamp.turn.attempt
 
 -- the members after all others: the quality of the command's answer, if it was answered, and the attempt of its chain
 abbrev pub last_members : When → End → List Member
-last_members when end = worded_members (quality_text (quality_of end)) ++ attempt_members when
+last_members when end = quality_members (quality_text (quality_of end)) ++ attempt_members when
 
--- the members of the quantities or the items of an answer, and after them the last ones
-abbrev pub more_members : When → Asked → End → List Member
-more_members when asked end = quantity_members asked end ++ last_members when end
+-- the members after those that say how the command ended: its answer's quantities or items, then the answer's quality and the attempt
+abbrev pub members_after_ending : When → Asked → End → List Member
+members_after_ending when asked end = quantity_members asked end ++ last_members when end
 
 -- the members of a record's object after the first, which is `run`
 abbrev pub json_members : When → List ℕ → Wish → End → List Member
-json_members when name command end = when_members when ++ (what_members command name ++ (ending_members end ++ more_members when command.call end))
+json_members when name command end = when_members when ++ (command_members command name ++ (ending_members end ++ members_after_ending when command.call end))

@@ -25,7 +25,8 @@ use Rattle.gc_texts.specs.Stamps.{stamp_text}
 use Rattle.gc_texts.specs.declared.wish.Wish.{Wish}
 use Rattle.gc_rows.specs.declared.when.When.{When}
 
--- the three columns of a reply's line say its communication code, its return code and its values
+-- the columns cut from a reply's line are right: `rc_com` and `rc` are the numbers of the reply's codes in digits, and `values` its
+-- values as they are
 pub record ColumnsSay (line : List ℕ) (r : ReplyFields) : Type 0 where
   pub rc_com : numbers.IsNumber (com_of line) r.rc_com
   pub rc : numbers.IsNumber (code_of line) r.rc
@@ -60,11 +61,11 @@ RowsArePrintable =
 abbrev pub IsPlainName : List ℕ → Type 0
 IsPlainName name = AllByRecursion (λ b. (32 ≤ b) × ((b ≢ 34) × (b ≢ 92))) name
 
--- a member has a plain name, and holds bytes, a number of JSON, or texts of bytes
-abbrev pub IsMember : Member → Type 0
-IsMember (Text name bytes) = IsPlainName name × All (λ b. b < 256) bytes
-IsMember (Number name digits) = IsPlainName name × IsNumber digits
-IsMember (Texts name texts) = IsPlainName name × AllByRecursion (λ text. All (λ b. b < 256) text) texts
+-- a member has a plain name, and its value is bytes, a number of JSON, or texts of bytes
+abbrev pub IsPlainMember : Member → Type 0
+IsPlainMember (Text name bytes) = IsPlainName name × All (λ b. b < 256) bytes
+IsPlainMember (Number name digits) = IsPlainName name × IsNumber digits
+IsPlainMember (Texts name texts) = IsPlainName name × AllByRecursion (λ text. All (λ b. b < 256) text) texts
 
 -- texts as a reader of JSON gives them back as items of a list: each a string, whose bytes are escaped as in a row
 abbrev pub texts_read : List (List ℕ) → json.Items
@@ -83,36 +84,36 @@ members_read (Texts name texts ∷ members) = json.member name (json.array (text
 abbrev pub record_read : ℕ → List Member → json.Members
 record_read run members = json.member (codes "run") (json.string (escaped (stamp_text run))) (members_read members)
 
--- a line of JSON whose members are `IsMember`, without its line feed, reads as an object of the run's moment and these members,
+-- a line of JSON whose members are `IsPlainMember`, without its line feed, reads as an object of the run's moment and these members,
 -- in their order
 abbrev pub JsonLinesReadBack : Type 0
 JsonLinesReadBack =
-    (run : ℕ) (members : List Member) → run < 2 ^ 64 → AllByRecursion IsMember members
+    (run : ℕ) (members : List Member) → run < 2 ^ 64 → AllByRecursion IsPlainMember members
     → (text : List ℕ) × (json_line run members ≡ text ++ codes "\n") × (document text ≡ Some (json.object (record_read run members)))
 
--- a line of bytes that reads as a reply
+-- a line reads as a reply, and is of bytes, which are the numbers below 256
 abbrev pub IsReplyOfBytes : List ℕ → Type 0
 IsReplyOfBytes line = (r : ReplyFields) × IsReply line r × All (λ b. b < 256) line
 
--- an answer's numbers lie in their types, and its text holds bytes
+-- an answer's numbers are within the ranges of their types, and its text, if it has one, holds bytes
 abbrev pub IsAnswerOfBytes : Answer → Type 0
 IsAnswerOfBytes (answers.Name bytes) = IsFittingAnswer (answers.Name bytes) × All (λ b. b < 256) bytes
 IsAnswerOfBytes answer = IsFittingAnswer answer
 
--- how a command can end: its line, if it ended with one, has bytes alone and reads as a reply, and its answer, if there is one, is
--- one of bytes
-abbrev pub IsEnd : End → Type 0
-IsEnd (Answered quality (Some answer) line) = IsReplyOfBytes line × IsAnswerOfBytes answer
-IsEnd (Answered quality None line) = IsReplyOfBytes line
-IsEnd (Unreadable line fault) = IsReplyOfBytes line
-IsEnd (Elsewhere line) = IsReplyOfBytes line
-IsEnd Late = Unit {0}
-IsEnd Lost = Unit {0}
-IsEnd Skipped = Unit {0}
-IsEnd Missed = Unit {0}
+-- the reply's line of an ending, if there is one, has bytes alone and reads as a reply, and its answer, if there is one, holds numbers of
+-- its types and bytes
+abbrev pub IsEndOfBytes : End → Type 0
+IsEndOfBytes (Answered quality (Some answer) line) = IsReplyOfBytes line × IsAnswerOfBytes answer
+IsEndOfBytes (Answered quality None line) = IsReplyOfBytes line
+IsEndOfBytes (Unreadable line fault) = IsReplyOfBytes line
+IsEndOfBytes (Elsewhere line) = IsReplyOfBytes line
+IsEndOfBytes Late = Unit {0}
+IsEndOfBytes Lost = Unit {0}
+IsEndOfBytes Skipped = Unit {0}
+IsEndOfBytes Missed = Unit {0}
 
 -- the moments, the cycle, the place and the attempt of a record have at most 64 bits each
-pub record IsWhen (when : When) : Type 0 where
+pub record FitsIn64Bits (when : When) : Type 0 where
   pub sent : IfSome when.stamp.sent (λ utc. utc < 2 ^ 64)
   pub utc : when.stamp.utc < 2 ^ 64
   pub cycle : when.stamp.cycle < 2 ^ 64
@@ -124,5 +125,5 @@ pub record IsWhen (when : When) : Type 0 where
 abbrev pub RecordsAreMembers : Type 0
 RecordsAreMembers =
     (when : When) (name : List ℕ) (command : Wish) (end : End)
-    → IsWhen when → All (λ b. b < 256) name → command.target < 2 ^ 64 → IsEnd end
-    → AllByRecursion IsMember (json_members when name command end)
+    → FitsIn64Bits when → All (λ b. b < 256) name → command.target < 2 ^ 64 → IsEndOfBytes end
+    → AllByRecursion IsPlainMember (json_members when name command end)

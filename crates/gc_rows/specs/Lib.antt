@@ -4,4 +4,4 @@ pub mod Rows
 pub mod JsonLines
 pub mod Records
 pub mod Laws
-pub mod Told
+pub mod ProcedureQuantities

@@ -20,17 +20,18 @@ quantity_names =
     ∷ codes "serial" ∷ codes "instrument" ∷ codes "year" ∷ codes "month"
     ∷ codes "day" ∷ codes "hour" ∷ codes "minute" ∷ codes "second" ∷ []
 
--- the name of the quantity in a column, counted from 0; nothing after the last column
+-- the name of the quantity in a column, counted from 0; empty for a column after the last
 abbrev pub quantity_name : ℕ → List ℕ
 quantity_name column = get_or quantity_names column []
 
--- the column of a lone whole number, by the call: a face, a type of prism, or a serial number
+-- the column of an answer that is one whole number, by the call: that of a face, of a type of prism, or, for any other call, of
+-- a serial number
 abbrev pub column_of_long : Call → ℕ
 column_of_long GetFace = 9
 column_of_long GetPrism = 10
 column_of_long _ = 16
 
--- the column of the first value of a call's answer, counted from 0; the others come after it
+-- the column of the first value of a call's answer, counted from 0; each other value has the next column
 abbrev pub column_of : Call → Answer → ℕ
 column_of call Nothing = 0
 column_of call (Angles hz v) = 0

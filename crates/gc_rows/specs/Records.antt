@@ -1,5 +1,5 @@
--- Records: how a command ended, with its moments, as a line, as a row of comma-separated values, or as a line of JSON. The words and the columns are this
--- project's own.
+-- Records: how a command ended, with its moments, as a line, as a row of comma-separated values, or as a line of JSON. The words and
+-- the columns are this project's own.
 use Rattle.std.specs.Prelude.{ℕ, true, false, List, [], ◌∷◌, ◌++◌, Option, None, Some, codes}
 use Rattle.std.specs.Fmt.{decimal}
 use Rattle.gc_values.specs.ValueFault.{fault_number}
@@ -15,18 +15,18 @@ use Rattle.gc_rows.specs.Quantities.{quantity_names}
 use Rattle.gc_rows.specs.Rows.{row_of, row_fields}
 use Rattle.gc_texts.specs.Stamps.{stamp_text}
 
--- the number of a fault after a space, if there is one
+-- a space and the number of a fault; empty if there is no fault
 abbrev pub spaced_fault : Option ValueFault → List ℕ
 spaced_fault None = []
 spaced_fault (Some fault) = codes " " ++ decimal (fault_number fault)
 
--- the line of a reply after a space, as it is in a row, if there is one
+-- a space and the line of a reply, escaped as in a row; empty if there is no reply
 abbrev pub spaced_line : Option (List ℕ) → List ℕ
 spaced_line None = []
 spaced_line (Some line) = codes " " ++ escaped line
 
--- how a command ended, in words: the outcome, the number of its fault, and the line of its reply, if there are these. Its bytes
--- are as in a row, so that no reply draws itself as another record
+-- how a command ended: the outcome, and the number of its fault and the line of its reply, if there are these. The bytes of the line are
+-- escaped, so that no reply can look like another record
 abbrev pub ending_text : End → List ℕ
 ending_text end = codes " " ++ word_of end ++ spaced_fault (fault_of end) ++ spaced_line (line_of end)
 
@@ -42,7 +42,7 @@ record_text Csv when name command end = row_of (row_fields false when name comma
 record_text Columns when name command end = row_of (row_fields true when name command end)
 record_text Json when name command end = json_line when.run (json_members when name command end)
 
--- the names of the columns
+-- the names of the columns before the quantities
 abbrev pub names : List (List ℕ)
 names =
     codes "run" ∷ codes "sent" ∷ codes "time" ∷ codes "cycle" ∷ codes "place" ∷ codes "target" ∷ codes "name" ∷ codes "procedure"
@@ -52,7 +52,7 @@ names =
 abbrev pub last_names : List (List ℕ)
 last_names = codes "quality" ∷ codes "attempt" ∷ []
 
--- what comes before all records: the names of the columns as a row, in the forms that have columns
+-- what comes before all records: the names of the columns as a row, or nothing in the forms that have no columns
 abbrev pub head_text : Form → List ℕ
 head_text Lines = []
 head_text Json = []

@@ -1,6 +1,6 @@
 -- Rows: a record as a row of comma-separated values. The columns are this project's own, and how a field is quoted is RFC
 -- 4180's. Each field is printable ASCII: other bytes are written as `\x` and two digits, and so is a backslash.
-use Rattle.std.specs.Prelude.{ℕ, ◌-◌, ◌==◌, ◌||◌, Bool, true, false, List, [], ◌∷◌, ◌++◌, length, map, replicate, Option, Some, None, if◌then◌else◌, codes}
+use Rattle.std.specs.Prelude.{ℕ, ◌-◌, ◌≤◌, ◌==◌, ◌||◌, Bool, true, false, List, [], ◌∷◌, ◌++◌, length, map, replicate, Option, Some, None, if◌then◌else◌, codes}
 use Rattle.std.specs.Fmt.{decimal}
 use Rattle.std.specs.List.{flat_map, list_any}
 use Rattle.gc_catalogue.specs.Answers.{answer_fields}
@@ -31,19 +31,23 @@ code_of line = before 44 (behind 58 (behind 44 line))
 abbrev pub values_of : List ℕ → List ℕ
 values_of line = behind 44 (behind 58 (behind 44 line))
 
+-- RC_COM, RC and VALUES as they were cut out of a reply's line are each no longer than the line
+abbrev pub AreNoLonger : (link code values line : List ℕ) → Type 0
+AreNoLonger link code values line = (length link ≤ length line) × (length code ≤ length line) × (length values ≤ length line)
+
 -- whether a byte may occur in a field only within quotes: a comma, a double quote, CR or LF
 abbrev pub is_special : ℕ → Bool
 is_special b = (b == 44) || (b == 34) || (b == 13) || (b == 10)
 
--- a byte within quotes: a double quote is doubled
+-- a byte as it is written within quotes: a double quote twice, any other byte as it is
 abbrev pub within_quotes : ℕ → List ℕ
 within_quotes b = if b == 34 then 34 ∷ 34 ∷ [] else b ∷ []
 
--- a field: as it is, or within quotes
+-- a text as a field: within double quotes, and each double quote doubled, if a byte of it needs that; else as it is
 abbrev pub csv_field : List ℕ → List ℕ
 csv_field text = if list_any is_special text then codes "\"" ++ flat_map within_quotes text ++ codes "\"" else text
 
--- a field that holds these bytes
+-- a field that holds these bytes, each escaped as in a log line if it isn't printable
 abbrev pub field_text : List ℕ → List ℕ
 field_text bytes = csv_field (escaped bytes)
 
@@ -55,7 +59,7 @@ behind_comma bytes = 44 ∷ field_text bytes
 abbrev pub behind_commas : List (List ℕ) → List ℕ
 behind_commas fields = flat_map behind_comma fields
 
--- the row of fields that hold these bytes
+-- the row, with its line feed, whose fields hold these bytes
 abbrev pub row_of : List (List ℕ) → List ℕ
 row_of [] = codes "\n"
 row_of (first ∷ others) = field_text first ++ behind_commas others ++ codes "\n"
@@ -65,7 +69,7 @@ abbrev pub moment_text : Option ℕ → List ℕ
 moment_text None = []
 moment_text (Some utc) = stamp_text utc
 
--- when a command was sent and ended, and which command of its run it was
+-- the fields that say when a command was sent and ended, and which command of its run it was
 abbrev pub when_fields : When → List (List ℕ)
 when_fields when = moment_text when.stamp.sent ∷ stamp_text when.stamp.utc ∷ decimal when.stamp.cycle ∷ decimal when.stamp.turn.place ∷ []
 
@@ -73,25 +77,25 @@ when_fields when = moment_text when.stamp.sent ∷ stamp_text when.stamp.utc ∷
 abbrev pub procedure_of : Asked → ℕ
 procedure_of asked = (asked_request None asked).rpc
 
--- the target of a command, its name, and the number of the procedure
-abbrev pub what_fields : Wish → List ℕ → List (List ℕ)
-what_fields command name = decimal command.target ∷ name ∷ decimal (procedure_of command.call) ∷ []
+-- the fields of a command's target, the target's name, and the number of the procedure
+abbrev pub command_fields : Wish → List ℕ → List (List ℕ)
+command_fields command name = decimal command.target ∷ name ∷ decimal (procedure_of command.call) ∷ []
 
--- the number of a fault; empty if there is none
+-- the number of a fault in digits; empty if there is no fault
 abbrev pub fault_field : Option ValueFault → List ℕ
 fault_field None = []
 fault_field (Some fault) = decimal (fault_number fault)
 
--- what a reply's line says: its communication code, its return code, and its values; three empty fields if there is no reply
+-- the fields of a reply's line: its communication code, its return code, and its values; three empty fields if there is no reply
 abbrev pub reply_fields : Option (List ℕ) → List (List ℕ)
 reply_fields None = [] ∷ [] ∷ [] ∷ []
 reply_fields (Some line) = com_of line ∷ code_of line ∷ values_of line ∷ []
 
--- how a command ended: the outcome, the fault, and what the reply's line says
+-- the fields that say how a command ended: its word, its fault, and the three of the reply's line
 abbrev pub ending_fields : End → List (List ℕ)
 ending_fields end = word_of end ∷ fault_field (fault_of end) ∷ reply_fields (line_of end)
 
--- a value as a field, after a comma
+-- a value of an answer as a field (`quantity_text`), after a comma
 abbrev pub value_text : Value → List ℕ
 value_text value = behind_comma (quantity_text value)
 
@@ -100,7 +104,7 @@ value_text value = behind_comma (quantity_text value)
 abbrev pub spread : ℕ → List (List ℕ) → List (List ℕ)
 spread first texts = replicate first [] ++ (texts ++ replicate (24 - first - length texts) [])
 
--- the quantities of an answer to what was asked, each in its column; none of a procedure that isn't in the table
+-- the quantities of an answer to `asked`, each in its column; all columns are empty if the procedure isn't in the table
 abbrev pub answer_columns : Asked → Answer → List (List ℕ)
 answer_columns (Table call) answer = spread (column_of call answer) (map quantity_text (answer_fields answer).values)
 answer_columns (Raw raw) answer = replicate 24 []
@@ -114,14 +118,14 @@ quantity_fields asked _ = replicate 24 []
 abbrev pub last_fields : When → End → List (List ℕ)
 last_fields when end = quality_text (quality_of end) ∷ decimal when.stamp.turn.attempt ∷ []
 
--- the fields after the first thirteen: those of the quantities if a row has columns for them (`true`), and the last ones
-abbrev pub more_fields : Bool → When → Asked → End → List (List ℕ)
-more_fields true when asked end = quantity_fields asked end ++ last_fields when end
-more_fields false when asked end = last_fields when end
+-- the fields after those that say how the command ended: the quantities, if a row has columns for them (`true`), and the last fields
+abbrev pub fields_after_ending : Bool → When → Asked → End → List (List ℕ)
+fields_after_ending true when asked end = quantity_fields asked end ++ last_fields when end
+fields_after_ending false when asked end = last_fields when end
 
 -- the fields of a record's row: when its run began, when its command was sent and ended, and which one of the run it was; the target, its
--- name and the procedure; how the command ended; if `columns` asks for them, a field for each quantity; and last the quality of the answer and
--- the attempt
+-- name and the procedure; how the command ended; if `columns` asks for them, a field for each quantity; and last the quality of the answer
+-- and the attempt
 abbrev pub row_fields : Bool → When → List ℕ → Wish → End → List (List ℕ)
 row_fields columns when name command end =
-    stamp_text when.run ∷ (when_fields when ++ (what_fields command name ++ (ending_fields end ++ more_fields columns when command.call end)))
+    stamp_text when.run ∷ (when_fields when ++ (command_fields command name ++ (ending_fields end ++ fields_after_ending columns when command.call end)))

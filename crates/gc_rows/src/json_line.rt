@@ -1,4 +1,5 @@
-//! Lines of JSON: a record as one object, with its quantities by their names, as numbers and as they came, or with its items.
+//! Lines of JSON: a record as one object. Its quantities are members by their names, as numbers and as the reply wrote them; the values
+//! of a procedure that isn't in the table are one list of items.
 
 ghost use Rattle.std.specs.Prelude.{◌≡◌, ℕ, ◌+◌, ◌*◌, ◌≤◌, ◌<◌, ◌++◌, false, length, option_map, Some, codes};
 ghost use Rattle.std.specs.List.{flat_map};
@@ -6,8 +7,8 @@ ghost use Rattle.arrayvec.specs.ArrayVec.{array_vec_len};
 ghost use Rattle.gc_rows.specs.Items.{bytes_in, split_items};
 ghost use Rattle.gc_texts.specs.Endings.{ending_seen};
 ghost use Rattle.gc_texts.specs.Logs.{escaped};
-ghost use Rattle.gc_rows.specs.declared.json_line.TheConstants.{NAME_ROOM, VALUE_ROOM, STRINGS_ROOM, LIST_ROOM, ANSWER_ROOM, QUALITY_ROOM, LAST_ROOM, MORE_ROOM};
-ghost use Rattle.gc_rows.specs.JsonLines.{behind_backslash, in_quotes, named, string_text, text_member, number_member, comma_where, strings_text, texts_member, item_members, members_text, without_zeros, sent_members, when_members, name_members, what_members, fault_members, reply_members, ending_members, value_members, values_members, answer_members, quantity_members, worded_members, attempt_members, last_members, more_members, json_line, json_members};
+ghost use Rattle.gc_rows.specs.declared.json_line.TheConstants.{NAME_ROOM, VALUE_ROOM, STRINGS_ROOM, LIST_ROOM, ANSWER_ROOM, QUALITY_ROOM, LAST_ROOM, AFTER_ENDING_ROOM};
+ghost use Rattle.gc_rows.specs.JsonLines.{behind_backslash, in_quotes, named, string_text, text_member, number_member, comma_where, strings_text, texts_member, item_members, members_text, without_zeros, sent_members, when_members, name_members, command_members, fault_members, reply_members, ending_members, value_members, values_members, answer_members, quantity_members, quality_members, attempt_members, last_members, members_after_ending, json_line, json_members};
 
 use crate::quantity::{answer_values, column_of, quantity_name, quantity_text};
 use crate::row::texts_of;
@@ -19,13 +20,13 @@ use gc_texts::{Ending, Wish, before, behind, escaped, stamp_text};
 use gc_values::{Items, Value, ValueFault, split};
 use itoa::Buffer;
 
-/// The most bytes of a line.
+/// The most bytes of a line of JSON.
 pub(crate) const JSON_ROOM: usize = 40_960;
 
 // The most bytes of a member's name of at most 37 bytes, with a comma before it, within quotes, and with a colon after.
 const NAME_ROOM: usize = 1 + 2 + 37 + 1;
 
-// The most bytes of a value's two members: the number with its name, and how it came, of at most 512 bytes, with its name.
+// The most bytes of a value's two members: the number with its name, and what the reply wrote, of at most 512 bytes, with its name.
 const VALUE_ROOM: usize = 8 * 512 + 640;
 
 // The most bytes of up to 16 strings that hold 512 bytes together: each byte may be escaped as four, each of these come after a
@@ -46,7 +47,7 @@ const QUALITY_ROOM: usize = NAME_ROOM + 2 + 8 * 16;
 const LAST_ROOM: usize = QUALITY_ROOM + NAME_ROOM + 20;
 
 // The most bytes of the members after how a command ended: those of its answer and the last ones.
-const MORE_ROOM: usize = ANSWER_ROOM + LAST_ROOM;
+const AFTER_ENDING_ROOM: usize = ANSWER_ROOM + LAST_ROOM;
 
 // Appends a text with a backslash before each double quote and each backslash.
 fn append_behind_backslashes<const N: usize>(line: &mut ArrayVec<u8, N>, text: &[u8])
@@ -89,7 +90,7 @@ fn append_name<const N: usize>(line: &mut ArrayVec<u8, N>, name: &[u8], ending: 
     append(line, b"\":");
 }
 
-// Appends a member that is a string of these bytes.
+// Appends a member that is a string of these bytes. It takes at most eight bytes for each, and 43 for the name, its marks and the quotes.
 fn append_text<const N: usize>(line: &mut ArrayVec<u8, N>, name: &[u8], bytes: &[u8])
     requires named { length name.now ≤ 32 }
     requires short { length bytes.now ≤ 514 }
@@ -113,7 +114,7 @@ fn append_number<const N: usize>(line: &mut ArrayVec<u8, N>, name: &[u8], digits
     append(line, digits);
 }
 
-// Appends when a command was sent, if it was.
+// Appends the member that says when a command was sent; nothing if it wasn't. It has at most 384 bytes.
 fn append_sent<const N: usize>(line: &mut ArrayVec<u8, N>, sent: Option<u64>)
     requires { array_vec_len line.old + 384 ≤ N }
     ensures text { line.new.items ≡ line.old.items ++ members_text (sent_members sent) }
@@ -124,7 +125,7 @@ fn append_sent<const N: usize>(line: &mut ArrayVec<u8, N>, sent: Option<u64>)
     }
 }
 
-// Appends when a command was sent and ended, and which command of its run it was.
+// Appends the members that say when a command was sent and ended, and which command of its run it was: at most 1024 bytes.
 fn append_when<const N: usize>(line: &mut ArrayVec<u8, N>, when: &When)
     requires { array_vec_len line.old + 1024 ≤ N }
     ensures text { line.new.items ≡ line.old.items ++ members_text (when_members when.now) }
@@ -141,7 +142,7 @@ fn append_when<const N: usize>(line: &mut ArrayVec<u8, N>, when: &When)
     );
 }
 
-// Appends a target's name, if it has one.
+// Appends the member of a target's name; nothing if the name is empty. It has at most 640 bytes.
 fn append_target_name<const N: usize>(line: &mut ArrayVec<u8, N>, name: &[u8])
     requires short { length name.now ≤ 64 }
     requires room { array_vec_len line.old + 640 ≤ N }
@@ -153,11 +154,11 @@ fn append_target_name<const N: usize>(line: &mut ArrayVec<u8, N>, name: &[u8])
     }
 }
 
-// Appends the target of a command, its name, and the number of the procedure.
-fn append_what<const N: usize>(line: &mut ArrayVec<u8, N>, command: &Wish, name: &[u8])
+// Appends the members of a command's target, the target's name, and the number of the procedure: at most 1408 bytes.
+fn append_command<const N: usize>(line: &mut ArrayVec<u8, N>, command: &Wish, name: &[u8])
     requires short { length name.now ≤ 64 }
     requires room { array_vec_len line.old + 1408 ≤ N }
-    ensures text { line.new.items ≡ line.old.items ++ members_text (what_members command.now name.now) }
+    ensures text { line.new.items ≡ line.old.items ++ members_text (command_members command.now name.now) }
     ensures room { array_vec_len line.new ≤ array_vec_len line.old + 1408 }
 {
     let mut digits = Buffer::new();
@@ -181,7 +182,7 @@ fn without_zeros(digits: &[u8]) -> &[u8]
     }
 }
 
-// Appends the number of the fault of a reply's values, if they don't read.
+// Appends the member of a fault's number; nothing if there is no fault. It has at most 64 bytes.
 fn append_fault<const N: usize>(line: &mut ArrayVec<u8, N>, fault: Option<ValueFault>)
     requires { array_vec_len line.old + 64 ≤ N }
     ensures text { line.new.items ≡ line.old.items ++ members_text (fault_members fault) }
@@ -196,8 +197,8 @@ fn append_fault<const N: usize>(line: &mut ArrayVec<u8, N>, fault: Option<ValueF
     }
 }
 
-// Appends what a reply's line says: its communication code, its return code, and its values.
-fn append_texts<const N: usize>(line: &mut ArrayVec<u8, N>, reply: &Line)
+// Appends the members of a reply's line: its communication code, its return code, and its values, at most 5346 bytes.
+fn append_reply_texts<const N: usize>(line: &mut ArrayVec<u8, N>, reply: &Line)
     requires { array_vec_len line.old + 5346 ≤ N }
     ensures text { line.new.items ≡ line.old.items ++ members_text (reply_members (Some reply.now.items)) }
     ensures room { array_vec_len line.new ≤ array_vec_len line.old + 5346 }
@@ -208,18 +209,18 @@ fn append_texts<const N: usize>(line: &mut ArrayVec<u8, N>, reply: &Line)
     append_text(line, b"values", texts.values);
 }
 
-// Appends what a reply's line says, if there is a reply: its communication code, its return code, and its values.
+// Appends the members of a reply's line, as `append_reply_texts`; nothing if there is no reply.
 fn append_reply<const N: usize>(line: &mut ArrayVec<u8, N>, reply: Option<&Line>)
     requires { array_vec_len line.old + 5346 ≤ N }
     ensures text { line.new.items ≡ line.old.items ++ members_text (reply_members (option_map (λ l. l.now.items) reply.entry)) }
     ensures room { array_vec_len line.new ≤ array_vec_len line.old + 5346 }
 {
     if let Some(reply) = reply {
-        append_texts(line, reply);
+        append_reply_texts(line, reply);
     }
 }
 
-// Appends how a command ended: its word, its fault, and what the reply's line says.
+// Appends the members that say how a command ended: its word, its fault, and those of the reply's line, at most 5632 bytes.
 fn append_ending<const N: usize>(line: &mut ArrayVec<u8, N>, ending: Ending<'_>)
     requires { array_vec_len line.old + 5632 ≤ N }
     ensures text { line.new.items ≡ line.old.items ++ members_text (ending_members (ending_seen ending.entry)) }
@@ -231,7 +232,7 @@ fn append_ending<const N: usize>(line: &mut ArrayVec<u8, N>, ending: Ending<'_>)
 }
 
 // Appends the members of a value. A text gives one: its bytes as a string, under this name. A number gives two: the number in
-// its one written form, under this name, and after it, under the name with `_text`, how the reply's line wrote it (`came`).
+// its one written form, under this name, and `came`, which is the number as the reply's line wrote it, under the name with `_text`.
 fn append_value<const N: usize>(line: &mut ArrayVec<u8, N>, name: &[u8], value: &Value, came: &[u8])
     requires named { length name.now ≤ 32 }
     requires short { length came.now ≤ 514 }
@@ -272,7 +273,7 @@ fn append_values<const N: usize>(
     }
 }
 
-// Appends a comma, where `behind` says so.
+// Appends a comma if `behind` is true, that is, if an item of the same list is before the next one.
 fn append_comma<const N: usize>(line: &mut ArrayVec<u8, N>, behind: bool)
     requires { array_vec_len line.old + 1 ≤ N }
     ensures text { line.new.items ≡ line.old.items ++ comma_where behind }
@@ -311,7 +312,7 @@ fn append_list<const N: usize>(line: &mut ArrayVec<u8, N>, texts: &Items<'_>)
     append(line, b"]");
 }
 
-// Appends the items of a reply's values, if these split.
+// Appends the list of the items into which a reply's values split; nothing if they don't split.
 fn append_items<const N: usize>(line: &mut ArrayVec<u8, N>, values: &[u8])
     requires short { length values.now ≤ 512 }
     requires room { array_vec_len line.old + LIST_ROOM ≤ N }
@@ -324,7 +325,8 @@ fn append_items<const N: usize>(line: &mut ArrayVec<u8, N>, values: &[u8])
     }
 }
 
-// Appends the quantities of an answer to a call of the table, which this line gave; of any other procedure the items of the line's values.
+// Appends the quantities of an answer to a call of the table, whose reply this line is; of any other procedure the items of the line's
+// values.
 fn append_answer<const N: usize>(
     line: &mut ArrayVec<u8, N>,
     asked: &Asked,
@@ -361,7 +363,7 @@ fn append_quantities<const N: usize>(line: &mut ArrayVec<u8, N>, asked: &Asked, 
 fn append_quality<const N: usize>(line: &mut ArrayVec<u8, N>, word: &[u8])
     requires short { length word.now ≤ 16 }
     requires room { array_vec_len line.old + QUALITY_ROOM ≤ N }
-    ensures text { line.new.items ≡ line.old.items ++ members_text (worded_members word.now) }
+    ensures text { line.new.items ≡ line.old.items ++ members_text (quality_members word.now) }
     ensures room { array_vec_len line.new ≤ array_vec_len line.old + QUALITY_ROOM }
 {
     if !word.is_empty() {
@@ -383,22 +385,23 @@ fn append_last<const N: usize>(line: &mut ArrayVec<u8, N>, when: &When, ending: 
     );
 }
 
-// Appends a member for each quantity of a command's answer, or one for its items, and after them the last members.
-fn append_more<const N: usize>(
+// Appends the members after those of `append_ending`: the quantities or the items of a command's answer, and then the last members, which
+// are the quality and the attempt.
+fn append_after_ending<const N: usize>(
     line: &mut ArrayVec<u8, N>,
     when: &When,
     asked: &Asked,
     ending: Ending<'_>,
 )
-    requires { array_vec_len line.old + MORE_ROOM ≤ N }
-    ensures text { line.new.items ≡ line.old.items ++ members_text (more_members when.now asked.now (ending_seen ending.entry)) }
-    ensures room { array_vec_len line.new ≤ array_vec_len line.old + MORE_ROOM }
+    requires { array_vec_len line.old + AFTER_ENDING_ROOM ≤ N }
+    ensures text { line.new.items ≡ line.old.items ++ members_text (members_after_ending when.now asked.now (ending_seen ending.entry)) }
+    ensures room { array_vec_len line.new ≤ array_vec_len line.old + AFTER_ENDING_ROOM }
 {
     append_quantities(line, asked, ending);
     append_last(line, when, ending);
 }
 
-/// The line of JSON of a record, whose target has this name; without one the name is empty.
+/// The line of JSON of a record, with its line feed. `name` is the target's, empty if it has none.
 pub(crate) fn json_line(
     when: &When,
     name: &[u8],
@@ -412,9 +415,9 @@ pub(crate) fn json_line(
     append(&mut line, b"{\"run\":");
     append_string(&mut line, &stamp_text(when.run));
     append_when(&mut line, when);
-    append_what(&mut line, command, name);
+    append_command(&mut line, command, name);
     append_ending(&mut line, ending);
-    append_more(&mut line, when, &command.call, ending);
+    append_after_ending(&mut line, when, &command.call, ending);
     append(&mut line, b"}\n");
     line
 }

@@ -1,6 +1,6 @@
 //! What is proved of the definitions themselves. The functions have no effect: their contracts are the laws.
 
-ghost use Rattle.gc_rows.specs.Told.{QuantitiesHaveTheirNames, RowsFillTheirColumns};
+ghost use Rattle.gc_rows.specs.ProcedureQuantities.{QuantitiesHaveTheirNames, RowsFillTheirColumns};
 ghost use Rattle.gc_rows.specs.Laws.{ColumnsAreFields, ItemsAreTheGrammars, RowsReadBack, RowsArePrintable, JsonLinesReadBack, RecordsAreMembers};
 
 /// The columns `rc_com`, `rc` and `values` of a record are the fields of the reply's line: its communication code, its return
@@ -25,8 +25,8 @@ pub fn rows_are_printable()
     ensures { RowsArePrintable }
 {}
 
-/// A line of JSON, whose members have plain names and hold bytes, numbers of JSON or lists of bytes, reads as an object of these members, in
-/// their order, whatever the bytes.
+/// A line of JSON, whose members have plain names and hold bytes, numbers of JSON or lists of bytes, reads as an object of these members,
+/// in their order, whatever the bytes.
 pub fn json_lines_read_back()
     ensures { JsonLinesReadBack }
 {}

@@ -20,7 +20,7 @@ pub(crate) const MOST_VALUES: usize = 6;
 /// The most bytes of a quantity.
 pub(crate) const QUANTITY_ROOM: usize = 64;
 
-/// The name of the quantity in a column, counted from 0; nothing after the last column.
+/// The name of the quantity in a column, counted from 0; empty for a column after the last.
 pub(crate) fn quantity_name(column: usize) -> &'static [u8]
     ensures is { result.now ≡ quantity_name column }
     ensures short { length result.now ≤ 32 }
@@ -97,7 +97,7 @@ pub(crate) fn answer_values(answer: &Answer) -> ArrayVec<Value, MOST_VALUES>
     values
 }
 
-// A date's values, in their order on the line.
+// The values of a date and time, in their order on the line: year, month, day, hour, minute, second.
 fn date_values(date: &DateTime) -> ArrayVec<Value, MOST_VALUES>
     ensures { result.items ≡ date_values date.now }
 {
@@ -111,7 +111,7 @@ fn date_values(date: &DateTime) -> ArrayVec<Value, MOST_VALUES>
     values
 }
 
-// A station's values, in their order on the line.
+// The values of a station's position, in their order on the line: easting, northing, height, and height of the instrument.
 fn station_values(station: &Station) -> ArrayVec<Value, MOST_VALUES>
     ensures { result.items ≡ station_values station.now }
 {
@@ -123,7 +123,7 @@ fn station_values(station: &Station) -> ArrayVec<Value, MOST_VALUES>
     values
 }
 
-/// The column of the first value of a call's answer, counted from 0. The others come after it.
+/// The column of the first value of a call's answer, counted from 0; each other value has the next column. 0 if there is no value.
 pub(crate) fn column_of(call: &Call, answer: &Answer) -> usize
     ensures is { result ≡ column_of call.now answer.now }
     ensures fits { column_of call.now answer.now + length (answer_fields answer.now).values ≤ 24 }
@@ -144,7 +144,8 @@ pub(crate) fn column_of(call: &Call, answer: &Answer) -> usize
     }
 }
 
-// The column of a lone whole number, by the call: a face, a type of prism, or a serial number.
+// The column of an answer that is one whole number, by the call: that of a face, of a type of prism, or, for any other call, of a
+// serial number.
 fn column_of_long(call: &Call) -> usize
     ensures is { result ≡ column_of_long call.now }
     ensures fits { column_of_long call.now + 1 ≤ 24 }

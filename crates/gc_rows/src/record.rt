@@ -1,4 +1,4 @@
-//! Records: how a command ended, with its moments, as a line or as a row of comma-separated values.
+//! Records: how a command ended, with its moments, as a line, a row of comma-separated values, or a line of JSON.
 
 ghost use Rattle.std.specs.Prelude.{◌≡◌, ℕ, ◌+◌, ◌≤◌, ◌++◌, length, option_map, OnOk, IfErr};
 ghost use Rattle.std.specs.Io.KnownBytes.{Appends};
@@ -22,7 +22,7 @@ pub enum Form {
     /// Each a line: the moment, the place, the target, and how the command ended, with the bytes of the reply escaped as in a
     /// log.
     Lines,
-    /// Each a row of comma-separated values, quoted as RFC 4180 has it, with the names of the columns before all.
+    /// Each a row of comma-separated values, quoted as RFC 4180 has it. The names of the columns are the first row.
     Csv,
     /// As `Csv`, with a column for each quantity that an answer may have.
     Columns,
@@ -30,7 +30,7 @@ pub enum Form {
     Json,
 }
 
-/// What comes before all records in this form: the names of the columns, or nothing.
+/// What comes before all records in this form: a row of the columns' names, with its line feed, or nothing if the form has no columns.
 pub fn head(form: Form) -> &'static [u8]
     ensures { result.now ≡ head_text form }
 {
@@ -40,12 +40,16 @@ pub fn head(form: Form) -> &'static [u8]
             b"run,sent,time,cycle,place,target,name,procedure,outcome,fault,rc_com,rc,values,quality,attempt\n"
         }
         Form::Columns => {
-            b"run,sent,time,cycle,place,target,name,procedure,outcome,fault,rc_com,rc,values,hz_rad,v_rad,distance_m,mode,easting_m,northing_m,height_m,instrument_height_m,reflector_height_m,face,prism_type,temperature_c,places,release,version,subversion,serial,instrument,year,month,day,hour,minute,second,quality,attempt\n"
+            b"run,sent,time,cycle,place,target,name,procedure,outcome,fault,rc_com,rc,values,\
+              hz_rad,v_rad,distance_m,mode,easting_m,northing_m,height_m,instrument_height_m,reflector_height_m,\
+              face,prism_type,temperature_c,places,release,version,subversion,serial,instrument,\
+              year,month,day,hour,minute,second,quality,attempt\n"
         }
     }
 }
 
-/// The bytes that a file of records in this form begins with, once it has a record: they distinguish it from a foreign file.
+/// The bytes that a file of records in this form begins with, once it has a record: they distinguish it from a foreign file. None in
+/// the form `Lines`.
 pub fn sign(form: Form) -> &'static [u8]
     ensures { result.now ≡ sign_text form }
 {
@@ -55,8 +59,8 @@ pub fn sign(form: Form) -> &'static [u8]
     }
 }
 
-/// Writes what comes before all records: the names of the columns, or nothing. `Err(n)`: the sink took the first n bytes of it,
-/// which aren't all, and failed.
+/// Writes what comes before all records in this form (`head`). `Err(n)`: the sink took the first n bytes of that, which aren't all, and
+/// failed.
 pub fn write_head<K: Sink>(sink: &mut K, form: Form) -> Result<(), usize>
     ensures failed { FailsWith result (K.failed sink.old) (K.failed sink.new) }
     ensures ok { OnOk result (Appends (K.taken sink.old) (K.taken sink.new) (head_text form)) }
@@ -65,9 +69,9 @@ pub fn write_head<K: Sink>(sink: &mut K, form: Form) -> Result<(), usize>
     write_whole(sink, head(form))
 }
 
-/// Writes a record: its moments, the target's name, of at most 64 bytes and empty if it has none, the command, and how it
-/// ended. It is sent in one write if the sink takes all of it. `Err(n)`: the sink took the first n bytes of it, which aren't
-/// all, and failed.
+/// Writes a record in this form: its moments, the target's name (at most 64 bytes, empty if it has none), the command, and how the
+/// command ended. The record goes in one write if the sink takes all of it. `Err(n)`: the sink took the first n bytes of the record,
+/// which aren't all, and failed.
 pub fn write_record<K: Sink>(
     sink: &mut K,
     form: Form,
@@ -95,7 +99,7 @@ const ENDING_ROOM: usize = 1 + 16 + 21 + 1 + 4 * 512;
 // The most bytes of a record's line: a moment, a place and a target, the words, and the reply's line.
 const LINE_ROOM: usize = 40 + 1 + 20 + 1 + 10 + ENDING_ROOM + 1;
 
-// The line of a record: the moment, the place, the target, and how the command ended.
+// The line of a record, with its line feed: when the command ended, its place, its target, and how it ended.
 fn record_line(when: &When, command: &Wish, ending: Ending<'_>) -> ArrayVec<u8, LINE_ROOM>
     ensures { result.items ≡ record_line when.now command.now (ending_seen ending.entry) }
 {
@@ -123,7 +127,7 @@ fn ending_text(ending: Ending<'_>) -> ArrayVec<u8, ENDING_ROOM>
     text
 }
 
-// Appends the number of a fault after a space, if there is one.
+// Appends a space and the number of a fault, if there is a fault.
 fn append_fault<const N: usize>(text: &mut ArrayVec<u8, N>, fault: Option<ValueFault>)
     requires { array_vec_len text.old + 21 ≤ N }
     ensures text { text.new.items ≡ text.old.items ++ spaced_fault fault }
@@ -135,7 +139,7 @@ fn append_fault<const N: usize>(text: &mut ArrayVec<u8, N>, fault: Option<ValueF
     }
 }
 
-// Appends the line of a reply, escaped as in a log, after a space, if there is one.
+// Appends a space and the line of a reply, escaped as in a log, if there is a reply.
 fn append_line<const N: usize>(text: &mut ArrayVec<u8, N>, line: Option<&Line>)
     requires { array_vec_len text.old + 2049 ≤ N }
     ensures { text.new.items ≡ text.old.items ++ spaced_line (option_map (λ l. l.now.items) line.entry) }

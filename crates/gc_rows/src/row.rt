@@ -1,14 +1,14 @@
 //! Rows: a record as a row of comma-separated values, quoted as RFC 4180 has it, of printable ASCII alone.
 
-ghost use Rattle.std.specs.Prelude.{◌≡◌, ℕ, ◌+◌, ◌*◌, ◌≤◌, ◌++◌, length, map, option_map, replicate};
+ghost use Rattle.std.specs.Prelude.{◌≡◌, ℕ, ◌+◌, ◌*◌, ◌≤◌, ◌++◌, true, length, map, option_map, replicate};
 ghost use Rattle.std.specs.List.{flat_map, list_any};
 ghost use Rattle.arrayvec.specs.ArrayVec.{array_vec_len};
 ghost use Rattle.gc_catalogue.specs.declared.asked.Asked.TheVariants.{Table};
 ghost use Rattle.gc_texts.specs.Cuts.{before, behind};
 ghost use Rattle.gc_texts.specs.Endings.{ending_seen};
-ghost use Rattle.gc_rows.specs.Rows.{com_of, code_of, values_of, is_special, within_quotes, csv_field, field_text, behind_comma, behind_commas, fault_field, reply_fields, ending_fields, moment_text, when_fields, what_fields, answer_columns, quantity_fields, last_fields, more_fields, spread, value_text, row_of, row_fields};
+ghost use Rattle.gc_rows.specs.Rows.{com_of, code_of, values_of, AreNoLonger, is_special, within_quotes, csv_field, field_text, behind_comma, behind_commas, fault_field, reply_fields, ending_fields, moment_text, when_fields, command_fields, answer_columns, quantity_fields, last_fields, fields_after_ending, spread, value_text, row_of, row_fields};
 ghost use Rattle.gc_rows.specs.Quantities.{column_of, quantity_text};
-ghost use Rattle.gc_rows.specs.declared.row.TheConstants.{VALUE_ROOM, QUANTITIES_ROOM, LAST_ROOM, MORE_ROOM};
+ghost use Rattle.gc_rows.specs.declared.row.TheConstants.{VALUE_ROOM, QUANTITIES_ROOM, LAST_ROOM, AFTER_ENDING_ROOM};
 ghost use Rattle.gc_catalogue.specs.Answers.{answer_fields};
 
 use crate::quantity::{QUANTITIES, QUANTITY_ROOM, answer_values, column_of, quantity_text};
@@ -36,12 +36,12 @@ const QUANTITIES_ROOM: usize = 6 * VALUE_ROOM + QUANTITIES;
 const LAST_ROOM: usize = (1 + 8 * 16 + 2) + (1 + 8 * 20 + 2);
 
 // The most bytes of a row after its first thirteen fields: the quantities and the last ones.
-const MORE_ROOM: usize = QUANTITIES_ROOM + LAST_ROOM;
+const AFTER_ENDING_ROOM: usize = QUANTITIES_ROOM + LAST_ROOM;
 
 // A comma before each column of a quantity.
 const COMMAS: [u8; QUANTITIES] = [b','; QUANTITIES];
 
-/// What a reply's line says, as it is written there.
+/// The parts of a reply's line, as they are written there.
 #[derive(Clone, Copy)]
 pub(crate) struct ReplyTexts<'a> {
     /// Its communication code.
@@ -52,12 +52,12 @@ pub(crate) struct ReplyTexts<'a> {
     pub values: &'a [u8],
 }
 
-/// Cuts a reply's line into what it says: its two codes and its values.
+/// Cuts a reply's line into its communication code, its return code and its values. A part that the line lacks is empty.
 pub(crate) fn texts_of(line: &[u8]) -> ReplyTexts<'_>
     ensures com { result.com.now ≡ com_of line.now }
     ensures code { result.code.now ≡ code_of line.now }
     ensures values { result.values.now ≡ values_of line.now }
-    ensures short { (length result.com.now ≤ length line.now) × (length result.code.now ≤ length line.now) × (length result.values.now ≤ length line.now) }
+    ensures short { AreNoLonger result.com.now result.code.now result.values.now line.now }
 {
     let (head, body) = parts(b':', behind(b',', line));
     let (code, values) = parts(b',', body);
@@ -68,7 +68,7 @@ pub(crate) fn texts_of(line: &[u8]) -> ReplyTexts<'_>
     }
 }
 
-// What comes before the first mark, and what comes after it; without a mark, all of the text and nothing.
+// Cuts a text at the first mark: what is before the mark, and what is after it. Without a mark: all of the text, and an empty text.
 fn parts(mark: u8, text: &[u8]) -> (&[u8], &[u8])
     ensures front { result.0.now ≡ before mark text.now }
     ensures rest { result.1.now ≡ behind mark text.now }
@@ -85,7 +85,7 @@ fn is_special(text: &[u8]) -> bool
         .any(|b| matches!(b, b',' | b'"' | b'\r' | b'\n'))
 }
 
-// Appends a text with each double quote twice.
+// Appends a text, as it is written within quotes: each double quote twice.
 fn append_doubled<const N: usize>(to: &mut ArrayVec<u8, N>, text: &[u8])
     requires { array_vec_len to.old + 2 * length text.now ≤ N }
     ensures text { to.new.items ≡ to.old.items ++ flat_map within_quotes text.now }
@@ -100,7 +100,7 @@ fn append_doubled<const N: usize>(to: &mut ArrayVec<u8, N>, text: &[u8])
     }
 }
 
-// Appends a text as a field: as it is, or within quotes.
+// Appends a text as a field: within double quotes if it has a byte that needs them, else as it is.
 fn append_quoted<const N: usize>(row: &mut ArrayVec<u8, N>, text: &[u8])
     requires { array_vec_len row.old + 2 * length text.now + 2 ≤ N }
     ensures text { row.new.items ≡ row.old.items ++ csv_field text.now }
@@ -126,7 +126,7 @@ fn append_field<const N: usize>(row: &mut ArrayVec<u8, N>, bytes: &[u8])
 }
 
 // Appends a comma and a field that holds these bytes, escaped as in a line of a log.
-fn append_next<const N: usize>(row: &mut ArrayVec<u8, N>, bytes: &[u8])
+fn append_field_after_comma<const N: usize>(row: &mut ArrayVec<u8, N>, bytes: &[u8])
     requires short { length bytes.now ≤ 514 }
     requires room { array_vec_len row.old + 8 * length bytes.now + 3 ≤ N }
     ensures text { row.new.items ≡ row.old.items ++ behind_comma bytes.now }
@@ -156,33 +156,33 @@ fn moment_text(moment: Option<u64>) -> ArrayVec<u8, STAMP_ROOM>
     }
 }
 
-// Appends when a command was sent and ended, and which command of its run it was.
+// Appends when a command was sent and ended, and which command of its run it was: four fields, of at most 1024 bytes together.
 fn append_when<const N: usize>(row: &mut ArrayVec<u8, N>, when: &When)
     requires { array_vec_len row.old + 1024 ≤ N }
     ensures text { row.new.items ≡ row.old.items ++ behind_commas (when_fields when.now) }
     ensures room { array_vec_len row.new ≤ array_vec_len row.old + 1024 }
 {
     let mut digits = Buffer::new();
-    append_next(row, &moment_text(when.stamp.sent));
-    append_next(row, &stamp_text(when.stamp.utc));
-    append_next(row, digits.format(when.stamp.cycle).as_bytes());
-    append_next(row, digits.format(when.stamp.turn.place).as_bytes());
+    append_field_after_comma(row, &moment_text(when.stamp.sent));
+    append_field_after_comma(row, &stamp_text(when.stamp.utc));
+    append_field_after_comma(row, digits.format(when.stamp.cycle).as_bytes());
+    append_field_after_comma(row, digits.format(when.stamp.turn.place).as_bytes());
 }
 
-// Appends the target of a command, its name, and the number of the procedure.
-fn append_what<const N: usize>(row: &mut ArrayVec<u8, N>, command: &Wish, name: &[u8])
+// Appends the target of a command, the target's name, and the number of the procedure: three fields, of at most 5120 bytes together.
+fn append_command<const N: usize>(row: &mut ArrayVec<u8, N>, command: &Wish, name: &[u8])
     requires short { length name.now ≤ 64 }
     requires room { array_vec_len row.old + 5120 ≤ N }
-    ensures text { row.new.items ≡ row.old.items ++ behind_commas (what_fields command.now name.now) }
+    ensures text { row.new.items ≡ row.old.items ++ behind_commas (command_fields command.now name.now) }
     ensures room { array_vec_len row.new ≤ array_vec_len row.old + 5120 }
 {
     let mut digits = Buffer::new();
-    append_next(row, digits.format(command.target).as_bytes());
-    append_next(row, name);
-    append_next(row, digits.format(command.call.number()).as_bytes());
+    append_field_after_comma(row, digits.format(command.target).as_bytes());
+    append_field_after_comma(row, name);
+    append_field_after_comma(row, digits.format(command.call.number()).as_bytes());
 }
 
-// The number of a fault; empty if there is none.
+// The number of a fault in digits; empty if there is no fault.
 fn fault_text(fault: Option<ValueFault>) -> ArrayVec<u8, 20>
     ensures { result.items ≡ fault_field fault }
 {
@@ -193,8 +193,8 @@ fn fault_text(fault: Option<ValueFault>) -> ArrayVec<u8, 20>
     text
 }
 
-// Appends what a reply's line says: its communication code, its return code, and its values. The three fields are empty if
-// there is no reply.
+// Appends the communication code, the return code and the values of a reply's line. The three fields are empty if there is no reply.
+// They have at most 12297 bytes: each a comma, two quotes, and 512 bytes of which each may take eight.
 fn append_reply<const N: usize>(row: &mut ArrayVec<u8, N>, line: Option<&Line>)
     requires { array_vec_len row.old + 12297 ≤ N }
     ensures text { row.new.items ≡ row.old.items ++ behind_commas (reply_fields (option_map (λ l. l.now.items) line.entry)) }
@@ -203,22 +203,22 @@ fn append_reply<const N: usize>(row: &mut ArrayVec<u8, N>, line: Option<&Line>)
     match line {
         Some(line) => {
             let texts = texts_of(line);
-            append_next(row, texts.com);
-            append_next(row, texts.code);
-            append_next(row, texts.values);
+            append_field_after_comma(row, texts.com);
+            append_field_after_comma(row, texts.code);
+            append_field_after_comma(row, texts.values);
         }
         None => append(row, b",,,"),
     }
 }
 
-// Appends how a command ended: its word, its fault, and what the reply's line says.
+// Appends how a command ended: its word, its fault, and the three fields of its reply's line. These have at most 12800 bytes together.
 fn append_ending<const N: usize>(row: &mut ArrayVec<u8, N>, ending: Ending<'_>)
     requires { array_vec_len row.old + 12800 ≤ N }
     ensures text { row.new.items ≡ row.old.items ++ behind_commas (ending_fields (ending_seen ending.entry)) }
     ensures room { array_vec_len row.new ≤ array_vec_len row.old + 12800 }
 {
-    append_next(row, ending.word());
-    append_next(row, &fault_text(ending.fault()));
+    append_field_after_comma(row, ending.word());
+    append_field_after_comma(row, &fault_text(ending.fault()));
     append_reply(row, ending.line());
 }
 
@@ -230,7 +230,7 @@ fn append_values<const N: usize>(row: &mut ArrayVec<u8, N>, values: &[Value])
     ensures room { array_vec_len row.new ≤ array_vec_len row.old + VALUE_ROOM * length values.now }
 {
     for value in values {
-        append_next(row, &quantity_text(value));
+        append_field_after_comma(row, &quantity_text(value));
     }
 }
 
@@ -247,8 +247,7 @@ fn append_columns<const N: usize>(row: &mut ArrayVec<u8, N>, call: &Call, answer
     append_blanks(row, QUANTITIES - first - values.len());
 }
 
-// Appends the quantities of an answer to what was asked, each in its column. All columns are empty of a procedure that isn't in
-// the table.
+// Appends the quantities of an answer to `asked`, each in its column. All columns are empty if the procedure isn't in the table.
 fn append_answer<const N: usize>(row: &mut ArrayVec<u8, N>, asked: &Asked, answer: &Answer)
     requires { array_vec_len row.old + QUANTITIES_ROOM ≤ N }
     ensures text { row.new.items ≡ row.old.items ++ behind_commas (answer_columns asked.now answer.now) }
@@ -272,46 +271,46 @@ fn append_quantities<const N: usize>(row: &mut ArrayVec<u8, N>, asked: &Asked, e
     }
 }
 
-// Appends the quality of a command's answer, an empty field if the command wasn't answered, and the attempt of its chain.
+// Appends the quality of a command's answer, which is empty if the command wasn't answered, and the attempt of its chain.
 fn append_last<const N: usize>(row: &mut ArrayVec<u8, N>, when: &When, ending: Ending<'_>)
     requires { array_vec_len row.old + LAST_ROOM ≤ N }
     ensures text { row.new.items ≡ row.old.items ++ behind_commas (last_fields when.now (ending_seen ending.entry)) }
     ensures room { array_vec_len row.new ≤ array_vec_len row.old + LAST_ROOM }
 {
-    append_next(row, ending.quality_text());
-    append_next(
+    append_field_after_comma(row, ending.quality_text());
+    append_field_after_comma(
         row,
         Buffer::new().format(when.stamp.turn.attempt).as_bytes(),
     );
 }
 
-// Appends the quantities of a command's answer, each in its column, and after them the last fields.
+// Appends the quantities of a command's answer, each in its column, and the last fields: the quality and the attempt.
 fn append_quantities_and_last<const N: usize>(
     row: &mut ArrayVec<u8, N>,
     when: &When,
     asked: &Asked,
     ending: Ending<'_>,
 )
-    requires { array_vec_len row.old + MORE_ROOM ≤ N }
-    ensures text { row.new.items ≡ row.old.items ++ behind_commas (quantity_fields asked.now (ending_seen ending.entry) ++ last_fields when.now (ending_seen ending.entry)) }
-    ensures room { array_vec_len row.new ≤ array_vec_len row.old + MORE_ROOM }
+    requires { array_vec_len row.old + AFTER_ENDING_ROOM ≤ N }
+    ensures text { row.new.items ≡ row.old.items ++ behind_commas (fields_after_ending true when.now asked.now (ending_seen ending.entry)) }
+    ensures room { array_vec_len row.new ≤ array_vec_len row.old + AFTER_ENDING_ROOM }
 {
     append_quantities(row, asked, ending);
     append_last(row, when, ending);
 }
 
-// Appends the quantities of a command's answer, each in its column, where `columns` is true. Then, in any case, it appends the
-// last fields.
-fn append_more<const N: usize>(
+// Appends the fields after those of `append_ending`: the quantities of a command's answer, each in its column, if `columns` is true, and
+// then the last fields, which are the quality and the attempt.
+fn append_after_ending<const N: usize>(
     row: &mut ArrayVec<u8, N>,
     columns: bool,
     when: &When,
     asked: &Asked,
     ending: Ending<'_>,
 )
-    requires { array_vec_len row.old + MORE_ROOM ≤ N }
-    ensures text { row.new.items ≡ row.old.items ++ behind_commas (more_fields columns when.now asked.now (ending_seen ending.entry)) }
-    ensures room { array_vec_len row.new ≤ array_vec_len row.old + MORE_ROOM }
+    requires { array_vec_len row.old + AFTER_ENDING_ROOM ≤ N }
+    ensures text { row.new.items ≡ row.old.items ++ behind_commas (fields_after_ending columns when.now asked.now (ending_seen ending.entry)) }
+    ensures room { array_vec_len row.new ≤ array_vec_len row.old + AFTER_ENDING_ROOM }
 {
     if columns {
         append_quantities_and_last(row, when, asked, ending);
@@ -320,7 +319,8 @@ fn append_more<const N: usize>(
     }
 }
 
-/// The row of a record, with a column for each quantity where `columns` is true.
+/// The row of a record, with its line feed; it has a column for each quantity if `columns` is true. `name` is the target's, empty if it
+/// has none.
 pub(crate) fn csv_row(
     columns: bool,
     when: &When,
@@ -334,9 +334,9 @@ pub(crate) fn csv_row(
     let mut row = ArrayVec::new();
     append_field(&mut row, &stamp_text(when.run));
     append_when(&mut row, when);
-    append_what(&mut row, command, name);
+    append_command(&mut row, command, name);
     append_ending(&mut row, ending);
-    append_more(&mut row, columns, when, &command.call, ending);
+    append_after_ending(&mut row, columns, when, &command.call, ending);
     append(&mut row, b"\n");
     row
 }

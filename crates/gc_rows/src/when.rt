@@ -1,8 +1,8 @@
-//! The moments of a record, with the run that it is of.
+//! The moments of a record, and the run that it belongs to.
 
 use gc_texts::Stamp;
 
-/// When a command was sent and ended, and in which run.
+/// When a command was sent and ended, which command of its run it was, and when that run began.
 #[derive(Clone, Copy, Debug, PartialEq, Eq)]
 pub struct When {
     /// When its run began, in milliseconds since 1970-01-01, UTC.

@@ -6,9 +6,10 @@ use Rattle.std.proofs.Common.{◌≡◌, inl, inr, ◌+◌, ◌≤◌, nat_lt, i
 use Rattle.std.specs.List.{AllByRecursion}
 use Rattle.std.proofs.lemmas.Bool.{eq-eqb, and_parts, and_from}
 use Rattle.std.proofs.lemmas.List.{length-map, length-append, map-append}
-use Rattle.gc_texts.specs.Chained.{section_after, setup_commands, cycle_commands, SaysNoDeadline, IsDeadlineAfter, SaysNoChaining, chaining_line, IsChainingAfter, SaysNoCodes, AreAcceptedAfter, SaysNoRetry, IsRetryAfter, KeepsRow, EndsInRowOf, IsTaskOf, TasksFollowTheirLines}
+use Rattle.gc_texts.specs.Chained.{section_after, setup_commands, cycle_commands, IsSetAfter, SaysNoDeadline, IsDeadlineAfter, SaysNoChaining, chaining_line, IsChainingAfter, SaysNoCodes, AreAcceptedAfter, SaysNoRetry, IsRetryAfter, KeepsRow, EndsInRowOf, IsTaskOf, TasksFollowTheirLines}
 use Rattle.gc_texts.specs.Attempts.{in_attempt, laid_out}
 use Rattle.gc_texts.specs.Repeats.{RetriesHold}
+use Rattle.gc_texts.specs.Codes.{no_codes}
 use Rattle.gc_texts.specs.Retries.{no_retry}
 use Rattle.gc_texts.specs.declared.again.Again.{Again}
 use Rattle.gc_texts.specs.declared.retry.Retry.{Retry}
@@ -26,6 +27,7 @@ use Rattle.gc_texts.specs.declared.mode.Mode.{Mode}
 use Rattle.gc_texts.specs.declared.tasks.Task.{Task}
 use Rattle.gc_texts.proofs.TaskReading.{mode_after_lines}
 use Rattle.gc_texts.proofs.FirstAttempts.{chains_have_first}
+use Rattle.gc_texts.proofs.Cutting.{some_injective}
 use Rattle.gc_texts.proofs.TaskLaws.{continued_row}
 
 -- the mode after `xs` and then `ys` is the mode after `ys`, where the mode after `xs` holds before them
@@ -33,7 +35,7 @@ mode_after_both : (mode : Mode) (xs ys : List TaskLine) → mode_after_lines mod
 mode_after_both mode [] ys = refl
 mode_after_both mode (x ∷ xs) ys = mode_after_both (mode_after mode x) xs ys
 
--- the set-up of `xs` and then `ys` is that of `xs`, and then that of `ys`, where the mode after `xs` holds before `ys`
+-- the setup of `xs` and then `ys` is that of `xs`, and then that of `ys`, where the mode after `xs` holds before `ys`
 setup_both : (mode : Mode) (xs ys : List TaskLine) → setup_of mode (xs ++ ys) ≡ setup_of mode xs ++ setup_of (mode_after_lines mode xs) ys
 setup_both mode [] ys = refl
 setup_both mode (x ∷ xs) ys =
@@ -48,25 +50,25 @@ planned_both mode (x ∷ xs) ys =
     ∙ sym (append_assoc (planned_at mode x) (planned_of (mode_after mode x) xs) (planned_of (mode_after_lines (mode_after mode x) xs) ys))
 
 -- the section after lines is the mode's
-section_is : (mode : Mode) (lines : List TaskLine) → (mode_after_lines mode lines).setup ≡ section_after mode.setup lines
-section_is mode [] = refl
-section_is mode (says.Command c now ∷ later) = section_is (mode_after mode (says.Command c now)) later
-section_is mode (says.Deadline d ∷ later) = section_is (mode_after mode (says.Deadline d)) later
-section_is mode (says.Chained ∷ later) = section_is (mode_after mode says.Chained) later
-section_is mode (says.Unchained ∷ later) = section_is (mode_after mode says.Unchained) later
-section_is mode (says.Naming n ∷ later) = section_is (mode_after mode (says.Naming n)) later
-section_is mode (says.Standing n ∷ later) = section_is (mode_after mode (says.Standing n)) later
-section_is mode (says.Accepting cs ∷ later) = section_is (mode_after mode (says.Accepting cs)) later
-section_is mode (says.Retrying r ∷ later) = section_is (mode_after mode (says.Retrying r)) later
-section_is mode (says.AtStart ∷ later) = section_is (mode_after mode says.AtStart) later
-section_is mode (says.EachCycle ∷ later) = section_is (mode_after mode says.EachCycle) later
+section_after_lines : (mode : Mode) (lines : List TaskLine) → (mode_after_lines mode lines).setup ≡ section_after mode.setup lines
+section_after_lines mode [] = refl
+section_after_lines mode (says.Command c now ∷ later) = section_after_lines (mode_after mode (says.Command c now)) later
+section_after_lines mode (says.Deadline d ∷ later) = section_after_lines (mode_after mode (says.Deadline d)) later
+section_after_lines mode (says.Chained ∷ later) = section_after_lines (mode_after mode says.Chained) later
+section_after_lines mode (says.Unchained ∷ later) = section_after_lines (mode_after mode says.Unchained) later
+section_after_lines mode (says.Naming n ∷ later) = section_after_lines (mode_after mode (says.Naming n)) later
+section_after_lines mode (says.Locating n ∷ later) = section_after_lines (mode_after mode (says.Locating n)) later
+section_after_lines mode (says.Accepting cs ∷ later) = section_after_lines (mode_after mode (says.Accepting cs)) later
+section_after_lines mode (says.Retrying r ∷ later) = section_after_lines (mode_after mode (says.Retrying r)) later
+section_after_lines mode (says.AtStart ∷ later) = section_after_lines (mode_after mode says.AtStart) later
+section_after_lines mode (says.EachCycle ∷ later) = section_after_lines (mode_after mode says.EachCycle) later
 
--- one task more or none
+-- with a task in front of it where `b` is true, and nothing where it is false, a list is longer by one, or as long as before
 setup_one : (b : Bool) (t : Task) (ts : List Task) (n : ℕ) → length ts ≡ n → length ((if b then t ∷ [] else []) ++ ts) ≡ (if b then 1 else 0) + n
 setup_one true t ts n e = omega (arith, e)
 setup_one false t ts n e = omega (arith, e)
 
--- the set-up of lines has as many tasks as there are commands of it
+-- the setup of lines has as many tasks as there are commands of it
 setup_count : (mode : Mode) (lines : List TaskLine) → length (setup_of mode lines) ≡ setup_commands mode.setup lines
 setup_count mode [] = refl
 setup_count mode (says.Command c now ∷ later) = setup_one mode.setup (task_at mode c now) (setup_of (mode_after mode (says.Command c now)) later) (setup_commands mode.setup later)
@@ -75,7 +77,7 @@ setup_count mode (says.Deadline d ∷ later) = setup_count (mode_after mode (say
 setup_count mode (says.Chained ∷ later) = setup_count (mode_after mode says.Chained) later
 setup_count mode (says.Unchained ∷ later) = setup_count (mode_after mode says.Unchained) later
 setup_count mode (says.Naming n ∷ later) = setup_count (mode_after mode (says.Naming n)) later
-setup_count mode (says.Standing n ∷ later) = setup_count (mode_after mode (says.Standing n)) later
+setup_count mode (says.Locating n ∷ later) = setup_count (mode_after mode (says.Locating n)) later
 setup_count mode (says.Accepting cs ∷ later) = setup_count (mode_after mode (says.Accepting cs)) later
 setup_count mode (says.Retrying r ∷ later) = setup_count (mode_after mode (says.Retrying r)) later
 setup_count mode (says.AtStart ∷ later) = setup_count (mode_after mode says.AtStart) later
@@ -86,40 +88,40 @@ counted_in_section : (b : Bool) (n m k : ℕ) → m ≡ (if b then n + 1 else n)
 counted_in_section true n m k e = omega (arith, e)
 counted_in_section false n m k e = omega (arith, e)
 
--- the same, of the other section
+-- a command counts where the other section is counted, if it isn't of this one
 counted_in_other_section : (b : Bool) (n m k : ℕ) → m ≡ (if b then n else n + 1) + k → m ≡ n + ((if b then 0 else 1) + k)
 counted_in_other_section true n m k e = omega (arith, e)
 counted_in_other_section false n m k e = omega (arith, e)
 
--- the mode counts the commands of the set-up
-begun_is : (mode : Mode) (lines : List TaskLine) → (mode_after_lines mode lines).begun ≡ mode.begun + setup_commands mode.setup lines
-begun_is mode [] = omega arith
-begun_is mode (says.Command c now ∷ later) = counted_in_section mode.setup mode.begun (mode_after_lines (mode_after mode (says.Command c now)) later).begun (setup_commands mode.setup later)
-    (begun_is (mode_after mode (says.Command c now)) later)
-begun_is mode (says.Deadline d ∷ later) = begun_is (mode_after mode (says.Deadline d)) later
-begun_is mode (says.Chained ∷ later) = begun_is (mode_after mode says.Chained) later
-begun_is mode (says.Unchained ∷ later) = begun_is (mode_after mode says.Unchained) later
-begun_is mode (says.Naming n ∷ later) = begun_is (mode_after mode (says.Naming n)) later
-begun_is mode (says.Standing n ∷ later) = begun_is (mode_after mode (says.Standing n)) later
-begun_is mode (says.Accepting cs ∷ later) = begun_is (mode_after mode (says.Accepting cs)) later
-begun_is mode (says.Retrying r ∷ later) = begun_is (mode_after mode (says.Retrying r)) later
-begun_is mode (says.AtStart ∷ later) = begun_is (mode_after mode says.AtStart) later
-begun_is mode (says.EachCycle ∷ later) = begun_is (mode_after mode says.EachCycle) later
+-- the mode counts the commands of the setup
+setup_counted : (mode : Mode) (lines : List TaskLine) → (mode_after_lines mode lines).begun ≡ mode.begun + setup_commands mode.setup lines
+setup_counted mode [] = omega arith
+setup_counted mode (says.Command c now ∷ later) = counted_in_section mode.setup mode.begun (mode_after_lines (mode_after mode (says.Command c now)) later).begun (setup_commands mode.setup later)
+    (setup_counted (mode_after mode (says.Command c now)) later)
+setup_counted mode (says.Deadline d ∷ later) = setup_counted (mode_after mode (says.Deadline d)) later
+setup_counted mode (says.Chained ∷ later) = setup_counted (mode_after mode says.Chained) later
+setup_counted mode (says.Unchained ∷ later) = setup_counted (mode_after mode says.Unchained) later
+setup_counted mode (says.Naming n ∷ later) = setup_counted (mode_after mode (says.Naming n)) later
+setup_counted mode (says.Locating n ∷ later) = setup_counted (mode_after mode (says.Locating n)) later
+setup_counted mode (says.Accepting cs ∷ later) = setup_counted (mode_after mode (says.Accepting cs)) later
+setup_counted mode (says.Retrying r ∷ later) = setup_counted (mode_after mode (says.Retrying r)) later
+setup_counted mode (says.AtStart ∷ later) = setup_counted (mode_after mode says.AtStart) later
+setup_counted mode (says.EachCycle ∷ later) = setup_counted (mode_after mode says.EachCycle) later
 
 -- the mode counts the commands of the cycle
-place_is : (mode : Mode) (lines : List TaskLine) → (mode_after_lines mode lines).place ≡ mode.place + cycle_commands mode.setup lines
-place_is mode [] = omega arith
-place_is mode (says.Command c now ∷ later) = counted_in_other_section mode.setup mode.place (mode_after_lines (mode_after mode (says.Command c now)) later).place (cycle_commands mode.setup later)
-    (place_is (mode_after mode (says.Command c now)) later)
-place_is mode (says.Deadline d ∷ later) = place_is (mode_after mode (says.Deadline d)) later
-place_is mode (says.Chained ∷ later) = place_is (mode_after mode says.Chained) later
-place_is mode (says.Unchained ∷ later) = place_is (mode_after mode says.Unchained) later
-place_is mode (says.Naming n ∷ later) = place_is (mode_after mode (says.Naming n)) later
-place_is mode (says.Standing n ∷ later) = place_is (mode_after mode (says.Standing n)) later
-place_is mode (says.Accepting cs ∷ later) = place_is (mode_after mode (says.Accepting cs)) later
-place_is mode (says.Retrying r ∷ later) = place_is (mode_after mode (says.Retrying r)) later
-place_is mode (says.AtStart ∷ later) = place_is (mode_after mode says.AtStart) later
-place_is mode (says.EachCycle ∷ later) = place_is (mode_after mode says.EachCycle) later
+cycle_counted : (mode : Mode) (lines : List TaskLine) → (mode_after_lines mode lines).place ≡ mode.place + cycle_commands mode.setup lines
+cycle_counted mode [] = omega arith
+cycle_counted mode (says.Command c now ∷ later) = counted_in_other_section mode.setup mode.place (mode_after_lines (mode_after mode (says.Command c now)) later).place (cycle_commands mode.setup later)
+    (cycle_counted (mode_after mode (says.Command c now)) later)
+cycle_counted mode (says.Deadline d ∷ later) = cycle_counted (mode_after mode (says.Deadline d)) later
+cycle_counted mode (says.Chained ∷ later) = cycle_counted (mode_after mode says.Chained) later
+cycle_counted mode (says.Unchained ∷ later) = cycle_counted (mode_after mode says.Unchained) later
+cycle_counted mode (says.Naming n ∷ later) = cycle_counted (mode_after mode (says.Naming n)) later
+cycle_counted mode (says.Locating n ∷ later) = cycle_counted (mode_after mode (says.Locating n)) later
+cycle_counted mode (says.Accepting cs ∷ later) = cycle_counted (mode_after mode (says.Accepting cs)) later
+cycle_counted mode (says.Retrying r ∷ later) = cycle_counted (mode_after mode (says.Retrying r)) later
+cycle_counted mode (says.AtStart ∷ later) = cycle_counted (mode_after mode says.AtStart) later
+cycle_counted mode (says.EachCycle ∷ later) = cycle_counted (mode_after mode says.EachCycle) later
 
 -- what holds of each of these lines, and of one more, holds of each line of the longer list
 all_more : (P : TaskLine → Type 0) (xs : List TaskLine) (line : TaskLine) → AllByRecursion P xs → P line → AllByRecursion P (xs ++ line ∷ [])
@@ -136,29 +138,28 @@ record Says (deadline : ℕ) (chained : Bool) (lines : List TaskLine) (mode : Mo
   retry_is : IsRetryAfter lines mode.retry
   row : (target : ℕ) → mode.row ≡ Some target → EndsInRowOf lines target
 
--- where `d` is the deadline after some lines, it is the deadline after one more, too, if that line says no deadline
-more_deadline : (deadline d : ℕ) (lines : List TaskLine) (line : TaskLine) → SaysNoDeadline line → IsDeadlineAfter deadline lines d → IsDeadlineAfter deadline (lines ++ line ∷ []) d
-more_deadline deadline d lines line none (inl given) = inl (all_more SaysNoDeadline lines line given.0 none, given.1)
-more_deadline deadline d lines line none (inr (before, between, at, without)) =
-    inr (before, between ++ line ∷ [], ap (λ xs. xs ++ line ∷ []) at ∙ append_assoc before (says.Deadline d ∷ between) (line ∷ []), all_more SaysNoDeadline between line without none)
+-- where `value` is that of a setting after some lines (`IsSetAfter`), it is so after one more line that leaves the setting as it is
+more_set : {Value : Type 0} (SetsNone : TaskLine → Type 0) (line_of : Value → TaskLine) (given value : Value) (lines : List TaskLine) (line : TaskLine)
+    → SetsNone line → IsSetAfter SetsNone line_of given lines value → IsSetAfter SetsNone line_of given (lines ++ line ∷ []) value
+more_set SetsNone line_of given value lines line none (inl all) = inl (all_more SetsNone lines line all.0 none, all.1)
+more_set SetsNone line_of given value lines line none (inr (before, between, at, without)) =
+    inr (before, between ++ line ∷ [], ap (λ xs. xs ++ line ∷ []) at ∙ append_assoc before (line_of value ∷ between) (line ∷ []), all_more SetsNone between line without none)
 
--- a line that says no codes leaves the accepted codes as they were
+-- a line that sets no deadline leaves the deadline as it was
+more_deadline : (deadline d : ℕ) (lines : List TaskLine) (line : TaskLine) → SaysNoDeadline line → IsDeadlineAfter deadline lines d → IsDeadlineAfter deadline (lines ++ line ∷ []) d
+more_deadline deadline d lines line none is = more_set SaysNoDeadline says.Deadline deadline d lines line none is
+
+-- a line that sets no codes leaves the accepted codes as they were
 more_codes : (accepted : Codes) (lines : List TaskLine) (line : TaskLine) → SaysNoCodes line → AreAcceptedAfter lines accepted → AreAcceptedAfter (lines ++ line ∷ []) accepted
-more_codes accepted lines line none (inl given) = inl (all_more SaysNoCodes lines line given.0 none, given.1)
-more_codes accepted lines line none (inr (before, between, at, without)) =
-    inr (before, between ++ line ∷ [], ap (λ xs. xs ++ line ∷ []) at ∙ append_assoc before (says.Accepting accepted ∷ between) (line ∷ []), all_more SaysNoCodes between line without none)
+more_codes accepted lines line none are = more_set SaysNoCodes says.Accepting no_codes accepted lines line none are
 
 -- a line that sets no retry leaves it as it was
 more_retry : (retry : Retry) (lines : List TaskLine) (line : TaskLine) → SaysNoRetry line → IsRetryAfter lines retry → IsRetryAfter (lines ++ line ∷ []) retry
-more_retry retry lines line none (inl given) = inl (all_more SaysNoRetry lines line given.0 none, given.1)
-more_retry retry lines line none (inr (before, between, at, without)) =
-    inr (before, between ++ line ∷ [], ap (λ xs. xs ++ line ∷ []) at ∙ append_assoc before (says.Retrying retry ∷ between) (line ∷ []), all_more SaysNoRetry between line without none)
+more_retry retry lines line none is = more_set SaysNoRetry says.Retrying no_retry retry lines line none is
 
 -- whether commands are chained is the same after one more line that is neither `chained` nor `unchained`
-more_mode : (chained b : Bool) (lines : List TaskLine) (line : TaskLine) → SaysNoChaining line → IsChainingAfter chained lines b → IsChainingAfter chained (lines ++ line ∷ []) b
-more_mode chained b lines line none (inl given) = inl (all_more SaysNoChaining lines line given.0 none, given.1)
-more_mode chained b lines line none (inr (before, between, at, without)) =
-    inr (before, between ++ line ∷ [], ap (λ xs. xs ++ line ∷ []) at ∙ append_assoc before (chaining_line b ∷ between) (line ∷ []), all_more SaysNoChaining between line without none)
+more_chaining : (chained b : Bool) (lines : List TaskLine) (line : TaskLine) → SaysNoChaining line → IsChainingAfter chained lines b → IsChainingAfter chained (lines ++ line ∷ []) b
+more_chaining chained b lines line none is = more_set SaysNoChaining chaining_line chained b lines line none is
 
 -- where the last command of some lines is for a target, and only lines that keep its row (`KeepsRow`) follow it, the same holds
 -- with one more line that keeps the row
@@ -178,24 +179,20 @@ more_row lines line target keeps (before, command, now, between, at, all, same) 
 no_row : (lines : List TaskLine) (target : ℕ) → None ≡ Some target → EndsInRowOf lines target
 no_row lines target e = cc
 
--- equal rows are of equal targets
-some_injective : (a b : ℕ) → Some a ≡ Some b → a ≡ b
-some_injective a b e = cc
-
 -- where `mode` is what `lines` say (`Says`), the mode after one more line is what all of them say. `deadline` and `chained`
 -- are what holds before all lines
 says_more : (deadline : ℕ) (chained : Bool) (lines : List TaskLine) (mode : Mode) (line : TaskLine) → Says deadline chained lines mode
     → Says deadline chained (lines ++ line ∷ []) (mode_after mode line)
 says_more deadline chained lines mode (says.Command c now) h = record {
   deadline_is = more_deadline deadline mode.deadline lines (says.Command c now) tt h.deadline_is;
-  mode_is = more_mode chained mode.chained lines (says.Command c now) tt h.mode_is;
+  mode_is = more_chaining chained mode.chained lines (says.Command c now) tt h.mode_is;
   accepted_are = more_codes mode.accepted lines (says.Command c now) tt h.accepted_are;
   retry_is = more_retry mode.retry lines (says.Command c now) tt h.retry_is;
   row = λ target e. (lines, c, now, [], refl, tt, some_injective c.target target e);
 }
 says_more deadline chained lines mode (says.Deadline d) h = record {
   deadline_is = inr (lines, [], refl, tt);
-  mode_is = more_mode chained mode.chained lines (says.Deadline d) tt h.mode_is;
+  mode_is = more_chaining chained mode.chained lines (says.Deadline d) tt h.mode_is;
   accepted_are = more_codes mode.accepted lines (says.Deadline d) tt h.accepted_are;
   retry_is = more_retry mode.retry lines (says.Deadline d) tt h.retry_is;
   row = λ target e. more_row lines (says.Deadline d) target tt (h.row target e);
@@ -216,42 +213,42 @@ says_more deadline chained lines mode says.Unchained h = record {
 }
 says_more deadline chained lines mode (says.Naming n) h = record {
   deadline_is = more_deadline deadline mode.deadline lines (says.Naming n) tt h.deadline_is;
-  mode_is = more_mode chained mode.chained lines (says.Naming n) tt h.mode_is;
+  mode_is = more_chaining chained mode.chained lines (says.Naming n) tt h.mode_is;
   accepted_are = more_codes mode.accepted lines (says.Naming n) tt h.accepted_are;
   retry_is = more_retry mode.retry lines (says.Naming n) tt h.retry_is;
   row = λ target e. more_row lines (says.Naming n) target tt (h.row target e);
 }
-says_more deadline chained lines mode (says.Standing n) h = record {
-  deadline_is = more_deadline deadline mode.deadline lines (says.Standing n) tt h.deadline_is;
-  mode_is = more_mode chained mode.chained lines (says.Standing n) tt h.mode_is;
-  accepted_are = more_codes mode.accepted lines (says.Standing n) tt h.accepted_are;
-  retry_is = more_retry mode.retry lines (says.Standing n) tt h.retry_is;
-  row = λ target e. more_row lines (says.Standing n) target tt (h.row target e);
+says_more deadline chained lines mode (says.Locating n) h = record {
+  deadline_is = more_deadline deadline mode.deadline lines (says.Locating n) tt h.deadline_is;
+  mode_is = more_chaining chained mode.chained lines (says.Locating n) tt h.mode_is;
+  accepted_are = more_codes mode.accepted lines (says.Locating n) tt h.accepted_are;
+  retry_is = more_retry mode.retry lines (says.Locating n) tt h.retry_is;
+  row = λ target e. more_row lines (says.Locating n) target tt (h.row target e);
 }
 says_more deadline chained lines mode (says.Accepting cs) h = record {
   deadline_is = more_deadline deadline mode.deadline lines (says.Accepting cs) tt h.deadline_is;
-  mode_is = more_mode chained mode.chained lines (says.Accepting cs) tt h.mode_is;
+  mode_is = more_chaining chained mode.chained lines (says.Accepting cs) tt h.mode_is;
   accepted_are = inr (lines, [], refl, tt);
   retry_is = more_retry mode.retry lines (says.Accepting cs) tt h.retry_is;
   row = λ target e. more_row lines (says.Accepting cs) target tt (h.row target e);
 }
 says_more deadline chained lines mode (says.Retrying r) h = record {
   deadline_is = more_deadline deadline mode.deadline lines (says.Retrying r) tt h.deadline_is;
-  mode_is = more_mode chained mode.chained lines (says.Retrying r) tt h.mode_is;
+  mode_is = more_chaining chained mode.chained lines (says.Retrying r) tt h.mode_is;
   accepted_are = more_codes mode.accepted lines (says.Retrying r) tt h.accepted_are;
   retry_is = inr (lines, [], refl, tt);
   row = λ target e. no_row (lines ++ (says.Retrying r) ∷ []) target e;
 }
 says_more deadline chained lines mode says.AtStart h = record {
   deadline_is = more_deadline deadline mode.deadline lines says.AtStart tt h.deadline_is;
-  mode_is = more_mode chained mode.chained lines says.AtStart tt h.mode_is;
+  mode_is = more_chaining chained mode.chained lines says.AtStart tt h.mode_is;
   accepted_are = more_codes mode.accepted lines says.AtStart tt h.accepted_are;
   retry_is = more_retry mode.retry lines says.AtStart tt h.retry_is;
   row = λ target e. no_row (lines ++ says.AtStart ∷ []) target e;
 }
 says_more deadline chained lines mode says.EachCycle h = record {
   deadline_is = more_deadline deadline mode.deadline lines says.EachCycle tt h.deadline_is;
-  mode_is = more_mode chained mode.chained lines says.EachCycle tt h.mode_is;
+  mode_is = more_chaining chained mode.chained lines says.EachCycle tt h.mode_is;
   accepted_are = more_codes mode.accepted lines says.EachCycle tt h.accepted_are;
   retry_is = more_retry mode.retry lines says.EachCycle tt h.retry_is;
   row = λ target e. no_row (lines ++ says.EachCycle ∷ []) target e;
@@ -277,7 +274,7 @@ row_stays mode (says.Deadline d ∷ later) keeps = row_stays (mode_after mode (s
 row_stays mode (says.Chained ∷ later) keeps = absurd keeps.0
 row_stays mode (says.Unchained ∷ later) keeps = absurd keeps.0
 row_stays mode (says.Naming n ∷ later) keeps = row_stays mode later keeps.1
-row_stays mode (says.Standing n ∷ later) keeps = row_stays mode later keeps.1
+row_stays mode (says.Locating n ∷ later) keeps = row_stays mode later keeps.1
 row_stays mode (says.Accepting cs ∷ later) keeps = row_stays (mode_after mode (says.Accepting cs)) later keeps.1
 row_stays mode (says.Retrying r ∷ later) keeps = absurd keeps.0
 row_stays mode (says.AtStart ∷ later) keeps = absurd keeps.0
@@ -291,31 +288,31 @@ row_of mode lines target (before, command, now, between, at, keeps, same) =
     ∙ row_stays (mode_after (mode_after_lines mode before) (says.Command command now)) between keeps ∙ ap Some same
 
 -- whether commands are chained is the same before and after lines of which none is `chained` or `unchained`
-mode_stays : (mode : Mode) (lines : List TaskLine) → AllByRecursion SaysNoChaining lines → (mode_after_lines mode lines).chained ≡ mode.chained
-mode_stays mode [] none = refl
-mode_stays mode (says.Command c now ∷ later) none = mode_stays (mode_after mode (says.Command c now)) later none.1
-mode_stays mode (says.Deadline d ∷ later) none = mode_stays (mode_after mode (says.Deadline d)) later none.1
-mode_stays mode (says.Chained ∷ later) none = absurd none.0
-mode_stays mode (says.Unchained ∷ later) none = absurd none.0
-mode_stays mode (says.Naming n ∷ later) none = mode_stays mode later none.1
-mode_stays mode (says.Standing n ∷ later) none = mode_stays mode later none.1
-mode_stays mode (says.Accepting cs ∷ later) none = mode_stays (mode_after mode (says.Accepting cs)) later none.1
-mode_stays mode (says.Retrying r ∷ later) none = mode_stays (mode_after mode (says.Retrying r)) later none.1
-mode_stays mode (says.AtStart ∷ later) none = mode_stays (mode_after mode says.AtStart) later none.1
-mode_stays mode (says.EachCycle ∷ later) none = mode_stays (mode_after mode says.EachCycle) later none.1
+chaining_stays : (mode : Mode) (lines : List TaskLine) → AllByRecursion SaysNoChaining lines → (mode_after_lines mode lines).chained ≡ mode.chained
+chaining_stays mode [] none = refl
+chaining_stays mode (says.Command c now ∷ later) none = chaining_stays (mode_after mode (says.Command c now)) later none.1
+chaining_stays mode (says.Deadline d ∷ later) none = chaining_stays (mode_after mode (says.Deadline d)) later none.1
+chaining_stays mode (says.Chained ∷ later) none = absurd none.0
+chaining_stays mode (says.Unchained ∷ later) none = absurd none.0
+chaining_stays mode (says.Naming n ∷ later) none = chaining_stays mode later none.1
+chaining_stays mode (says.Locating n ∷ later) none = chaining_stays mode later none.1
+chaining_stays mode (says.Accepting cs ∷ later) none = chaining_stays (mode_after mode (says.Accepting cs)) later none.1
+chaining_stays mode (says.Retrying r ∷ later) none = chaining_stays (mode_after mode (says.Retrying r)) later none.1
+chaining_stays mode (says.AtStart ∷ later) none = chaining_stays (mode_after mode says.AtStart) later none.1
+chaining_stays mode (says.EachCycle ∷ later) none = chaining_stays (mode_after mode says.EachCycle) later none.1
 
 -- after `chained` commands are chained, and after `unchained` they aren't
-mode_said : (mode : Mode) (b : Bool) → (mode_after mode (chaining_line b)).chained ≡ b
-mode_said mode true = refl
-mode_said mode false = refl
+chaining_line_sets : (mode : Mode) (b : Bool) → (mode_after mode (chaining_line b)).chained ≡ b
+chaining_line_sets mode true = refl
+chaining_line_sets mode false = refl
 
 -- whether commands are chained after some lines is as the last line `chained` or `unchained` among them says, or as it was
 -- before them
-mode_of : (mode : Mode) (lines : List TaskLine) (b : Bool) → IsChainingAfter mode.chained lines b → (mode_after_lines mode lines).chained ≡ b
-mode_of mode lines b (inl given) = mode_stays mode lines given.0 ∙ sym given.1
-mode_of mode lines b (inr (before, between, at, none)) =
+chaining_of_lines : (mode : Mode) (lines : List TaskLine) (b : Bool) → IsChainingAfter mode.chained lines b → (mode_after_lines mode lines).chained ≡ b
+chaining_of_lines mode lines b (inl given) = chaining_stays mode lines given.0 ∙ sym given.1
+chaining_of_lines mode lines b (inr (before, between, at, none)) =
     ap (λ xs. (mode_after_lines mode xs).chained) at ∙ ap (λ (m : Mode). m.chained) (mode_after_both mode before (chaining_line b ∷ between))
-    ∙ mode_stays (mode_after (mode_after_lines mode before) (chaining_line b)) between none ∙ mode_said (mode_after_lines mode before) b
+    ∙ chaining_stays (mode_after (mode_after_lines mode before) (chaining_line b)) between none ∙ chaining_line_sets (mode_after_lines mode before) b
 
 -- a command for a target continues the row of that target
 row_continued : (row : Option ℕ) (target : ℕ) → row ≡ Some target → continues_row row target ≡ true
@@ -331,7 +328,7 @@ module _ (deadline : ℕ) (chained : Bool) (front : List TaskLine) (command : Wi
   abbrev mode : Mode
   mode = mode_after_lines (opening deadline chained) front
 
-  -- its task
+  -- the task of the command
   abbrev its_task : Task
   its_task =
       record {
@@ -346,10 +343,11 @@ module _ (deadline : ℕ) (chained : Bool) (front : List TaskLine) (command : Wi
         now = now;
       }
 
-  -- what the lines say
+  -- that mode is what the lines before the command say
   said_so : Says deadline chained front mode
   said_so = says_all deadline chained [] (opening deadline chained) front (says_opening deadline chained)
 
+  -- that task is as these lines say
   goes_out : IsTaskOf deadline chained front command now its_task
   goes_out =
       record {
@@ -359,22 +357,22 @@ module _ (deadline : ℕ) (chained : Bool) (front : List TaskLine) (command : Wi
         deadline_is = said_so.deadline_is;
         accepted_are = said_so.accepted_are;
         at_start = λ e.
-            let setup : mode.setup ≡ true = section_is (opening deadline chained) front ∙ e in
-            let begun : mode.begun ≡ setup_commands false front = let counted = begun_is (opening deadline chained) front in omega (arith, counted) in
+            let setup : mode.setup ≡ true = section_after_lines (opening deadline chained) front ∙ e in
+            let begun : mode.begun ≡ setup_commands false front = let counted = setup_counted (opening deadline chained) front in omega (arith, counted) in
             record {
               place = ap (λ b. if b then mode.begun else mode.place) setup ∙ begun;
               chained = ap (λ b. if b then nat_lt 0 mode.begun else mode.chained && continues_row mode.row command.target) setup ∙ ap (nat_lt 0) begun;
             };
         in_cycle = λ e.
-            let cycle : mode.setup ≡ false = section_is (opening deadline chained) front ∙ e in
-            let place : mode.place ≡ cycle_commands false front = let counted = place_is (opening deadline chained) front in omega (arith, counted) in
+            let cycle : mode.setup ≡ false = section_after_lines (opening deadline chained) front ∙ e in
+            let place : mode.place ≡ cycle_commands false front = let counted = cycle_counted (opening deadline chained) front in omega (arith, counted) in
             let so = cycle_joined mode command.target cycle in
             record {
               place = ap (λ b. if b then mode.begun else mode.place) cycle ∙ place;
               only = λ is.
                   let both = and_parts mode.chained (continues_row mode.row command.target) (sym so ∙ is) in
                   (subst (λ b. IsChainingAfter chained front b) both.0 said_so.mode_is, said_so.row command.target (continued_row mode.row command.target both.1));
-              found = λ a b. so ∙ and_from mode.chained (continues_row mode.row command.target) (mode_of (opening deadline chained) front true a)
+              found = λ a b. so ∙ and_from mode.chained (continues_row mode.row command.target) (chaining_of_lines (opening deadline chained) front true a)
                   (row_continued mode.row command.target (row_of (opening deadline chained) front command.target b));
             };
       }
@@ -391,23 +389,25 @@ module _
   abbrev own : Task
   own = task_at here command now
 
-  -- the set-up, and the cycle's commands
+  -- the setup tasks before the command
   abbrev setups : List Task
   setups = setup_of (opening deadline chained) front
 
+  -- the cycle's commands before the command
   abbrev planned : List Planned
   planned = planned_of (opening deadline chained) front
 
+  -- the mode after the command
   abbrev next : Mode
   next = mode_after here (says.Command command now)
 
-  -- all tasks
+  -- all tasks of the text without their places; `b` says whether the command is of the setup
   abbrev all : Bool → List Task
   all b =
       (setups ++ ((if b then own ∷ [] else []) ++ setup_of next later))
       ++ laid_out (planned ++ ((if b then [] else record { task = own; retry = here.retry } ∷ []) ++ planned_of next later))
 
-  -- the text's tasks are these
+  -- the text's tasks are these, with their places
   all_are : (b : Bool) → here.setup ≡ b → tasks ≡ map (placed nears) (all b)
   all_are b e =
       is.tasks_are ∙ ap (λ said. map (placed nears) (tasks_of (opening deadline chained) said)) at
@@ -416,7 +416,7 @@ module _
       ∙ ap (λ ps. map (placed nears) ((setups ++ setup_of here (says.Command command now ∷ later)) ++ laid_out ps)) (planned_both (opening deadline chained) front (says.Command command now ∷ later))
       ∙ ap (λ t. map (placed nears) (all t)) e
 
-  -- by the section
+  -- the law for this command, by whether it is of the setup
   by_section : (b : Bool) → here.setup ≡ b
       → (earlier : List Task) × (task : Task) × (others : List Task) × (tasks ≡ earlier ++ task ∷ others)
       × (section_after false front ≡ true → length earlier ≡ setup_commands false front) × (section_after false front ≡ false → setup ≤ length earlier)
@@ -428,7 +428,7 @@ module _
         map (placed nears) rest,
         all_are true e ∙ ap (map (placed nears)) (append_assoc setups (own ∷ setup_of next later) (laid_out (planned ++ planned_of next later))) ∙ map-append (placed nears) setups (own ∷ rest),
         (λ s. length-map setups (placed nears) ∙ setup_count (opening deadline chained) front),
-        (λ s. let bad : true ≡ false = sym e ∙ section_is (opening deadline chained) front ∙ s in cc),
+        (λ s. let bad : true ≡ false = sym e ∙ section_after_lines (opening deadline chained) front ∙ s in cc),
         goes_out deadline chained front command now (near_of command.target nears) no_again 0,
         refl,
       )
@@ -447,15 +447,15 @@ module _
         all_are false e ∙ ap (λ ts. map (placed nears) (in_front ++ ts)) among.are
             ∙ ap (map (placed nears)) (sym (append_assoc in_front among.earlier (in_attempt 1 among.again among.commands p ∷ among.others)))
             ∙ map-append (placed nears) (in_front ++ among.earlier) (in_attempt 1 among.again among.commands p ∷ among.others),
-        (λ s. let bad : false ≡ true = sym e ∙ section_is (opening deadline chained) front ∙ s in cc),
+        (λ s. let bad : false ≡ true = sym e ∙ section_after_lines (opening deadline chained) front ∙ s in cc),
         (λ s. omega (arith, many, long)),
         goes_out deadline chained front command now (near_of command.target nears) among.again 0,
         refl,
       )
 
 -- the law: each command is sent as the lines before it say
-pub go_out_so : TasksFollowTheirLines
-go_out_so text deadline chained setup tasks names nears is front later command now at =
+pub tasks_follow_their_lines : TasksFollowTheirLines
+tasks_follow_their_lines text deadline chained setup tasks names nears is front later command now at =
     by_section text deadline chained setup tasks names nears is front later command now at (mode_after_lines (opening deadline chained) front).setup refl
 
 -- the law: a command of the cycle has the retry that the last line `retry` before it says
@@ -468,7 +468,7 @@ retries_hold deadline chained front later command now cycle =
       p,
       planned_of (mode_after mode (says.Command command now)) later,
       planned_both first front (says.Command command now ∷ later)
-          ∙ ap (λ b. planned_of first front ++ ((if b then [] else p ∷ []) ++ planned_of (mode_after mode (says.Command command now)) later)) (section_is first front ∙ cycle),
+          ∙ ap (λ b. planned_of first front ++ ((if b then [] else p ∷ []) ++ planned_of (mode_after mode (says.Command command now)) later)) (section_after_lines first front ∙ cycle),
       refl,
       said.retry_is,
     )

@@ -20,7 +20,7 @@ use Rattle.gc_texts.specs.declared.wish.Wish.{Wish}
 use Rattle.gc_texts.proofs.Cutting.{digits_lack_spaces, has_mark}
 use Rattle.gc_texts.proofs.Fronts.{behind_mark}
 use Rattle.gc_texts.proofs.Procedures.{one_number, procedure_parts}
-use Rattle.gc_texts.proofs.Wanted.{wanted_is}
+use Rattle.gc_texts.proofs.Wanted.{parameter_counts_are}
 use Rattle.gc_texts.proofs.WishForms.{same_wish}
 
 -- `5007` has no space
@@ -61,7 +61,7 @@ pub no_now : (call : Call) → IsCall 5007 (codes "now") call → ⊥
 no_now call is =
     let one : is.values.items ≡ codes "now" ∷ [] = one_list (codes "now") is.values.items (codes "now" ∷ []) is.values.split (joined_params (codes "now" ∷ []) (now_is, tt) (omega arith, tt)) in
     let many : length is.values.items ≡ length (call_fields call).values = as_many is.values.items (call_fields call).values is.values.read in
-    let six : 6 ≡ length (call_fields call).values = ap parameter_count (sym is.number) ∙ wanted_is call in
+    let six : 6 ≡ length (call_fields call).values = ap parameter_count (sym is.number) ∙ parameter_counts_are call in
     let single : length is.values.items ≡ 1 = ap length one in
     omega (arith, many, six, single)
 

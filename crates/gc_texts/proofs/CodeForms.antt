@@ -111,6 +111,20 @@ codes_joined now word None code (next ∷ others) cut is left = let bad : next �
 codes_joined now word (Some behind) code [] cut is left = absurd left
 codes_joined now word (Some behind) code (next ∷ others) cut is left = (word, behind, cut.0, is, left)
 
+-- where `old` has the codes `listed` in its first `count` places, `new`, with the code in the next place, has one more
+one_filled_more : (old new listed : List ℕ) (count code : ℕ) → count < 16 → new ≡ slice_set old count code → length listed ≡ count → old ≡ padded_codes listed
+    → new ≡ padded_codes (listed ++ code ∷ [])
+one_filled_more old new listed count code room set n is =
+    let some : 16 - length listed ≡ suc (15 - length listed) = omega (arith, n, room) in
+    let less : 16 - length (listed ++ code ∷ []) ≡ 15 - length listed = omega (arith, length_push listed code) in
+    set ∙ ap (λ l. slice_set l count code) (is ∙ ap (λ k. listed ++ replicate k 0) some) ∙ ap (λ k. slice_set (listed ++ 0 ∷ replicate (15 - length listed) 0) k code) (sym n)
+    ∙ set_behind listed (replicate (15 - length listed) 0) code ∙ sym (append_assoc listed (code ∷ []) (replicate (15 - length listed) 0))
+    ∙ ap (λ k. (listed ++ code ∷ []) ++ replicate k 0) (sym less) where
+      -- the place after the elements `xs`, which has 0, is set to c
+      set_behind : (xs zs : List ℕ) (c : ℕ) → slice_set (xs ++ 0 ∷ zs) (length xs) c ≡ xs ++ c ∷ zs
+      set_behind [] zs c = refl
+      set_behind (x ∷ xs) zs c = ap (λ l. x ∷ l) (set_behind xs zs c)
+
 module _ (text now word : List ℕ) (left rest : Option (List ℕ)) (old : Codes) (count : ℕ) (f : Fills text left old count) (some : left ≡ Some now) (cut : Cuts 32 now word rest) where
   -- the codes of what is left are those of the text `now`, which is left
   left_now : (later : List ℕ) → AreLeft left later → AreCodes now later
@@ -131,11 +145,9 @@ module _ (text now word : List ℕ) (left rest : Option (List ℕ)) (old : Codes
       let long : length is.listed ≡ length f.0 + length (first.0 ∷ first.1) = ap length o.1 ∙ ap (λ l. length (f.0 ++ l)) first.2 ∙ length-append f.0 (first.0 ∷ first.1) in
       omega (arith, long, is.few, full, f.3)
 
-  -- where the next word is a code, and a place is free, one more code is read and is in that place
-  pub code_reads : (code : ℕ) (new : Codes) → IsCode word code → count < 16
-      → ((listed : List ℕ) → length listed ≡ count → old.codes ≡ padded_codes listed → new.codes ≡ padded_codes (listed ++ code ∷ []))
-      → Fills text rest new (count + 1)
-  code_reads code new is room more =
+  -- where the next word is a code, a place is free, and the code is put there, one more code is read
+  pub code_reads : (code : ℕ) (new : Codes) → IsCode word code → count < 16 → new.codes ≡ slice_set old.codes count code → Fills text rest new (count + 1)
+  code_reads code new is room set =
       let read = f.0 in
       let r = f.1 in (
         read ++ code ∷ [],
@@ -150,7 +162,7 @@ module _ (text now word : List ℕ) (left rest : Option (List ℕ)) (old : Codes
               (first.1, o.1 ∙ ap (λ l. read ++ l) first.2 ∙ ap (λ c. read ++ c ∷ first.1) same ∙ sym (append_assoc read (code ∷ []) first.1), first.4);
           few = omega (arith, room, f.3, length_push read code);
         },
-        more read f.3 f.2,
+        one_filled_more old.codes new.codes read count code room set f.3 f.2,
         length_push read code ∙ ap (λ n. n + 1) f.3,
       )
 
@@ -158,17 +170,3 @@ module _ (text now word : List ℕ) (left rest : Option (List ℕ)) (old : Codes
 pub codes_are : (text : List ℕ) (left : Option (List ℕ)) (codes : Codes) (count : ℕ) → Fills text left codes count → left ≡ None → IsCodeList text codes
 codes_are text left codes count (read, r, is, n) e =
     record { listed = read; are = subst (AreCodes text) (append-nil read) (r.found [] (subst (λ o. AreLeft o []) (sym e) refl)); few = r.few; filled_are = is }
-
--- where `old` has the codes `listed` in its first `count` places, `new`, with the code in the next place, has one more
-pub one_filled_more : (old new listed : List ℕ) (count code : ℕ) → count < 16 → new ≡ slice_set old count code → length listed ≡ count → old ≡ padded_codes listed
-    → new ≡ padded_codes (listed ++ code ∷ [])
-one_filled_more old new listed count code room set n is =
-    let some : 16 - length listed ≡ suc (15 - length listed) = omega (arith, n, room) in
-    let less : 16 - length (listed ++ code ∷ []) ≡ 15 - length listed = omega (arith, length_push listed code) in
-    set ∙ ap (λ l. slice_set l count code) (is ∙ ap (λ k. listed ++ replicate k 0) some) ∙ ap (λ k. slice_set (listed ++ 0 ∷ replicate (15 - length listed) 0) k code) (sym n)
-    ∙ set_behind listed (replicate (15 - length listed) 0) code ∙ sym (append_assoc listed (code ∷ []) (replicate (15 - length listed) 0))
-    ∙ ap (λ k. (listed ++ code ∷ []) ++ replicate k 0) (sym less) where
-      -- the place after the elements `xs`, which has 0, is set to c
-      set_behind : (xs zs : List ℕ) (c : ℕ) → slice_set (xs ++ 0 ∷ zs) (length xs) c ≡ xs ++ c ∷ zs
-      set_behind [] zs c = refl
-      set_behind (x ∷ xs) zs c = ap (λ l. x ∷ l) (set_behind xs zs c)

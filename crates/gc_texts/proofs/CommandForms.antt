@@ -7,13 +7,9 @@ use Rattle.gc_texts.specs.Cuts.{Cuts}
 use Rattle.gc_texts.specs.LineForms.{is_kept, text_lines}
 use Rattle.gc_texts.specs.Procedures.{IsNumber, IsProcedure}
 use Rattle.gc_texts.specs.declared.commands.Command.{Command}
-use Rattle.gc_texts.proofs.Cutting.{cut_found, one_front, digits_lack_spaces}
+use Rattle.gc_texts.proofs.Cutting.{cut_found, one_front, digits_lack_spaces, some_injective}
 use Rattle.gc_texts.proofs.OneReading.{one_procedure, one_list}
 use Rattle.gc_texts.proofs.Procedures.{one_number}
-
--- equal texts within `Some` are equal
-some_injective : (a b : List ℕ) → Some a ≡ Some b → a ≡ b
-some_injective a b e = cc
 
 -- the parts of a line that has the form of a command
 module _ (line : List ℕ) (command : Command) (is : IsCommand line command) where

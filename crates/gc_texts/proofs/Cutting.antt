@@ -6,6 +6,10 @@ use Rattle.memchr.specs.Find.{IsFirstByte, is_byte}
 use Rattle.gc_values.specs.Digits.{AreDigits}
 use Rattle.gc_texts.specs.Cuts.{Lacks, Cuts}
 
+-- equal values within `Some` are equal
+pub some_injective : {A : Type 0} (a b : A) → Some a ≡ Some b → a ≡ b
+some_injective a b e = cc
+
 -- no byte before place i is the mark
 lacks_before : (mark : ℕ) (bs : List ℕ) (i : ℕ) → i ≤ length bs → ((j : ℕ) → j < i → get_or bs j 0 ≢ mark) → Lacks mark (take i bs)
 lacks_before mark bs zero le none = tt

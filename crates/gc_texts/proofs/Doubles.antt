@@ -1,5 +1,6 @@
 -- Texts that are no double, and doubles that are no place or no tolerance.
 use Rattle.std.proofs.Common.{◌≡◌, List, ℕ, Bool, true, false, Result, Ok, Err, sym, ap, ◌∙◌}
+use Rattle.std.proofs.lemmas.Bool.{both_ways}
 use Rattle.gc_values.specs.Directions.{is_place, is_tolerance}
 use Rattle.gc_values.specs.declared.decimal.Decimal.{Decimal}
 use Rattle.gc_values.specs.declared.fault.ValueFault.{ValueFault}
@@ -11,10 +12,6 @@ use Rattle.gc_texts.specs.declared.near.Near.{Near}
 pub no_double : (r : Result Decimal ValueFault) (e : ValueFault) (d : Decimal) → r ≡ Err e → r ≡ Ok d → ⊥
 no_double r e d failed read = let bad : ◌≡◌ {A = Result Decimal ValueFault} (Err e) (Ok d) = sym failed ∙ read in cc
 
--- no test is both true and false
-not_both_values : (b : Bool) → b ≡ true → b ≡ false → ⊥
-not_both_values b e f = let bad : true ≡ false = sym e ∙ f in cc
-
 -- what can't be of four words that say where a target is
 module _ (target hz v tolerance : List ℕ) (near : Near) (are : AreNearWords target hz v tolerance near) where
   -- where the numbers that two words write are no direction of a place, the four words say no place
@@ -22,9 +19,9 @@ module _ (target hz v tolerance : List ℕ) (near : Near) (are : AreNearWords ta
   no_place h w is_h is_w isnt =
       let one = spells_unique hz near.place.hz h are.hz_is is_h in
       let other = spells_unique v near.place.v w are.v_is is_w in
-      not_both_values (is_place near.place) are.place_is
-      (ap (λ x. is_place (record { hz = x; v = near.place.v })) one ∙ ap (λ x. is_place (record { hz = h; v = x })) other ∙ isnt)
+      both_ways (is_place near.place)
+      (ap (λ x. is_place (record { hz = x; v = near.place.v })) one ∙ ap (λ x. is_place (record { hz = h; v = x })) other ∙ isnt) are.place_is
 
   -- where the number that the last word writes is no tolerance, the four words say no place
   pub no_tolerance : (t : Decimal) → IsDouble tolerance t → is_tolerance t ≡ false → ⊥
-  no_tolerance t is isnt = not_both_values (is_tolerance near.tolerance) are.tolerance_in (ap is_tolerance (spells_unique tolerance near.tolerance t are.tolerance_is is) ∙ isnt)
+  no_tolerance t is isnt = both_ways (is_tolerance near.tolerance) (ap is_tolerance (spells_unique tolerance near.tolerance t are.tolerance_is is) ∙ isnt) are.tolerance_in

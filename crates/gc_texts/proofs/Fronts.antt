@@ -1,41 +1,36 @@
 -- What is before the first mark of a text, and what follows it. A mark is a byte, as LF or a space.
 use Rattle.std.proofs.Common.{◌≡◌, ◌≢◌, ℕ, ◌==◌, List, [], ◌∷◌, ◌++◌, Option, Some, None, false, inl, inr, refl, sym, ap, ◌∙◌}
-use Rattle.std.proofs.lemmas.Bool.{cond-true, cond-false, eq-eqb}
-use Rattle.std.proofs.lemmas.Bool.Decides.{eqb_tells}
+use Rattle.std.proofs.lemmas.Bool.{cond-true, cond-false, eq-eqb, ne_eqb}
 use Rattle.gc_texts.specs.Cuts.{Lacks, Cuts, before, behind}
-
--- a byte other than the mark tests as unequal to the mark
-not_mark : (b mark : ℕ) → b ≢ mark → (b == mark) ≡ false
-not_mark b mark other = elim (eqb_tells b mark) as (λ _. (b == mark) ≡ false) [ inl is ↦ absurd (other is.1) | inr is ↦ is.0 ]
 
 -- where a front has no mark, what is before the first mark is that front
 pub before_mark : (mark : ℕ) (front rest : List ℕ) → Lacks mark front → before mark (front ++ mark ∷ rest) ≡ front
 before_mark mark [] rest lacks = cond-true (mark == mark) [] (mark ∷ before mark rest) (eq-eqb mark mark refl)
 before_mark mark (b ∷ bs) rest lacks =
-    cond-false (b == mark) [] (b ∷ before mark (bs ++ mark ∷ rest)) (not_mark b mark lacks.0) ∙ ap (λ l. b ∷ l) (before_mark mark bs rest lacks.1)
+    cond-false (b == mark) [] (b ∷ before mark (bs ++ mark ∷ rest)) (ne_eqb b mark lacks.0) ∙ ap (λ l. b ∷ l) (before_mark mark bs rest lacks.1)
 
 -- where a front has no mark, what follows the first mark is the rest
 pub behind_mark : (mark : ℕ) (front rest : List ℕ) → Lacks mark front → behind mark (front ++ mark ∷ rest) ≡ rest
 behind_mark mark [] rest lacks = cond-true (mark == mark) rest (behind mark rest) (eq-eqb mark mark refl)
 behind_mark mark (b ∷ bs) rest lacks =
-    cond-false (b == mark) (bs ++ mark ∷ rest) (behind mark (bs ++ mark ∷ rest)) (not_mark b mark lacks.0) ∙ behind_mark mark bs rest lacks.1
+    cond-false (b == mark) (bs ++ mark ∷ rest) (behind mark (bs ++ mark ∷ rest)) (ne_eqb b mark lacks.0) ∙ behind_mark mark bs rest lacks.1
 
 -- of a text without the mark, all of it counts as before the first mark
 pub before_none : (mark : ℕ) (text : List ℕ) → Lacks mark text → before mark text ≡ text
 before_none mark [] lacks = refl
-before_none mark (b ∷ bs) lacks = cond-false (b == mark) [] (b ∷ before mark bs) (not_mark b mark lacks.0) ∙ ap (λ l. b ∷ l) (before_none mark bs lacks.1)
+before_none mark (b ∷ bs) lacks = cond-false (b == mark) [] (b ∷ before mark bs) (ne_eqb b mark lacks.0) ∙ ap (λ l. b ∷ l) (before_none mark bs lacks.1)
 
 -- of a text without the mark, nothing follows the first mark
 pub behind_none : (mark : ℕ) (text : List ℕ) → Lacks mark text → behind mark text ≡ []
 behind_none mark [] lacks = refl
-behind_none mark (b ∷ bs) lacks = cond-false (b == mark) bs (behind mark bs) (not_mark b mark lacks.0) ∙ behind_none mark bs lacks.1
+behind_none mark (b ∷ bs) lacks = cond-false (b == mark) bs (behind mark bs) (ne_eqb b mark lacks.0) ∙ behind_none mark bs lacks.1
 
 -- the front of a cut is what is before the first mark
 pub cut_before : (mark : ℕ) (text front : List ℕ) (rest : Option (List ℕ)) → Cuts mark text front rest → front ≡ before mark text
 cut_before mark text front None cut = sym (ap (before mark) cut.0 ∙ before_none mark front cut.1)
 cut_before mark text front (Some rest) cut = sym (ap (before mark) cut.0 ∙ before_mark mark front rest cut.1)
 
--- the text that there is, or the empty one
+-- the text in `Some`; the empty text for `None`
 abbrev pub unwrapped : Option (List ℕ) → List ℕ
 unwrapped None = []
 unwrapped (Some rest) = rest

@@ -1,5 +1,6 @@
 -- How far the chains of a text are laid out: which attempts were appended to the tasks before (`old`).
 use Rattle.std.proofs.Common.{◌≡◌, ◌<◌, ◌≤◌, ◌+◌, ◌-◌, ◌*◌, ℕ, zero, suc, Bool, true, false, get_or, take, drop, List, [], ◌∷◌, ◌++◌, length, map, arith, refl, ap, subst, sym, ◌∙◌, append_assoc, if◌then◌else◌}
+use Rattle.std.proofs.lemmas.List.{drop_all}
 use Rattle.gc_texts.specs.Again.{no_again}
 use Rattle.gc_texts.specs.Attempts.{in_attempt, attempts_from, attempts, laid_from, laid_out}
 use Rattle.gc_texts.specs.Retries.{no_retry}
@@ -51,12 +52,12 @@ pub record Lays (old now : List Task) (cycle : List Planned) (retry : Retry) (fr
 pub lays_none : (tasks : List Task) (cycle : List Planned) → Lays tasks tasks cycle no_retry 0 0
 lays_none tasks cycle = record { same = refl; order = omega arith; within = omega arith }
 
--- a place of a list has its element there, and the others after it
+-- the list from place i on is the element at place i, and then the list from the next place on
 drop_at : (xs : List Planned) (i : ℕ) (x : Planned) → i < length xs → x ≡ get_or xs i x → drop i xs ≡ x ∷ drop (i + 1) xs
 drop_at [] i x below is = absurd (omega (arith, below))
 drop_at (y ∷ xs) zero x below is = ap (λ z. z ∷ xs) (sym is)
 drop_at (y ∷ xs) (suc i) x below is = drop_at xs i x (omega (arith, below)) is ∙ ap (λ n. x ∷ drop n (y ∷ xs)) (next i) where
-  -- the place after the next
+  -- the place after i + 1, written in both ways
   next : (i : ℕ) → suc (i + 1) ≡ suc i + 1
   next i = omega arith
 
@@ -67,27 +68,28 @@ take_next [] (suc n) x rest is = cc
 take_next (y ∷ xs) zero x rest is = let same : y ≡ x = cc in ap (λ z. z ∷ []) same
 take_next (y ∷ xs) (suc n) x rest is = ap (λ zs. y ∷ zs) (take_next xs n x rest is)
 
--- an empty list is empty without elements, too
+-- an empty list without its first n elements is empty
 drop_empty : (n : ℕ) → drop {A = Planned} n [] ≡ []
 drop_empty zero = refl
 drop_empty (suc n) = refl
 
--- without m elements, and then without n more, a list is without all of them
+-- a list without its first m elements, and then without n more, is without its first m + n
 drop_both : (xs : List Planned) (m n : ℕ) → drop n (drop m xs) ≡ drop (m + n) xs
 drop_both xs zero n = ap (λ k. drop k xs) (omega arith)
 drop_both [] (suc m) n = drop_empty n ∙ sym (drop_empty (suc m + n))
 drop_both (x ∷ xs) (suc m) n = drop_both xs m n ∙ ap (λ k. drop k (x ∷ xs)) (sum m n) where
-  -- the same sum
+  -- 1 added to a sum may be added to its first number
   sum : (m n : ℕ) → suc (m + n) ≡ suc m + n
   sum m n = omega arith
 
 module _ (old now : List Task) (cycle : List Planned) (retry : Retry) (from place : ℕ) (planned : Planned) (h : Lays old now cycle retry from place) (below : place < length cycle)
     (is : planned ≡ get_or cycle place planned) where
-  -- what is left begins with the command
+  -- the commands that are left begin with this one
   left_is : drop place cycle ≡ planned ∷ drop (place + 1) cycle
   left_is = drop_at cycle place planned below is
 
-  -- with it, what was begun and what is left
+  -- the tasks of all chains are those appended (`now`) and those of the chains left, where the command goes on with the chain that was
+  -- begun (`b`), or begins the next
   same_with : (b : Bool) → planned.task.chained ≡ b
       → old ++ laid_out cycle
       ≡ now ++ (if b then laid_from retry (part_of cycle from place ++ planned ∷ []) (drop (place + 1) cycle) else attempts retry (part_of cycle from place)
@@ -125,15 +127,8 @@ module _ (old now : List Task) (cycle : List Planned) (retry : Retry) (from plac
         within = omega (arith, below);
       }
 
--- nothing is left after all elements
-none_left : (xs : List Planned) (i : ℕ) → length xs ≤ i → drop i xs ≡ []
-none_left [] zero few = refl
-none_left [] (suc i) few = refl
-none_left (x ∷ xs) zero few = absurd (omega (arith, few))
-none_left (x ∷ xs) (suc i) few = none_left xs i (omega (arith, few))
-
 -- after the last command the last chain was appended
 pub lays_last : (old now new : List Task) (cycle : List Planned) (retry : Retry) (from place : ℕ) → Lays old now cycle retry from place → length cycle ≤ place
     → new ≡ now ++ attempts retry (part_of cycle from place) → new ≡ old ++ laid_out cycle
 lays_last old now new cycle retry from place h done more =
-    more ∙ ap (λ l. now ++ laid_from retry (part_of cycle from place) l) (sym (none_left cycle place done)) ∙ sym h.same
+    more ∙ ap (λ l. now ++ laid_from retry (part_of cycle from place) l) (sym (drop_all place cycle done)) ∙ sym h.same

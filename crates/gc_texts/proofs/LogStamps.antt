@@ -11,13 +11,13 @@ use Rattle.std.proofs.lemmas.Bool.{cond_both, ltb-true, and_parts}
 use Rattle.std.proofs.lemmas.List.Elements.{recursion_from_All, All-from_recursion, All-append}
 use Rattle.gc_texts.specs.Cuts.{Lacks}
 use Rattle.gc_texts.specs.Laws.{LogLinesReadBack, LogLinesArePrintable}
-use Rattle.gc_texts.specs.Logs.{mark_text, is_as_it_is, hex_digit, escape, escaped}
+use Rattle.gc_texts.specs.Logs.{mark_text, is_unescaped, hex_digit, escape, escaped}
 use Rattle.gc_texts.specs.Stamps.{next_day, days_after, date_of, month_days, two_digits, three_digits, date_text, time_text, stamp_text}
 use Rattle.gc_texts.specs.declared.log_line.LogMark.{LogMark}
 use Rattle.gc_texts.specs.declared.log_line.LogMark.TheVariants.{Went, WentPart, Came, CamePart, Link}
 use Rattle.gc_texts.specs.declared.stamp.Date.{Date}
 use Rattle.gc_texts.proofs.Dates.{few_days}
-use Rattle.gc_texts.proofs.Logs.{one_reading}
+use Rattle.gc_texts.proofs.Logs.{high_digit_small, one_reading}
 
 -- a byte of a moment: printable, and no space
 record IsInk (b : ℕ) : Type 0 where
@@ -58,10 +58,10 @@ ink_append : (xs ys : List ℕ) → All IsInk xs → All IsInk ys → All IsInk 
 ink_append xs ys = All-append IsInk xs ys
 
 -- the month of a date is at most 12, its day at most 31, and its year at most `year`
-record IsWithin (d : Date) (year : ℕ) : Type 0 where
-  month : d.month ≤ 12
-  day : d.day ≤ 31
-  years : d.year ≤ year
+pub record IsWithin (d : Date) (year : ℕ) : Type 0 where
+  pub month : d.month ≤ 12
+  pub day : d.day ≤ 31
+  pub years : d.year ≤ year
 
 -- where a date's year is at most `year`, the next day's is at most `year + 1`; its month and day keep their bounds
 next_within : (d : Date) (year : ℕ) → IsWithin d year → IsWithin (next_day d) (suc year)
@@ -80,7 +80,7 @@ later_within (suc n) d year h = let e : year + suc n ≡ suc year + n = omega ar
     subst (IsWithin (days_after n (next_day d))) (sym e) (later_within n (next_day d) (suc year) (next_within d year h))
 
 -- the date n days after 1 January 1970 has a year of at most 1970 + n, and a month and a day within bounds
-date_within : (n : ℕ) → IsWithin (date_of n) (1970 + n)
+pub date_within : (n : ℕ) → IsWithin (date_of n) (1970 + n)
 date_within n = later_within n (record { year = 1970; month = 1; day = 1 }) 1970 (record { month = omega arith; day = omega arith; years = omega arith })
 
 -- the text of a date is printable, without a space
@@ -136,22 +136,18 @@ digit_ink : (n : ℕ) → n < 16 → IsShown (hex_digit n)
 digit_ink n h = cond_both (nat_lt n 10) (48 + n) (87 + n) IsShown (λ e. (omega (arith, h), omega (arith, h))) (λ e. (omega (arith, h), omega (arith, h)))
 
 -- a byte that a log writes as it is, is printable
-as_it_is_prints : (b : ℕ) → is_as_it_is b ≡ true → IsShown b
+as_it_is_prints : (b : ℕ) → is_unescaped b ≡ true → IsShown b
 as_it_is_prints b e =
     let bounds = and_parts (nat_lt 31 b) (nat_lt b 127) (and_parts (nat_lt 31 b && nat_lt b 127) (not (b == 92)) e).0 in
     (omega (arith, ltb-true 31 b bounds.0), omega (arith, ltb-true b 127 bounds.1))
 
--- the first of a byte's two digits of base 16 is below 16
-high_digit : (b : ℕ) → b < 256 → b / 16 < 16
-high_digit b h = omega (arith, h, div-add-mod b 16)
-
 -- the escaped form of a byte is printable
 escape_prints : (b : ℕ) → b < 256 → All IsShown (escape b)
 escape_prints b h =
-    cond_both (is_as_it_is b) (b ∷ []) (92 ∷ 120 ∷ hex_digit (b / 16) ∷ hex_digit (b % 16) ∷ []) (All IsShown)
+    cond_both (is_unescaped b) (b ∷ []) (92 ∷ 120 ∷ hex_digit (b / 16) ∷ hex_digit (b % 16) ∷ []) (All IsShown)
     (λ e. All-from_recursion IsShown (b ∷ []) (as_it_is_prints b e, tt))
     (λ _. All-from_recursion IsShown (92 ∷ 120 ∷ hex_digit (b / 16) ∷ hex_digit (b % 16) ∷ [])
-    ((omega arith, omega arith), ((omega arith, omega arith), (digit_ink (b / 16) (high_digit b h), (digit_ink (b % 16) (omega arith), tt)))))
+    ((omega arith, omega arith), ((omega arith, omega arith), (digit_ink (b / 16) (high_digit_small b h), (digit_ink (b % 16) (omega arith), tt)))))
 
 -- the escaped form of bytes is printable
 pub escaped_prints : (bs : List ℕ) → AllByRecursion (λ b. b < 256) bs → All IsShown (escaped bs)

@@ -7,10 +7,10 @@ use Rattle.std.proofs.Math.Nat.{div-add-mod}
 use Rattle.std.proofs.lemmas.Bool.{cond_both, eqb-true, ltb-true, ltb-false}
 use Rattle.std.proofs.lemmas.List.Elements.{recursion_from_All}
 use Rattle.gc_texts.specs.Cuts.{Lacks, Cuts}
-use Rattle.gc_texts.specs.Logs.{mark_text, is_as_it_is, hex_digit, escape, escaped, IsPrintable, IsLogLine}
+use Rattle.gc_texts.specs.Logs.{mark_text, is_unescaped, hex_digit, escape, escaped, IsPrintable, IsLogLine}
 use Rattle.gc_texts.specs.declared.log_line.LogMark.{LogMark}
 use Rattle.gc_texts.specs.declared.log_line.LogMark.TheVariants.{Went, WentPart, Came, CamePart, Link}
-use Rattle.gc_texts.proofs.Cutting.{cut_found, one_front}
+use Rattle.gc_texts.proofs.Cutting.{cut_found, one_front, some_injective}
 
 -- a byte is a number below 256
 abbrev IsByte : ℕ → Type 0
@@ -18,17 +18,17 @@ IsByte b = b < 256
 
 -- a byte's text is it alone, or `\x` and its digits
 data IsEscape (b : ℕ) (text : List ℕ) : Type 0 where
-  as_it_is : is_as_it_is b ≡ true → text ≡ b ∷ [] → IsEscape b text
-  as_digits : is_as_it_is b ≡ false → text ≡ 92 ∷ 120 ∷ hex_digit (b / 16) ∷ hex_digit (b % 16) ∷ [] → IsEscape b text
+  as_it_is : is_unescaped b ≡ true → text ≡ b ∷ [] → IsEscape b text
+  as_digits : is_unescaped b ≡ false → text ≡ 92 ∷ 120 ∷ hex_digit (b / 16) ∷ hex_digit (b % 16) ∷ [] → IsEscape b text
 
 -- the text that is chosen by whether a byte is written as it is (`test`) is one of the byte's two forms
-escapes_at : (b : ℕ) (test : Bool) → is_as_it_is b ≡ test → IsEscape b (cond test (b ∷ []) (92 ∷ 120 ∷ hex_digit (b / 16) ∷ hex_digit (b % 16) ∷ []))
+escapes_at : (b : ℕ) (test : Bool) → is_unescaped b ≡ test → IsEscape b (cond test (b ∷ []) (92 ∷ 120 ∷ hex_digit (b / 16) ∷ hex_digit (b % 16) ∷ []))
 escapes_at b true is = as_it_is is refl
 escapes_at b false is = as_digits is refl
 
 -- the escaped form of a byte is that byte, or `\x` and its two digits
 escapes : (b : ℕ) → IsEscape b (escape b)
-escapes b = escapes_at b (is_as_it_is b) refl
+escapes b = escapes_at b (is_unescaped b) refl
 
 -- a digit of base 16 below 10 is written 0 to 9, the codes from 48 on
 low_digit : (n : ℕ) → n < 10 → hex_digit n ≡ 48 + n
@@ -47,12 +47,12 @@ one_value m n same small few =
     same
 
 -- a byte that is written as it is isn't the backslash
-not_a_backslash : (b : ℕ) → is_as_it_is b ≡ true → b ≡ 92 → ⊥
-not_a_backslash b is e = let bad : false ≡ true = subst (λ x. is_as_it_is x ≡ true) e is in cc
+not_a_backslash : (b : ℕ) → is_unescaped b ≡ true → b ≡ 92 → ⊥
+not_a_backslash b is e = let bad : false ≡ true = subst (λ x. is_unescaped x ≡ true) e is in cc
 
 -- the first of a byte's two digits of base 16 is below 16
-small_high : (b : ℕ) → b < 256 → b / 16 < 16
-small_high b h = omega (arith, h, div-add-mod b 16)
+pub high_digit_small : (b : ℕ) → b < 256 → b / 16 < 16
+high_digit_small b h = omega (arith, h, div-add-mod b 16)
 
 -- the second of a byte's two digits of base 16 is below 16
 small_low : (b : ℕ) → b % 16 < 16
@@ -73,7 +73,7 @@ one_byte b c s t xs ys small few (as_digits is so) (as_digits was to) e =
     let same : 92 ∷ 120 ∷ hex_digit (b / 16) ∷ hex_digit (b % 16) ∷ xs ≡ 92 ∷ 120 ∷ hex_digit (c / 16) ∷ hex_digit (c % 16) ∷ ys = sym (ap (λ z. z ++ xs) so) ∙ e ∙ ap (λ z. z ++ ys) to in
     let highs : hex_digit (b / 16) ≡ hex_digit (c / 16) = cc in
     let lows : hex_digit (b % 16) ≡ hex_digit (c % 16) = cc in
-    let high = one_value (b / 16) (c / 16) highs (small_high b small) (small_high c few) in
+    let high = one_value (b / 16) (c / 16) highs (high_digit_small b small) (high_digit_small c few) in
     let low = one_value (b % 16) (c % 16) lows (small_low b) (small_low c) in
     (omega (arith, high, low, div-add-mod b 16, div-add-mod c 16), cc)
 
@@ -105,12 +105,12 @@ pub record ReadsBytes (text bytes left : List ℕ) : Type 0 where
   pub are : All IsByte bytes
 
 -- a list whose length isn't 0 isn't empty
-pub is_left : (left : List ℕ) → false ≡ (length left == 0) → left ≢ []
-is_left left some none = let bad : false ≡ true = some ∙ ap (λ l. length l == 0) none in cc
+pub left_not_empty : (left : List ℕ) → false ≡ (length left == 0) → left ≢ []
+left_not_empty left some none = let bad : false ≡ true = some ∙ ap (λ l. length l == 0) none in cc
 
 -- a number that the test says is 514 is at least 514
-pub are_many : (n : ℕ) → true ≡ (n == 514) → 514 ≤ n
-are_many n full = omega (arith, eqb-true n 514 (sym full))
+pub full_is_514 : (n : ℕ) → true ≡ (n == 514) → 514 ≤ n
+full_is_514 n full = omega (arith, eqb-true n 514 (sym full))
 
 -- a text that isn't empty, and doesn't begin with an escaped byte, isn't the escaped form of any bytes
 no_more : (left more : List ℕ) → left ≢ [] → ((b : ℕ) (rest : List ℕ) → b < 256 → left ≡ escape b ++ rest → ⊥) → AllByRecursion IsByte more → left ≡ escaped more → ⊥
@@ -142,8 +142,8 @@ none_left xs ys [] joins so = sym (joins ∙ append-nil xs)
 none_left xs ys (b ∷ bs) joins so = absurd (escape_not_empty b (escape b) (escaped bs) (escapes b) (sym so))
 
 -- two lists of bytes with the same escaped form are the same
-pub one_text : (xs ys : List ℕ) → All IsByte xs → All IsByte ys → escaped xs ≡ escaped ys → xs ≡ ys
-one_text xs ys h j e =
+pub escaped_injective : (xs ys : List ℕ) → All IsByte xs → All IsByte ys → escaped xs ≡ escaped ys → xs ≡ ys
+escaped_injective xs ys h j e =
     let k = behind_bytes xs [] ys (recursion_from_All IsByte xs h) (recursion_from_All IsByte ys j) (append-nil (escaped xs) ∙ e) in
     none_left xs ys k.more k.joins k.so
 
@@ -154,10 +154,6 @@ mark_lacks WentPart = ((λ e. absurd (omega (arith, e))), ((λ e. absurd (omega 
 mark_lacks Came = ((λ e. absurd (omega (arith, e))), tt)
 mark_lacks CamePart = ((λ e. absurd (omega (arith, e))), ((λ e. absurd (omega (arith, e))), tt))
 mark_lacks Link = ((λ e. absurd (omega (arith, e))), tt)
-
--- equal texts within `Some` are equal
-some_is : (a b : List ℕ) → Some a ≡ Some b → a ≡ b
-some_is a b e = cc
 
 module _ (line front : List ℕ) (rest : Option (List ℕ)) (cut : Cuts 32 line front rest) (moment : List ℕ) (mark : LogMark) (bytes : List ℕ) (is : IsLogLine line moment mark bytes) where
   -- the moment is before the first space
@@ -170,7 +166,7 @@ module _ (line front : List ℕ) (rest : Option (List ℕ)) (cut : Cuts 32 line 
 
   -- the mark is before the second space
   second_word : (behind word : List ℕ) (text : Option (List ℕ)) → rest ≡ Some behind → Cuts 32 behind word text → (word ≡ mark_text mark) × (text ≡ Some (escaped bytes))
-  second_word behind word text so next = cut_found 32 behind word text (mark_text mark) (escaped bytes) next (some_is behind _ (sym so ∙ first_word.1)) (mark_lacks mark)
+  second_word behind word text so next = cut_found 32 behind word text (mark_text mark) (escaped bytes) next (some_injective behind _ (sym so ∙ first_word.1)) (mark_lacks mark)
 
   -- a line without a space is no log line
   pub no_moment : rest ≡ None → ⊥
@@ -187,7 +183,7 @@ module _ (line front : List ℕ) (rest : Option (List ℕ)) (cut : Cuts 32 line 
   -- a line whose text after the mark isn't the escaped form of any bytes, 514 at most, is no log line
   pub other_bytes : (behind word text : List ℕ) → rest ≡ Some behind → Cuts 32 behind word (Some text) → length bytes ≤ 514
       → ((all : List ℕ) → length all ≤ 514 → All IsByte all → text ≡ escaped all → ⊥) → ⊥
-  other_bytes behind word text so next room none = none bytes room is.are_bytes (some_is text (escaped bytes) (second_word behind word (Some text) so next).1)
+  other_bytes behind word text so next room none = none bytes room is.are_bytes (some_injective text (escaped bytes) (second_word behind word (Some text) so next).1)
 
 -- one of two marks by the text after a mark's first byte: `whole` where there is none, else `part`
 by_end : List ℕ → LogMark → LogMark → LogMark
@@ -218,4 +214,4 @@ pub one_reading : (text : List ℕ) (m k : List ℕ) (a b : LogMark) (xs ys : Li
 one_reading text m k a b xs ys one other =
     let first = one_front 32 m k (mark_text a ++ 32 ∷ escaped xs) (mark_text b ++ 32 ∷ escaped ys) (sym one.is ∙ other.is) one.one_word other.one_word in
     let second = one_front 32 (mark_text a) (mark_text b) (escaped xs) (escaped ys) first.1 (mark_lacks a) (mark_lacks b) in
-    (first.0, one_mark a b second.0, one_text xs ys one.are_bytes other.are_bytes second.1)
+    (first.0, one_mark a b second.0, escaped_injective xs ys one.are_bytes other.are_bytes second.1)

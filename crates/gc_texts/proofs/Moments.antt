@@ -24,9 +24,9 @@ three_digits_are a b c h k =
 
 -- the text of a time of day, given in milliseconds, is its hours, minutes, seconds and milliseconds, with colons (58) and a
 -- point (46) between them
-time : (hours minutes seconds more : ℕ) → minutes < 60 → seconds < 60 → more < 1000
+time_is : (hours minutes seconds more : ℕ) → minutes < 60 → seconds < 60 → more < 1000
     → time_text (hours * 3600000 + minutes * 60000 + seconds * 1000 + more) ≡ two_digits hours ++ 58 ∷ (two_digits minutes ++ 58 ∷ (two_digits seconds ++ 46 ∷ three_digits more))
-time hours minutes seconds more m s k =
+time_is hours minutes seconds more m s k =
     let n = hours * 3600000 + minutes * 60000 + seconds * 1000 + more in
     let a : n / 3600000 ≡ hours = omega (arith, m, s, k, div-add-mod n 3600000) in
     let b1 : n / 60000 ≡ hours * 60 + minutes = omega (arith, s, k, div-add-mod n 60000) in
@@ -44,26 +44,26 @@ abbrev stamp_of : List ℕ → List ℕ → List ℕ
 stamp_of date time = date ++ codes "T" ++ time ++ codes "Z"
 
 -- the stamp of a moment is its date, and its hour, minute, second and millisecond in two, two, two and three digits
-moment : (days hours minutes seconds more : ℕ) → hours < 24 → minutes < 60 → seconds < 60 → more < 1000
+stamp_is : (days hours minutes seconds more : ℕ) → hours < 24 → minutes < 60 → seconds < 60 → more < 1000
     → stamp_text (millis_of days hours minutes seconds more)
     ≡ date_text (date_of days) ++ codes "T" ++ (two_digits hours ++ codes ":" ++ two_digits minutes ++ codes ":" ++ two_digits seconds ++ codes "." ++ three_digits more) ++ codes "Z"
-moment days hours minutes seconds more h m s k =
+stamp_is days hours minutes seconds more h m s k =
     let n = millis_of days hours minutes seconds more in
     let day : n / 86400000 ≡ days = omega (arith, h, m, s, k, div-add-mod n 86400000) in
     let rest : n % 86400000 ≡ hours * 3600000 + minutes * 60000 + seconds * 1000 + more = omega (arith, h, m, s, k, div-add-mod n 86400000) in
     ap (λ x. stamp_of (date_text (date_of x)) (time_text (n % 86400000))) day
-    ∙ ap (λ x. stamp_of (date_text (date_of days)) x) (ap time_text rest ∙ time hours minutes seconds more m s k)
+    ∙ ap (λ x. stamp_of (date_text (date_of days)) x) (ap time_text rest ∙ time_is hours minutes seconds more m s k)
 
 -- the date of day `days + 1` is the day after the date of day `days`
-next : (days : ℕ) → date_of (days + 1) ≡ next_day (date_of days)
+next_date : (days : ℕ) → date_of (days + 1) ≡ next_day (date_of days)
 unfolding days_after
-next days = days_sum days 1 (record { year = 1970; month = 1; day = 1 })
+next_date days = days_sum days 1 (record { year = 1970; month = 1; day = 1 })
 
 -- the date of day 0 is 1 January 1970
-first : date_of 0 ≡ record { year = 1970; month = 1; day = 1 }
+first_date : date_of 0 ≡ record { year = 1970; month = 1; day = 1 }
 unfolding days_after
-first = refl
+first_date = refl
 
 -- the law: the text of a stamp reads as its moment
 pub are_moments : StampsAreMoments
-are_moments = record { moment = moment; two = two_digits_are; three = three_digits_are; first = first; next = next }
+are_moments = record { moment = stamp_is; two = two_digits_are; three = three_digits_are; first = first_date; next = next_date }

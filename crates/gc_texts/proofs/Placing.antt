@@ -1,12 +1,12 @@
 -- Where targets are, as lines of a text say it, and what follows for the tasks of a target and for an answer.
 use Rattle.std.proofs.Common.{◌≡◌, ℕ, zero, suc, ◌+◌, take, drop, ◌<◌, get_or, slice_set, arith, ◌==◌, ◌&&◌, not, nat_lt, List, [], ◌∷◌, ◌++◌, length, map, Option, Some, None, Bool, true, false, cond, refl, sym, ap, ◌∙◌, subst, append_assoc, append-nil}
-use Rattle.std.proofs.lemmas.Bool.{eq-eqb, and_parts, or_parts}
+use Rattle.std.proofs.lemmas.Bool.{eq-eqb, and_parts, or_parts, not-true, not-false}
 use Rattle.gc_catalogue.specs.declared.answer.Answer.{Answer}
 use Rattle.gc_values.specs.Directions.{is_near, IsNear}
 use Rattle.gc_values.specs.declared.direction.Direction.{Direction}
 use Rattle.gc_values.proofs.NearLemmas.{near_is_within}
 use Rattle.gc_texts.specs.Chained.{PlacesHoldForAll}
-use Rattle.gc_texts.specs.Nears.{is_said, near_of, direction_of, is_away, is_elsewhere}
+use Rattle.gc_texts.specs.Nears.{has_near, near_of, direction_of, is_away, is_elsewhere}
 use Rattle.gc_texts.specs.Tasks.{opening, tasks_of, name_at, near_at, nears_of, placed, MayFollow}
 use Rattle.gc_texts.specs.declared.name.Name.{Name}
 use Rattle.gc_texts.specs.declared.near.Near.{Near}
@@ -14,25 +14,20 @@ use Rattle.gc_texts.specs.declared.task_line.TaskLine.{TaskLine}
 use Rattle.gc_texts.specs.declared.task_line.TaskLine.TheVariants as says
 use Rattle.gc_texts.specs.declared.tasks.Task.{Task}
 
--- where `not b` is true, b is false
-not_true : (b : Bool) → not b ≡ true → b ≡ false
-not_true true e = cc
-not_true false e = refl
-
 -- where each line of a text may follow those before it, and one of them says where a target is, no line before it says where
 -- that target is
-unsaid : (names : List Name) (nears : List Near) (front later : List TaskLine) (near : Near) → MayFollow names nears (front ++ says.Standing near ∷ later)
-    → is_said near.target (nears ++ nears_of front) ≡ false
-unsaid names nears [] later near follow =
-    ap (is_said near.target) (append-nil nears) ∙ not_true (is_said near.target nears) (and_parts (nat_lt (length nears) 64) (not (is_said near.target nears)) follow.0).1
-unsaid names nears (line ∷ front) later near follow =
-    ap (is_said near.target) (sym (append_assoc nears (near_at line) (nears_of front))) ∙ unsaid (names ++ name_at line) (nears ++ near_at line) front later near follow.1
+no_place_before : (names : List Name) (nears : List Near) (front later : List TaskLine) (near : Near) → MayFollow names nears (front ++ says.Locating near ∷ later)
+    → has_near near.target (nears ++ nears_of front) ≡ false
+no_place_before names nears [] later near follow =
+    ap (has_near near.target) (append-nil nears) ∙ not-true (has_near near.target nears) (and_parts (nat_lt (length nears) 64) (not (has_near near.target nears)) follow.0).1
+no_place_before names nears (line ∷ front) later near follow =
+    ap (has_near near.target) (sym (append_assoc nears (near_at line) (nears_of front))) ∙ no_place_before (names ++ name_at line) (nears ++ near_at line) front later near follow.1
 
 -- where none of `nears` is a target's place, and the next place is that target's, that is the place that is found
-found_near : (nears others : List Near) (near : Near) → is_said near.target nears ≡ false → near_of near.target (nears ++ near ∷ others) ≡ Some near
-found_near [] others near unsaid = ap (λ b. cond b (Some near) (near_of near.target others)) (eq-eqb near.target near.target refl)
-found_near (n ∷ nears) others near unsaid =
-    let apart = or_parts (n.target == near.target) (is_said near.target nears) unsaid in
+found_near : (nears others : List Near) (near : Near) → has_near near.target nears ≡ false → near_of near.target (nears ++ near ∷ others) ≡ Some near
+found_near [] others near no_place_before = ap (λ b. cond b (Some near) (near_of near.target others)) (eq-eqb near.target near.target refl)
+found_near (n ∷ nears) others near no_place_before =
+    let apart = or_parts (n.target == near.target) (has_near near.target nears) no_place_before in
     ap (λ b. cond b (Some n) (near_of near.target (nears ++ near ∷ others))) apart.0 ∙ found_near nears others near apart.1
 
 -- the lines `xs` and then `ys` give the places of `xs`, and after them those of `ys`
@@ -49,33 +44,28 @@ tail_same : (t u : Task) (ts us : List Task) → ◌≡◌ {A = List Task} (t �
 tail_same t u ts us e = cc
 
 -- once all tasks were given their places, each has the place of its target, if there is one
-placed_so : (nears : List Near) (tasks earlier others : List Task) (task : Task) → map (placed nears) tasks ≡ earlier ++ task ∷ others → task.near ≡ near_of task.command.target nears
-placed_so nears [] [] others task e = cc
-placed_so nears [] (t ∷ ts) others task e = cc
-placed_so nears (t ∷ tasks) [] others task e =
+each_has_its_place : (nears : List Near) (tasks earlier others : List Task) (task : Task) → map (placed nears) tasks ≡ earlier ++ task ∷ others → task.near ≡ near_of task.command.target nears
+each_has_its_place nears [] [] others task e = cc
+each_has_its_place nears [] (t ∷ ts) others task e = cc
+each_has_its_place nears (t ∷ tasks) [] others task e =
     let same = head_same (placed nears t) task (map (placed nears) tasks) others e in
     ap (λ (u : Task). u.near) (sym same) ∙ ap (λ (u : Task). near_of u.command.target nears) same
-placed_so nears (t ∷ tasks) (u ∷ earlier) others task e =
-    placed_so nears tasks earlier others task (tail_same (placed nears t) u (map (placed nears) tasks) (earlier ++ task ∷ others) e)
+each_has_its_place nears (t ∷ tasks) (u ∷ earlier) others task e =
+    each_has_its_place nears tasks earlier others task (tail_same (placed nears t) u (map (placed nears) tasks) (earlier ++ task ∷ others) e)
 
 -- the law: a place holds for all commands of its target
 pub places_hold : PlacesHoldForAll
 places_hold text deadline chained setup tasks names nears is front later near at earlier others task among same =
-    let follow : MayFollow [] [] (front ++ says.Standing near ∷ later) = subst (λ said. MayFollow [] [] said) at is.lines.follow in
-    let all : nears ≡ nears_of front ++ near ∷ nears_of later = is.nears_are ∙ ap nears_of at ∙ nears_both front (says.Standing near ∷ later) in
-    placed_so nears (tasks_of (opening deadline chained) is.said) earlier others task (sym is.tasks_are ∙ among)
-    ∙ ap (λ t. near_of t nears) same ∙ ap (near_of near.target) all ∙ found_near (nears_of front) (nears_of later) near (unsaid [] [] front later near follow)
-
--- where `not b` is false, b is true
-double_not : (b : Bool) → not b ≡ false → b ≡ true
-double_not true e = refl
-double_not false e = cc
+    let follow : MayFollow [] [] (front ++ says.Locating near ∷ later) = subst (λ said. MayFollow [] [] said) at is.lines.follow in
+    let all : nears ≡ nears_of front ++ near ∷ nears_of later = is.nears_are ∙ ap nears_of at ∙ nears_both front (says.Locating near ∷ later) in
+    each_has_its_place nears (tasks_of (opening deadline chained) is.said) earlier others task (sym is.tasks_are ∙ among)
+    ∙ ap (λ t. near_of t nears) same ∙ ap (near_of near.target) all ∙ found_near (nears_of front) (nears_of later) near (no_place_before [] [] front later near follow)
 
 -- an answer that isn't elsewhere, and has a direction, has one that is near its target's place
 pub near_unless_elsewhere : (near : Near) (answer : Answer) (d : Direction) → is_elsewhere (Some near) answer ≡ false → direction_of answer ≡ Some d → IsNear d near.place near.tolerance
 unfolding is_elsewhere
 near_unless_elsewhere near answer d isnt has =
-    (near_is_within d near.place near.tolerance).0 (double_not (is_near d near.place near.tolerance) (ap (is_away near) (sym has) ∙ isnt))
+    (near_is_within d near.place near.tolerance).0 (not-false (is_near d near.place near.tolerance) (ap (is_away near) (sym has) ∙ isnt))
 
 -- the tasks, when the loop has given the first i of them their places, and the others none yet
 abbrev halfway : List Near → ℕ → List Task → List Task
@@ -108,5 +98,5 @@ elsewhere_is (Some near) answer away = by_direction (direction_of answer) refl w
       → (n : Near) × (d : Direction) × (Some near ≡ Some n) × (direction_of answer ≡ Some d) × (IsNear d n.place n.tolerance → ⊥)
   by_direction None has = let bad : false ≡ true = ap (is_away near) (sym has) ∙ away in cc
   by_direction (Some d) has =
-      let isnt : is_near d near.place near.tolerance ≡ false = not_true (is_near d near.place near.tolerance) (ap (is_away near) (sym has) ∙ away) in
+      let isnt : is_near d near.place near.tolerance ≡ false = not-true (is_near d near.place near.tolerance) (ap (is_away near) (sym has) ∙ away) in
       (near, d, refl, has, λ is. let bad : true ≡ false = sym ((near_is_within d near.place near.tolerance).1 is) ∙ isnt in cc)

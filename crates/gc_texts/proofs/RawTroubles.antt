@@ -17,9 +17,9 @@ use Rattle.gc_texts.specs.declared.trouble.Trouble.{Trouble}
 use Rattle.gc_texts.specs.declared.trouble.Trouble.TheVariants as trouble
 
 -- the law: the name that is printed of a procedure's number is the catalogue's
-pub names_are : NamesAreTheCatalogues
-names_are NullProc = refl
-names_are call = refl
+pub printed_names_are : NamesAreTheCatalogues
+printed_names_are NullProc = refl
+printed_names_are call = refl
 
 -- no name is found of a number that no procedure has
 pub no_name : (calls : List Call) (rpc : ℕ) → IsNoProcedure rpc → name_among calls rpc ≡ []
@@ -28,8 +28,8 @@ no_name (call ∷ calls) rpc none =
     ap (λ b. cond b (call_name call) (name_among calls rpc)) (ne_eqb (call_fields call).number rpc (none call)) ∙ no_name calls rpc none
 
 -- where `name` is the name of each call with this number, and some call has it, `name` is what is found of the number
-pub named : (rpc : ℕ) (name : List ℕ) → ((call : Call) → (call_fields call).number ≡ rpc → name ≡ call_name call) → IsProcedure rpc → name ≡ name_of rpc
-named rpc name each is = each is.0 is.1 ∙ sym (names_are is.0) ∙ ap name_of is.1
+pub name_found : (rpc : ℕ) (name : List ℕ) → ((call : Call) → (call_fields call).number ≡ rpc → name ≡ call_name call) → IsProcedure rpc → name ≡ name_of rpc
+name_found rpc name each is = each is.0 is.1 ∙ sym (printed_names_are is.0) ∙ ap name_of is.1
 
 -- a line whose second word is `raw`
 module _ (line : List ℕ) (word : IsRawLine line) where
@@ -49,11 +49,11 @@ module _ (line : List ℕ) (word : IsRawLine line) where
       subst (IsAskingTrouble line) (sym told) (inr (inr (record { word = word; rpc = rpc; number = number; is = inr (may, refl) })))
 
 -- what is at fault after the word `raw` is reported of equal words and of equal parameters
-pub same_words : (word other params others : List ℕ) (t : Trouble) → word ≡ other → params ≡ others → IsRawWordsTrouble word params t → IsRawWordsTrouble other others t
-same_words word other params others t e f is = subst (λ (w : List ℕ). IsRawWordsTrouble w others t) e (subst (λ (p : List ℕ). IsRawWordsTrouble word p t) f is)
+pub same_raw_trouble : (word other params others : List ℕ) (t : Trouble) → word ≡ other → params ≡ others → IsRawWordsTrouble word params t → IsRawWordsTrouble other others t
+same_raw_trouble word other params others t e f is = subst (λ (w : List ℕ). IsRawWordsTrouble w others t) e (subst (λ (p : List ℕ). IsRawWordsTrouble word p t) f is)
 
--- the line that names a procedure of the table, its line feed within the last text or after it
-pub with_feed : (rpc name : List ℕ) → rpc ++ (codes " is " ++ (name ++ codes ": leave out raw\n")) ≡ (((rpc ++ codes " is ") ++ name) ++ codes ": leave out raw") ++ codes "\n"
-with_feed rpc name =
+-- the line that names a procedure of the table is the same with its line feed within the last text and after it
+pub in_table_line : (rpc name : List ℕ) → rpc ++ (codes " is " ++ (name ++ codes ": leave out raw\n")) ≡ (((rpc ++ codes " is ") ++ name) ++ codes ": leave out raw") ++ codes "\n"
+in_table_line rpc name =
     sym (append_assoc ((rpc ++ codes " is ") ++ name) (codes ": leave out raw") (codes "\n")
     ∙ append_assoc (rpc ++ codes " is ") name (codes ": leave out raw\n") ∙ append_assoc rpc (codes " is ") (name ++ codes ": leave out raw\n"))

@@ -2,7 +2,7 @@
 -- outcome, and words have one space (byte 32) between two. While they are read, `left` is what is unread of the text (`None`
 -- at its end), `read` the words so far, and `rest` what is left after the next word.
 use Rattle.std.proofs.Common.{◌≡◌, ◌<◌, ◌≤◌, inl, inr, ℕ, Bool, true, false, cond, ne_eqb, ◌==◌, nat_lt, List, [], ◌∷◌, ◌++◌, get_or, Option, Some, None, MatchOption, arith, refl, ap, subst, sym, ◌∙◌, append_assoc, append-nil, codes, if◌then◌else◌}
-use Rattle.std.proofs.lemmas.Bool.Decides.{nat_tests}
+use Rattle.std.proofs.lemmas.Bool.{ltb-true, ltb-false}
 use Rattle.std.proofs.lemmas.List.{append_cancel_left}
 use Rattle.gc_texts.specs.Again.{no_again}
 use Rattle.gc_texts.specs.Cuts.{Cuts, Lacks, before, behind}
@@ -187,17 +187,17 @@ names_opening text left again some none =
     subst (λ o. NamesSoFar text o again 0) (sym some)
     (record { read = []; reads = record { found = λ later are. are; only = λ all are. (all, refl, are) }; again_is = none; count_is = refl; few = omega arith })
 
--- what words and one more name, where they follow others
+-- the rule that words and one more make is the rule of the words, with that word added
 more_named : (again : Again) (count : ℕ) (read : List Reason) (r : Reason) → named_with again count (read ++ r ∷ []) ≡ again_with (named_with again count read) (codes_with count read) r
 more_named again count [] r = refl
 more_named again count (x ∷ read) r = more_named (again_with again count x) (count_with count x) read r
 
--- how many codes words and one more have
+-- words and one more have as many codes as the words, and that of the last if it is a code
 more_codes : (count : ℕ) (read : List Reason) (r : Reason) → codes_with count (read ++ r ∷ []) ≡ count_with (codes_with count read) r
 more_codes count [] r = refl
 more_codes count (x ∷ read) r = more_codes (count_with count x) read r
 
--- a word is one code at most
+-- with one more word there are no fewer codes
 count_grows : (count : ℕ) (r : Reason) → count ≤ count_with count r
 count_grows count (reason.Code code) = omega arith
 count_grows count reason.Unreadable = omega arith
@@ -206,7 +206,7 @@ count_grows count reason.Late = omega arith
 count_grows count reason.Lost = omega arith
 count_grows count reason.Skipped = omega arith
 
--- there are no fewer codes with more words
+-- with more words there are no fewer codes
 codes_grow : (count : ℕ) (later : List Reason) → count ≤ codes_with count later
 codes_grow count [] = omega arith
 codes_grow count (r ∷ later) =
@@ -237,17 +237,9 @@ reasons_joined now word None r (next ∷ others) cut is left = let bad : next �
 reasons_joined now word (Some behind) r [] cut is left = absurd left
 reasons_joined now word (Some behind) r (next ∷ others) cut is left = (word, behind, cut.0, is, left)
 
--- where the test of m < n is true, m is below n
-nat_lt-true : (m n : ℕ) → nat_lt m n ≡ true → m < n
-nat_lt-true m n e = grind (arith, nat_tests)
-
--- where the test of m < n is false, n is at most m
-nat_lt-false : (m n : ℕ) → nat_lt m n ≡ false → n ≤ m
-nat_lt-false m n e = grind (arith, nat_tests)
-
 -- where there is no room for a word, it is one code more, after 16 others
 no_room : (count : ℕ) (r : Reason) → count ≤ 16 → has_room count r ≡ false → 16 < count_with count r
-no_room count (reason.Code code) few e = let full : 16 ≤ count = nat_lt-false count 16 e in omega (arith, full)
+no_room count (reason.Code code) few e = let full : 16 ≤ count = ltb-false count 16 e in omega (arith, full)
 no_room count reason.Unreadable few e = cc
 no_room count reason.Elsewhere few e = cc
 no_room count reason.Late few e = cc
@@ -256,7 +248,7 @@ no_room count reason.Skipped few e = cc
 
 -- where there is room for a word, there are at most 16 codes with it
 room_for : (count : ℕ) (r : Reason) → count ≤ 16 → has_room count r ≡ true → count_with count r ≤ 16
-room_for count (reason.Code code) few e = let more : count < 16 = nat_lt-true count 16 e in omega (arith, more)
+room_for count (reason.Code code) few e = let more : count < 16 = ltb-true count 16 e in omega (arith, more)
 room_for count reason.Unreadable few e = few
 room_for count reason.Elsewhere few e = few
 room_for count reason.Late few e = few

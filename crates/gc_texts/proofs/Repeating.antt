@@ -7,7 +7,7 @@ use Rattle.gc_texts.specs.Again.{no_again}
 use Rattle.gc_texts.specs.Attempts.{in_attempt, attempts_from, attempts, laid_from, laid_out}
 use Rattle.gc_texts.specs.Laws.{IsOneChain}
 use Rattle.gc_texts.specs.Nears.{near_of}
-use Rattle.gc_texts.specs.Repeats.{as_said, IsAttempt, AreAttempts, Chain, AreLaidOut, ChainsGoOutAgain}
+use Rattle.gc_texts.specs.Repeats.{as_planned, IsAttempt, AreAttempts, Chain, AreLaidOut, ChainsGoOutAgain}
 use Rattle.gc_texts.specs.Retries.{no_retry}
 use Rattle.gc_texts.specs.Tasks.{opening, mode_after, continues_row, task_at, setup_of, planned_of, placed}
 use Rattle.gc_texts.specs.declared.again.Again.{Again}
@@ -18,49 +18,49 @@ use Rattle.gc_texts.specs.declared.task_line.TaskLine.TheVariants as says
 use Rattle.gc_texts.specs.declared.mode.Mode.{Mode}
 use Rattle.gc_texts.specs.declared.attempts.Planned.{Planned}
 use Rattle.gc_texts.specs.declared.tasks.Task.{Task}
-use Rattle.gc_texts.proofs.TaskLaws.{InRows, rows}
+use Rattle.gc_texts.proofs.TaskLaws.{InRows, commands_in_rows}
 
--- a command as its line says it
+-- the task of a command is as its line says it: in the first attempt of its chain, and without a rule
 record IsAsItsLineSays (planned : Planned) : Type 0 where
   again : planned.task.again ≡ no_again
   attempt : planned.task.turn.attempt ≡ 1
   others : planned.task.others ≡ 0
 
 -- the cycle's commands are as their lines say them
-all_said : (mode : Mode) (lines : List TaskLine) → AllByRecursion IsAsItsLineSays (planned_of mode lines)
-all_said mode [] = tt
-all_said mode (says.Command c now ∷ later) = by_setup mode.setup (all_said (mode_after mode (says.Command c now)) later) where
-  -- by the section
+all_as_their_lines_say : (mode : Mode) (lines : List TaskLine) → AllByRecursion IsAsItsLineSays (planned_of mode lines)
+all_as_their_lines_say mode [] = tt
+all_as_their_lines_say mode (says.Command c now ∷ later) = by_setup mode.setup (all_as_their_lines_say (mode_after mode (says.Command c now)) later) where
+  -- the same, by whether the mode is that of the setup
   by_setup : (b : Bool) → AllByRecursion IsAsItsLineSays (planned_of (mode_after mode (says.Command c now)) later)
       → AllByRecursion IsAsItsLineSays ((if b then [] else record { task = task_at mode c now; retry = mode.retry } ∷ []) ++ planned_of (mode_after mode (says.Command c now)) later)
   by_setup true more = more
   by_setup false more = (record { again = refl; attempt = refl; others = refl }, more)
-all_said mode (says.Deadline d ∷ later) = all_said (mode_after mode (says.Deadline d)) later
-all_said mode (says.Chained ∷ later) = all_said (mode_after mode says.Chained) later
-all_said mode (says.Unchained ∷ later) = all_said (mode_after mode says.Unchained) later
-all_said mode (says.Naming n ∷ later) = all_said (mode_after mode (says.Naming n)) later
-all_said mode (says.Standing n ∷ later) = all_said (mode_after mode (says.Standing n)) later
-all_said mode (says.Accepting cs ∷ later) = all_said (mode_after mode (says.Accepting cs)) later
-all_said mode (says.Retrying r ∷ later) = all_said (mode_after mode (says.Retrying r)) later
-all_said mode (says.AtStart ∷ later) = all_said (mode_after mode says.AtStart) later
-all_said mode (says.EachCycle ∷ later) = all_said (mode_after mode says.EachCycle) later
+all_as_their_lines_say mode (says.Deadline d ∷ later) = all_as_their_lines_say (mode_after mode (says.Deadline d)) later
+all_as_their_lines_say mode (says.Chained ∷ later) = all_as_their_lines_say (mode_after mode says.Chained) later
+all_as_their_lines_say mode (says.Unchained ∷ later) = all_as_their_lines_say (mode_after mode says.Unchained) later
+all_as_their_lines_say mode (says.Naming n ∷ later) = all_as_their_lines_say (mode_after mode (says.Naming n)) later
+all_as_their_lines_say mode (says.Locating n ∷ later) = all_as_their_lines_say (mode_after mode (says.Locating n)) later
+all_as_their_lines_say mode (says.Accepting cs ∷ later) = all_as_their_lines_say (mode_after mode (says.Accepting cs)) later
+all_as_their_lines_say mode (says.Retrying r ∷ later) = all_as_their_lines_say (mode_after mode (says.Retrying r)) later
+all_as_their_lines_say mode (says.AtStart ∷ later) = all_as_their_lines_say (mode_after mode says.AtStart) later
+all_as_their_lines_say mode (says.EachCycle ∷ later) = all_as_their_lines_say (mode_after mode says.EachCycle) later
 
 -- each chained command has the retry of the one before it, and the first that of a command before, which has `retry`
 abbrev SameRules : Retry → List Planned → Type 0
 SameRules retry [] = Unit {0}
 SameRules retry (p ∷ later) = (p.task.chained ≡ true → p.retry ≡ retry) × SameRules p.retry later
 
--- where no row is there, no command goes on with it
+-- where there is no row, no command continues it
 no_row : (row : Option ℕ) (target : ℕ) → row ≡ None → continues_row row target ≡ true → ⊥
 no_row None target e on = cc
 no_row (Some t) target e on = cc
 
--- where the mode is the set-up's, or has no row, or the retry of the command before, each chained command has the retry of the one before it
+-- where the mode is the setup's, or has no row, or the retry of the command before, each chained command has the retry of the one before it
 same_rules : (mode : Mode) (retry : Retry) (lines : List TaskLine) → (mode.setup ≡ true) ⊎ ((mode.row ≡ None) ⊎ (mode.retry ≡ retry)) → SameRules retry (planned_of mode lines)
 same_rules mode retry [] h = tt
 same_rules mode retry (says.Command c now ∷ later) h =
     by_setup mode.setup refl h (λ e. same_rules (mode_after mode (says.Command c now)) retry later (inl e)) (same_rules (mode_after mode (says.Command c now)) mode.retry later (inr (inr refl))) where
-      -- by the section
+      -- the same, by whether the mode is that of the setup
       by_setup : (b : Bool) → mode.setup ≡ b → (mode.setup ≡ true) ⊎ ((mode.row ≡ None) ⊎ (mode.retry ≡ retry))
           → (mode.setup ≡ true → SameRules retry (planned_of (mode_after mode (says.Command c now)) later))
           → SameRules mode.retry (planned_of (mode_after mode (says.Command c now)) later)
@@ -78,7 +78,7 @@ same_rules mode retry (says.Deadline d ∷ later) h = same_rules (mode_after mod
 same_rules mode retry (says.Chained ∷ later) h = same_rules (mode_after mode says.Chained) retry later (inr (inl refl))
 same_rules mode retry (says.Unchained ∷ later) h = same_rules (mode_after mode says.Unchained) retry later (inr (inl refl))
 same_rules mode retry (says.Naming n ∷ later) h = same_rules (mode_after mode (says.Naming n)) retry later h
-same_rules mode retry (says.Standing n ∷ later) h = same_rules (mode_after mode (says.Standing n)) retry later h
+same_rules mode retry (says.Locating n ∷ later) h = same_rules (mode_after mode (says.Locating n)) retry later h
 same_rules mode retry (says.Accepting cs ∷ later) h = same_rules (mode_after mode (says.Accepting cs)) retry later h
 same_rules mode retry (says.Retrying r ∷ later) h = same_rules (mode_after mode (says.Retrying r)) retry later (inr (inl refl))
 same_rules mode retry (says.AtStart ∷ later) h = same_rules (mode_after mode says.AtStart) retry later (inr (inl refl))
@@ -94,7 +94,7 @@ module _ (nears : List Near) where
   made attempt again n ps = map (placed nears) (map (in_attempt attempt again n) ps)
 
   -- without the fields that distinguish attempts, the task of an attempt is the command's
-  said_one : (attempt : ℕ) (again : Again) (n : ℕ) (p : Planned) → IsAsItsLineSays p → as_said (placed nears (in_attempt attempt again n p)) ≡ own p
+  said_one : (attempt : ℕ) (again : Again) (n : ℕ) (p : Planned) → IsAsItsLineSays p → as_planned (placed nears (in_attempt attempt again n p)) ≡ own p
   said_one attempt again n p h =
       let near = near_of p.task.command.target nears in
       ap (λ a. record p.task { near = near; again = a; turn = record { place = p.task.turn.place; attempt = 1; link = p.task.turn.link }; others = 0 }) (sym h.again)
@@ -102,9 +102,9 @@ module _ (nears : List Near) where
       ∙ ap (λ k. record p.task { near = near; others = k }) (sym h.others)
 
   -- without these fields, all tasks of an attempt are the commands'
-  said_all : (attempt : ℕ) (again : Again) (n : ℕ) (ps : List Planned) → AllByRecursion IsAsItsLineSays ps → map as_said (made attempt again n ps) ≡ map own ps
+  said_all : (attempt : ℕ) (again : Again) (n : ℕ) (ps : List Planned) → AllByRecursion IsAsItsLineSays ps → map as_planned (made attempt again n ps) ≡ map own ps
   said_all attempt again n [] all = refl
-  said_all attempt again n (p ∷ ps) all = ap (λ t. t ∷ map as_said (made attempt again n ps)) (said_one attempt again n p all.0) ∙ ap (λ ts. own p ∷ ts) (said_all attempt again n ps all.1)
+  said_all attempt again n (p ∷ ps) all = ap (λ t. t ∷ map as_planned (made attempt again n ps)) (said_one attempt again n p all.0) ∙ ap (λ ts. own p ∷ ts) (said_all attempt again n ps all.1)
 
   -- the tasks of an attempt say which it is
   all_numbered : (attempt : ℕ) (again : Again) (n : ℕ) (ps : List Planned) → AllByRecursion (λ task. task.turn.attempt ≡ attempt) (made attempt again n ps)
@@ -169,7 +169,7 @@ module _ (nears : List Near) where
   retry_more retry [] p have is = (is, tt)
   retry_more retry (q ∷ ps) p have is = (have.0, retry_more retry ps p have.1 is)
 
-  -- the attempts of one more chain, in front of those of other chains
+  -- with the attempts of one more chain in front of those of other chains, tasks are still the attempts of chains (`Laid`)
   one_more : (retry : Retry) (chain later : List Planned) (tasks : List Task) → IsOneChain (map own chain) → AllByRecursion IsAsItsLineSays chain → HaveRetry retry chain → Laid tasks later
       → Laid (map (placed nears) (attempts retry chain) ++ tasks) (chain ++ later)
   one_more retry chain later tasks one all have (chains, laid, are) = (
@@ -182,7 +182,7 @@ module _ (nears : List Near) where
   none : Laid [] []
   none = ([], refl, refl)
 
-  -- the attempts of a chain that was begun, and of those after it
+  -- the attempts of a chain that was begun, and of the chains after it, are attempts of chains with these commands (`Laid`)
   laid_are : (retry : Retry) (first : Planned) (chain later : List Planned) → IsOneChain (map own (first ∷ chain)) → AllByRecursion IsAsItsLineSays (first ∷ chain)
       → AllByRecursion IsAsItsLineSays later → HaveRetry retry (first ∷ chain) → SameRules retry later
       → Laid (map (placed nears) (laid_from retry (first ∷ chain) later)) ((first ∷ chain) ++ later)
@@ -204,7 +204,7 @@ module _ (nears : List Near) where
             subst (λ ts. Laid ts ((first ∷ chain) ++ p ∷ later)) (sym (map-append (placed nears) (attempts retry (first ∷ chain)) (laid_from p.retry (p ∷ []) later)))
             (one_more retry (first ∷ chain) (p ∷ later) (map (placed nears) (laid_from p.retry (p ∷ []) later)) one all have (anew e))
 
-  -- the attempts of all chains
+  -- the attempts of the chains that all commands form are attempts of chains with these commands (`Laid`)
   all_laid : (planned : List Planned) → InRows None planned → AllByRecursion IsAsItsLineSays planned → SameRules no_retry planned → Laid (map (placed nears) (laid_out planned)) planned
   all_laid [] are all follow = none
   all_laid (p ∷ later) are all follow = by_chained p.task.chained refl (λ e. laid_are p.retry p [] later (e, tt) (all.0, tt) all.1 (refl, tt) follow.1) where
@@ -214,12 +214,12 @@ module _ (nears : List Near) where
     by_chained true e anew = let bad : None ≡ Some p.task.command.target = are.0 e in cc
     by_chained false e anew = anew e
 
--- the law: the tasks after the set-up are the attempts of the chains of the text's commands
+-- the law: the tasks after the setup are the attempts of the chains of the text's commands
 pub chains_go_out_again : ChainsGoOutAgain
 chains_go_out_again text deadline chained setup tasks names nears is =
     let first = opening deadline chained in
     let planned = planned_of first is.said in
-    let laid = all_laid nears planned (rows first None is.said (inr (inl refl))) (all_said first is.said) (same_rules first no_retry is.said (inr (inl refl))) in (
+    let laid = all_laid nears planned (commands_in_rows first None is.said (inr (inl refl))) (all_as_their_lines_say first is.said) (same_rules first no_retry is.said (inr (inl refl))) in (
       laid.0,
       map (placed nears) (setup_of first is.said),
       map (placed nears) (laid_out planned),

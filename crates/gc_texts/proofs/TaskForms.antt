@@ -69,7 +69,7 @@ kind (says.Deadline deadline) = 1
 kind says.Chained = 2
 kind says.Unchained = 3
 kind (says.Naming name) = 4
-kind (says.Standing near) = 4
+kind (says.Locating near) = 4
 kind (says.Accepting accepted) = 5
 kind (says.Retrying retry) = 6
 kind says.AtStart = 5
@@ -113,7 +113,7 @@ kind_is line (says.Deadline deadline) is = ap kind_in is.line_is
 kind_is line says.Chained is = ap kind_in is
 kind_is line says.Unchained is = ap kind_in is
 kind_is line (says.Naming name) is = ap kind_in is.line_is
-kind_is line (says.Standing near) is = ap kind_in is.line_is
+kind_is line (says.Locating near) is = ap kind_in is.line_is
 kind_is line (says.Accepting accepted) (inl alone) = ap kind_in alone.0
 kind_is line (says.Accepting accepted) (inr is) = ap kind_in is.line_is
 kind_is line (says.Retrying retry) (inl alone) = ap kind_in alone.0
@@ -153,17 +153,17 @@ one_near target hz v tolerance m n x y =
     (spells_unique hz m.place.hz n.place.hz x.hz_is y.hz_is) (spells_unique v m.place.v n.place.v x.v_is y.v_is) (spells_unique tolerance m.tolerance n.tolerance x.tolerance_is y.tolerance_is)
 
 -- a line gives one place at most
-one_standing : (line : List ℕ) (m n : Near) → IsNearLine line m → IsNearLine line n → m ≡ n
-one_standing line m n x y =
+one_locating : (line : List ℕ) (m n : Near) → IsNearLine line m → IsNearLine line n → m ≡ n
+one_locating line m n x y =
     one_near (before 32 y.rest) (before 32 (behind 32 y.rest)) (before 32 (behind 32 (behind 32 y.rest))) (behind 32 (behind 32 (behind 32 y.rest))) m n
     (subst (λ (r : List ℕ). IsNearText r m) (append_cancel_left (codes "near ") x.rest y.rest (sym x.line_is ∙ y.line_is)) x.near_is) y.near_is
 
 -- where a line is `near ` and `rest`, and `r` is the place that `rest` says, or `None` where it says none, `r` is the place
 -- that the line says, too
-pub stands_so : (line rest : List ℕ) (r : Option Near) → line ≡ codes "near " ++ rest → MatchOption r ((near : Near) → IsNearText rest near → ⊥) (λ near. IsNearText rest near)
+pub locates_so : (line rest : List ℕ) (r : Option Near) → line ≡ codes "near " ++ rest → MatchOption r ((near : Near) → IsNearText rest near → ⊥) (λ near. IsNearText rest near)
     → MatchOption r ((near : Near) → IsNearLine line near → ⊥) (λ near. IsNearLine line near)
-stands_so line rest None e none = λ near is. none near (subst (λ (r : List ℕ). IsNearText r near) (append_cancel_left (codes "near ") is.rest rest (sym is.line_is ∙ e)) is.near_is)
-stands_so line rest (Some near) e is = record { rest = rest; line_is = e; near_is = is }
+locates_so line rest None e none = λ near is. none near (subst (λ (r : List ℕ). IsNearText r near) (append_cancel_left (codes "near ") is.rest rest (sym is.line_is ∙ e)) is.near_is)
+locates_so line rest (Some near) e is = record { rest = rest; line_is = e; near_is = is }
 
 -- no line both gives a target a name (`name `) and says where a target is (`near `)
 name_is_no_near : (line : List ℕ) (name : Name) (near : Near) → IsNameLine line name → IsNearLine line near → ⊥
@@ -171,7 +171,7 @@ name_is_no_near line name near x y =
     let second : ◌≡◌ {A = ℕ} 97 101 = ap (λ bs. get_or bs 1 0) (sym x.line_is ∙ y.line_is) in
     omega (arith, second)
 
--- no line both says which codes are accepted (`accept`) and begins the set-up (`at start`)
+-- no line both says which codes are accepted (`accept`) and begins the setup (`at start`)
 accept_is_no_start : (line : List ℕ) (accepted : Codes) → SetsAccepted line accepted → line ≡ codes "at start" → ⊥
 accept_is_no_start line accepted (inl alone) e = let second : ◌≡◌ {A = ℕ} 99 116 = ap (λ bs. get_or bs 1 0) (sym alone.0 ∙ e) in omega (arith, second)
 accept_is_no_start line accepted (inr is) e = let second : ◌≡◌ {A = ℕ} 99 116 = ap (λ bs. get_or bs 1 0) (sym is.line_is ∙ e) in omega (arith, second)
@@ -190,15 +190,15 @@ same_said line (says.Deadline m) (says.Deadline n) x y h = ap says.Deadline (one
 same_said line says.Chained says.Chained x y h = refl
 same_said line says.Unchained says.Unchained x y h = refl
 same_said line (says.Naming m) (says.Naming n) x y h = ap says.Naming (one_naming line m n x y)
-same_said line (says.Standing m) (says.Standing n) x y h = ap says.Standing (one_standing line m n x y)
+same_said line (says.Locating m) (says.Locating n) x y h = ap says.Locating (one_locating line m n x y)
 same_said line (says.Accepting a) (says.Accepting b) x y h = ap says.Accepting (one_accepting line a b x y)
 same_said line (says.Retrying a) (says.Retrying b) x y h = ap says.Retrying (one_retrying line a b x y)
 same_said line says.AtStart says.AtStart x y h = refl
 same_said line says.EachCycle says.EachCycle x y h = refl
 same_said line (says.Accepting a) says.AtStart x y h = absurd (accept_is_no_start line a x y)
 same_said line says.AtStart (says.Accepting a) x y h = absurd (accept_is_no_start line a y x)
-same_said line (says.Naming m) (says.Standing n) x y h = absurd (name_is_no_near line m n x y)
-same_said line (says.Standing m) (says.Naming n) x y h = absurd (name_is_no_near line n m y x)
+same_said line (says.Naming m) (says.Locating n) x y h = absurd (name_is_no_near line m n x y)
+same_said line (says.Locating m) (says.Naming n) x y h = absurd (name_is_no_near line n m y x)
 same_said line a b x y h = absurd (omega (arith, h))
 
 -- a line says one thing at most

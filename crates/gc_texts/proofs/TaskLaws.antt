@@ -79,19 +79,19 @@ record IsSentOnce (planned : Planned) : Type 0 where
   retry : planned.retry ≡ no_retry
   first : IsFirst planned.task
 
--- the first attempt of such a command is its task
+-- the first attempt of a command whose chain is sent once is its task
 first_attempt_is_task : (n : ℕ) (p : Planned) → IsSentOnce p → in_attempt 1 no_again n p ≡ p.task
 first_attempt_is_task n p h =
     ap (λ a. record p.task { again = a; turn = record { place = p.task.turn.place; attempt = 1; link = p.task.turn.link }; others = 0 }) (sym h.first.again)
     ∙ ap (λ k. record p.task { turn = record { place = p.task.turn.place; attempt = k; link = p.task.turn.link }; others = 0 }) (sym h.first.attempt)
     ∙ ap (λ k. record p.task { others = k }) (sym h.first.others)
 
--- the first attempt of such commands is their tasks
+-- the first attempts of commands whose chains are sent once are their tasks
 once_all : (n : ℕ) (ps : List Planned) → AllByRecursion IsSentOnce ps → map (in_attempt 1 no_again n) ps ≡ map (λ p. p.task) ps
 once_all n [] all = refl
 once_all n (p ∷ ps) all = ap (λ t. t ∷ map (in_attempt 1 no_again n) ps) (first_attempt_is_task n p all.0) ∙ ap (λ ts. p.task ∷ ts) (once_all n ps all.1)
 
--- one more such command
+-- with one more command that is sent once, all commands are sent once
 once_more : (ps : List Planned) (p : Planned) → AllByRecursion IsSentOnce ps → IsSentOnce p → AllByRecursion IsSentOnce (ps ++ p ∷ [])
 once_more [] p all is = (is, tt)
 once_more (q ∷ ps) p all is = (all.0, once_more ps p all.1 is)
@@ -120,7 +120,7 @@ unplaced (t ∷ ts) all = ap (λ n. record t { near = n } ∷ map (placed []) ts
 -- commands alone, read in a mode of the cycle without accepted codes and without retries, in which `place` of them are in
 -- front, and `link` of the chain
 module _ (deadline : ℕ) (chained : Bool) where
-  -- the mode
+  -- that mode
   abbrev at : Option ℕ → ℕ → ℕ → Mode
   at row place link = record { deadline = deadline; chained = chained; row = row; accepted = no_codes; retry = no_retry; setup = false; begun = 0; place = place; link = link }
 
@@ -128,23 +128,23 @@ module _ (deadline : ℕ) (chained : Bool) where
   abbrev next_link : Option ℕ → ℕ → ℕ → ℕ
   next_link row link target = (if chained && continues_row row target then link else 0) + 1
 
-  -- there is no set-up
+  -- commands that are read in that mode give no setup
   no_setup : (row : Option ℕ) (place link : ℕ) (commands : List Command) → setup_of (at row place link) (asks commands) ≡ []
   no_setup row place link [] = refl
   no_setup row place link (c ∷ cs) = no_setup (Some c.target) (place + 1) (next_link row link c.target) cs
 
-  -- each is sent once
+  -- the chain of each command that is read in that mode is sent once
   all_once : (row : Option ℕ) (place link : ℕ) (commands : List Command) → AllByRecursion IsSentOnce (planned_of (at row place link) (asks commands))
   all_once row place link [] = tt
   all_once row place link (c ∷ cs) =
       (record { retry = refl; first = record { near = refl; again = refl; attempt = refl; others = refl } }, all_once (Some c.target) (place + 1) (next_link row link c.target) cs)
 
-  -- none has a place of its target
+  -- no task of commands that are read in that mode has a place of its target
   none_placed : (row : Option ℕ) (place link : ℕ) (commands : List Command) → AllByRecursion (λ task. task.near ≡ None) (map (λ p. p.task) (planned_of (at row place link) (asks commands)))
   none_placed row place link [] = tt
   none_placed row place link (c ∷ cs) = (refl, none_placed (Some c.target) (place + 1) (next_link row link c.target) cs)
 
-  -- they ask for the commands, in order
+  -- the tasks of commands that are read in that mode ask for these commands, in order
   asked_tasks : (row : Option ℕ) (place link : ℕ) (commands : List Command)
       → map (λ task. task.command) (map (λ p. p.task) (planned_of (at row place link) (asks commands))) ≡ map wish_of commands
   asked_tasks row place link [] = refl
@@ -174,10 +174,10 @@ commands_are_tasks text commands deadline chained are = (
 )
 
 -- where commands aren't chained, each gives a task that isn't chained either, with the deadline `deadline`
-plain : (deadline : ℕ) (row : Option ℕ) (place link : ℕ) (commands : List Command)
+unchained_are_plain : (deadline : ℕ) (row : Option ℕ) (place link : ℕ) (commands : List Command)
     → plain_tasks deadline place commands ≡ map (λ p. p.task) (planned_of (at deadline false row place link) (asks commands))
-plain deadline row place link [] = refl
-plain deadline row place link (c ∷ cs) =
+unchained_are_plain deadline row place link [] = refl
+unchained_are_plain deadline row place link (c ∷ cs) =
     ap (λ l. record {
       command = wish_of c;
       deadline = deadline;
@@ -190,7 +190,7 @@ plain deadline row place link (c ∷ cs) =
       others = 0;
       now = false;
     } ∷ l)
-    (plain deadline (Some c.target) (place + 1) 1 cs)
+    (unchained_are_plain deadline (Some c.target) (place + 1) 1 cs)
 
 -- the law: a command text, read as a station's text without chains, gives one task for each command, not chained and with the
 -- caller's deadline
@@ -199,7 +199,7 @@ commands_are_plain text commands deadline are =
     record {
       said = asks commands;
       lines = record { forms = asked_forms (filter is_kept (text_lines text)) commands are; follow = asked_follow [] [] commands };
-      tasks_are = plain deadline None 0 0 commands ∙ tasks_are_asked deadline false commands;
+      tasks_are = unchained_are_plain deadline None 0 0 commands ∙ tasks_are_asked deadline false commands;
       setup_is = ap length (sym (no_setup deadline false None 0 0 commands));
       names_are = asked_names commands;
       nears_are = asked_nears commands;
@@ -220,12 +220,13 @@ row_before row before target (inr same) e = sym same ∙ e
 abbrev pub InRows : Option ℕ → List Planned → Type 0
 InRows before planned = AreRows before (map (λ p. p.task) planned)
 
--- `before` is the target of the cycle's command before these lines, if there is one. Where the mode is the set-up's, or its row is none or
+-- `before` is the target of the cycle's command before these lines, if there is one. Where the mode is the setup's, or its row is none or
 -- that target, each chained command of the cycle follows one for the same target
-pub rows : (mode : Mode) (before : Option ℕ) (said : List TaskLine) → (mode.setup ≡ true) ⊎ ((mode.row ≡ None) ⊎ (mode.row ≡ before)) → InRows before (planned_of mode said)
-rows mode before [] h = tt
-rows mode before (says.Command c now ∷ later) h =
-    by_setup mode.setup refl h (λ e. rows (mode_after mode (says.Command c now)) before later (inl e)) (rows (mode_after mode (says.Command c now)) (Some c.target) later (inr (inr refl))) where
+pub commands_in_rows : (mode : Mode) (before : Option ℕ) (said : List TaskLine) → (mode.setup ≡ true) ⊎ ((mode.row ≡ None) ⊎ (mode.row ≡ before)) → InRows before (planned_of mode said)
+commands_in_rows mode before [] h = tt
+commands_in_rows mode before (says.Command c now ∷ later) h =
+    by_setup mode.setup refl h (λ e. commands_in_rows (mode_after mode (says.Command c now)) before later (inl e))
+    (commands_in_rows (mode_after mode (says.Command c now)) (Some c.target) later (inr (inr refl))) where
       -- by the section
       by_setup : (b : Bool) → mode.setup ≡ b → (mode.setup ≡ true) ⊎ ((mode.row ≡ None) ⊎ (mode.row ≡ before))
           → (mode.setup ≡ true → InRows before (planned_of (mode_after mode (says.Command c now)) later))
@@ -239,17 +240,17 @@ rows mode before (says.Command c now ∷ later) h =
             row_before mode.row before c.target is (continued_row mode.row c.target (and_parts mode.chained (continues_row mode.row c.target) so).1)),
         in_cycle,
       )
-rows mode before (says.Deadline d ∷ later) h = rows (mode_after mode (says.Deadline d)) before later h
-rows mode before (says.Chained ∷ later) h = rows (mode_after mode says.Chained) before later (inr (inl refl))
-rows mode before (says.Unchained ∷ later) h = rows (mode_after mode says.Unchained) before later (inr (inl refl))
-rows mode before (says.Naming n ∷ later) h = rows mode before later h
-rows mode before (says.Standing n ∷ later) h = rows mode before later h
-rows mode before (says.Accepting cs ∷ later) h = rows (mode_after mode (says.Accepting cs)) before later h
-rows mode before (says.Retrying r ∷ later) h = rows (mode_after mode (says.Retrying r)) before later (inr (inl refl))
-rows mode before (says.AtStart ∷ later) h = rows (mode_after mode says.AtStart) before later (inr (inl refl))
-rows mode before (says.EachCycle ∷ later) h = rows (mode_after mode says.EachCycle) before later (inr (inl refl))
+commands_in_rows mode before (says.Deadline d ∷ later) h = commands_in_rows (mode_after mode (says.Deadline d)) before later h
+commands_in_rows mode before (says.Chained ∷ later) h = commands_in_rows (mode_after mode says.Chained) before later (inr (inl refl))
+commands_in_rows mode before (says.Unchained ∷ later) h = commands_in_rows (mode_after mode says.Unchained) before later (inr (inl refl))
+commands_in_rows mode before (says.Naming n ∷ later) h = commands_in_rows mode before later h
+commands_in_rows mode before (says.Locating n ∷ later) h = commands_in_rows mode before later h
+commands_in_rows mode before (says.Accepting cs ∷ later) h = commands_in_rows (mode_after mode (says.Accepting cs)) before later h
+commands_in_rows mode before (says.Retrying r ∷ later) h = commands_in_rows (mode_after mode (says.Retrying r)) before later (inr (inl refl))
+commands_in_rows mode before (says.AtStart ∷ later) h = commands_in_rows (mode_after mode says.AtStart) before later (inr (inl refl))
+commands_in_rows mode before (says.EachCycle ∷ later) h = commands_in_rows (mode_after mode says.EachCycle) before later (inr (inl refl))
 
--- rows of which the first isn't chained follow anything
+-- rows of which the first isn't chained may follow a task for any target
 rows_behind : (before : Option ℕ) (tasks : List Task) → AreRows None tasks → AreRows before tasks
 rows_behind before [] are = tt
 rows_behind before (t ∷ ts) are = ((λ e. let bad : None ≡ Some t.command.target = are.0 e in cc), are.1)
@@ -272,27 +273,27 @@ attempts_rows attempt (suc left) again chain are =
     (attempt_rows attempt again (length chain * suc (suc left)) None chain are) (attempts_rows (attempt + 1) left again chain are)
 
 -- the target of the last of these commands, or `before` where there is none
-abbrev last_of : Option ℕ → List Planned → Option ℕ
-last_of before [] = before
-last_of before (p ∷ ps) = last_of (Some p.task.command.target) ps
+abbrev last_target : Option ℕ → List Planned → Option ℕ
+last_target before [] = before
+last_target before (p ∷ ps) = last_target (Some p.task.command.target) ps
 
--- one more command in its row
-rows_more : (before : Option ℕ) (ps : List Planned) (p : Planned) → InRows before ps → (p.task.chained ≡ true → last_of before ps ≡ Some p.task.command.target) → InRows before (ps ++ p ∷ [])
+-- commands in rows, and one more that is in its row, are in rows
+rows_more : (before : Option ℕ) (ps : List Planned) (p : Planned) → InRows before ps → (p.task.chained ≡ true → last_target before ps ≡ Some p.task.command.target) → InRows before (ps ++ p ∷ [])
 rows_more before [] p are is = (is, tt)
 rows_more before (q ∷ ps) p are is = (are.0, rows_more (Some q.task.command.target) ps p are.1 is)
 
--- after one more command its target is the last
-last_more : (before : Option ℕ) (ps : List Planned) (p : Planned) → last_of before (ps ++ p ∷ []) ≡ Some p.task.command.target
+-- the last target of commands and one more is that of the one more
+last_more : (before : Option ℕ) (ps : List Planned) (p : Planned) → last_target before (ps ++ p ∷ []) ≡ Some p.task.command.target
 last_more before [] p = refl
 last_more before (q ∷ ps) p = last_more (Some q.task.command.target) ps p
 
--- where a command isn't chained, it may come first
+-- of a command that isn't chained nothing has to be shown about the row before it
 not_chained : (b : Bool) (row : Option ℕ) → b ≡ false → b ≡ true → None ≡ row
 not_chained true row e f = cc
 not_chained false row e f = cc
 
 -- the attempts of a chain that was begun, and of those after it, are in rows
-laid_rows : (retry : Retry) (chain later : List Planned) → InRows None chain → InRows (last_of None chain) later → AreRows None (laid_from retry chain later)
+laid_rows : (retry : Retry) (chain later : List Planned) → InRows None chain → InRows (last_target None chain) later → AreRows None (laid_from retry chain later)
 laid_rows retry chain [] are more = attempts_rows 1 retry.times retry.again chain are
 laid_rows retry chain (p ∷ later) are more =
     by_chained p.task.chained refl
@@ -309,7 +310,7 @@ placed_rows : (nears : List Near) (before : Option ℕ) (tasks : List Task) → 
 placed_rows nears before [] are = tt
 placed_rows nears before (task ∷ later) are = (are.0, placed_rows nears (Some task.command.target) later are.1)
 
--- these tasks go on with a chain, or begin one where none is in front
+-- these tasks, after n others of a chain, are the rest of that chain: all are chained, but for the first where n is 0
 abbrev ContinueChain : ℕ → List Task → Type 0
 ContinueChain zero tasks = IsOneChain tasks
 ContinueChain (suc n) tasks = AllByRecursion (λ task. task.chained ≡ true) tasks
@@ -317,22 +318,22 @@ ContinueChain (suc n) tasks = AllByRecursion (λ task. task.chained ≡ true) ta
 -- one more command goes on with the chain
 chain_continued : (n : ℕ) (task : Task) (later : List Task) → task.chained ≡ nat_lt 0 n → ContinueChain (n + 1) later → ContinueChain n (task ∷ later)
 chain_continued zero task later is more = (is, more)
-chain_continued (suc n) task later is more = (is ∙ above n, subst (λ k. ContinueChain k later) (two n) more) where
-  -- a successor is above 0
-  above : (n : ℕ) → nat_lt 0 (suc n) ≡ true
-  above n = grind (arith, nat_tests)
+chain_continued (suc n) task later is more = (is ∙ suc_above_zero n, subst (λ k. ContinueChain k later) (suc_and_one n) more) where
+  -- the test says that n + 1 is above 0
+  suc_above_zero : (n : ℕ) → nat_lt 0 (suc n) ≡ true
+  suc_above_zero n = grind (arith, nat_tests)
 
-  -- the same number
-  two : (n : ℕ) → suc n + 1 ≡ suc (suc n)
-  two n = omega arith
+  -- n + 1 and 1 are n + 2
+  suc_and_one : (n : ℕ) → suc n + 1 ≡ suc (suc n)
+  suc_and_one n = omega arith
 
--- the set-up is one chain
+-- the setup is one chain
 setup_chain : (nears : List Near) (mode : Mode) (said : List TaskLine) → ContinueChain mode.begun (map (placed nears) (setup_of mode said))
-setup_chain nears mode [] = none mode.begun where
-  -- no task
-  none : (n : ℕ) → ContinueChain n []
-  none zero = tt
-  none (suc n) = tt
+setup_chain nears mode [] = none_continues mode.begun where
+  -- no tasks continue a chain of any number of tasks
+  none_continues : (n : ℕ) → ContinueChain n []
+  none_continues zero = tt
+  none_continues (suc n) = tt
 setup_chain nears mode (says.Command c now ∷ later) = by_setup mode.setup refl (setup_chain nears (mode_after mode (says.Command c now)) later) where
   -- by the section
   by_setup : (b : Bool) → mode.setup ≡ b → ContinueChain (mode_after mode (says.Command c now)).begun (map (placed nears) (setup_of (mode_after mode (says.Command c now)) later))
@@ -346,13 +347,13 @@ setup_chain nears mode (says.Deadline d ∷ later) = setup_chain nears (mode_aft
 setup_chain nears mode (says.Chained ∷ later) = setup_chain nears (mode_after mode says.Chained) later
 setup_chain nears mode (says.Unchained ∷ later) = setup_chain nears (mode_after mode says.Unchained) later
 setup_chain nears mode (says.Naming n ∷ later) = setup_chain nears (mode_after mode (says.Naming n)) later
-setup_chain nears mode (says.Standing n ∷ later) = setup_chain nears (mode_after mode (says.Standing n)) later
+setup_chain nears mode (says.Locating n ∷ later) = setup_chain nears (mode_after mode (says.Locating n)) later
 setup_chain nears mode (says.Accepting cs ∷ later) = setup_chain nears (mode_after mode (says.Accepting cs)) later
 setup_chain nears mode (says.Retrying r ∷ later) = setup_chain nears (mode_after mode (says.Retrying r)) later
 setup_chain nears mode (says.AtStart ∷ later) = setup_chain nears (mode_after mode says.AtStart) later
 setup_chain nears mode (says.EachCycle ∷ later) = setup_chain nears (mode_after mode says.EachCycle) later
 
--- the law: the set-up is one chain, and after it each chained task follows one for the same target
+-- the law: the setup is one chain, and after it each chained task follows one for the same target
 pub chains_are_rows : ChainsAreRows
 chains_are_rows text deadline chained setup tasks names nears is =
     let first = opening deadline chained in
@@ -363,5 +364,5 @@ chains_are_rows text deadline chained setup tasks names nears is =
       is.tasks_are ∙ map-append (placed nears) (setup_of first is.said) (laid_out (planned_of first is.said)),
       is.setup_is ∙ sym (length-map (setup_of first is.said) (placed nears)),
       setup_chain nears first is.said,
-      placed_rows nears None (laid_out (planned_of first is.said)) (laid_rows no_retry [] (planned_of first is.said) tt (rows first None is.said (inr (inl refl)))),
+      placed_rows nears None (laid_out (planned_of first is.said)) (laid_rows no_retry [] (planned_of first is.said) tt (commands_in_rows first None is.said (inr (inl refl)))),
     )

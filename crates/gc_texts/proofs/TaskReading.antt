@@ -23,7 +23,7 @@ abbrev pub mode_after_lines : Mode → List TaskLine → Mode
 mode_after_lines mode [] = mode
 mode_after_lines mode (line ∷ later) = mode_after_lines (mode_after mode line) later
 
--- the set-up of lines, and of one more, is that of the lines, and that of the last in the mode after them
+-- the setup of lines, and of one more, is that of the lines, and that of the last in the mode after them
 setup_more : (mode : Mode) (lines : List TaskLine) (next : TaskLine) → setup_of mode (lines ++ next ∷ []) ≡ setup_of mode lines ++ setup_at (mode_after_lines mode lines) next
 setup_more mode [] next = append-nil (setup_at mode next)
 setup_more mode (line ∷ lines) next =
@@ -62,7 +62,7 @@ counted_line mode (says.Deadline d) n h = record { begun = omega (arith, h.begun
 counted_line mode says.Chained n h = record { begun = omega (arith, h.begun); place = omega (arith, h.place); link = omega (arith, h.link) }
 counted_line mode says.Unchained n h = record { begun = omega (arith, h.begun); place = omega (arith, h.place); link = omega (arith, h.link) }
 counted_line mode (says.Naming m) n h = record { begun = omega (arith, h.begun); place = omega (arith, h.place); link = omega (arith, h.link) }
-counted_line mode (says.Standing m) n h = record { begun = omega (arith, h.begun); place = omega (arith, h.place); link = omega (arith, h.link) }
+counted_line mode (says.Locating m) n h = record { begun = omega (arith, h.begun); place = omega (arith, h.place); link = omega (arith, h.link) }
 counted_line mode (says.Accepting cs) n h = record { begun = omega (arith, h.begun); place = omega (arith, h.place); link = omega (arith, h.link) }
 counted_line mode (says.Retrying r) n h = record { begun = omega (arith, h.begun); place = omega (arith, h.place); link = omega (arith, h.link) }
 counted_line mode says.AtStart n h = record { begun = omega (arith, h.begun); place = omega (arith, h.place); link = omega (arith, h.link) }
@@ -75,7 +75,7 @@ counted_lines mode (line ∷ lines) n h =
     let more = counted_lines (mode_after mode line) lines (n + 1) (counted_line mode line n h) in
     record { begun = omega (arith, more.begun); place = omega (arith, more.place); link = omega (arith, more.link) }
 
--- one line gives one command at most
+-- a list of one command or none has one command at most
 one_planned : (b : Bool) (p : Planned) → length (if b then [] else p ∷ []) ≤ 1
 one_planned true p = omega arith
 one_planned false p = omega arith
@@ -87,7 +87,7 @@ planned_line mode (says.Deadline d) = omega arith
 planned_line mode says.Chained = omega arith
 planned_line mode says.Unchained = omega arith
 planned_line mode (says.Naming m) = omega arith
-planned_line mode (says.Standing m) = omega arith
+planned_line mode (says.Locating m) = omega arith
 planned_line mode (says.Accepting cs) = omega arith
 planned_line mode (says.Retrying r) = omega arith
 planned_line mode says.AtStart = omega arith
@@ -103,19 +103,19 @@ planned_few mode (line ∷ lines) =
     length-append (planned_at mode line) (planned_of (mode_after mode line) lines) in
     omega (arith, one, more, all)
 
--- as many lines say something as are kept
+-- as many lines aren't skipped as things are said
 said_many : (lines : List (List ℕ)) (said : List TaskLine) → AreItems IsTaskLine lines said → length said ≡ length lines
 said_many [] [] are = refl
 said_many [] (s ∷ said) are = absurd are
 said_many (line ∷ lines) [] are = absurd are
 said_many (line ∷ lines) (s ∷ said) are = let n = said_many lines said are.1 in omega (arith, n)
 
--- a line more keeps the kept ones at most as many as all
+-- where at most all lines are kept, this holds with one more line, kept or not
 kept_one : (b : Bool) (line : List ℕ) (kept all : List (List ℕ)) → length kept ≤ length all → length (cond b (line ∷ kept) kept) ≤ length (line ∷ all)
 kept_one true line kept all few = omega (arith, few)
 kept_one false line kept all few = omega (arith, few)
 
--- at most all lines are kept
+-- at most as many lines aren't skipped as there are lines
 kept_few : (lines : List (List ℕ)) → length (filter is_kept lines) ≤ length lines
 kept_few [] = omega arith
 kept_few (line ∷ lines) = kept_one (is_kept line) line (filter is_kept lines) lines (kept_few lines)
@@ -138,16 +138,16 @@ behind_more mode (line ∷ lines) next = behind_more (mode_after mode line) line
 -- where lines may follow these names and places, and one more may follow the lines, all of them may follow there
 follow_more : (names : List Name) (nears : List Near) (lines : List TaskLine) (next : TaskLine) → MayFollow names nears lines
     → may_follow (names ++ names_of lines) (nears ++ nears_of lines) next ≡ true → MayFollow names nears (lines ++ next ∷ [])
-follow_more names nears [] next follow stands = (ap (λ ns. may_follow ns nears next) (sym (append-nil names)) ∙ ap (λ ps. may_follow (names ++ []) ps next) (sym (append-nil nears)) ∙ stands, tt)
-follow_more names nears (line ∷ lines) next follow stands = (
+follow_more names nears [] next follow allowed = (ap (λ ns. may_follow ns nears next) (sym (append-nil names)) ∙ ap (λ ps. may_follow (names ++ []) ps next) (sym (append-nil nears)) ∙ allowed, tt)
+follow_more names nears (line ∷ lines) next follow allowed = (
   follow.0,
   follow_more (names ++ name_at line) (nears ++ near_at line) lines next follow.1
       (ap (λ ns. may_follow ns ((nears ++ near_at line) ++ nears_of lines) next) (append_assoc names (name_at line) (names_of lines))
-      ∙ ap (λ ps. may_follow (names ++ (name_at line ++ names_of lines)) ps next) (append_assoc nears (near_at line) (nears_of lines)) ∙ stands),
+      ∙ ap (λ ps. may_follow (names ++ (name_at line ++ names_of lines)) ps next) (append_assoc nears (near_at line) (nears_of lines)) ∙ allowed),
 )
 
 -- how far the reading has come: `left` of the text is unread, `number` lines were read, and they gave these tasks of the
--- set-up, these commands of the cycle, names and places, and the mode after them. Where a line that says something was read,
+-- setup, these commands of the cycle, names and places, and the mode after them. Where a line that says something was read,
 -- a sound line was reached
 pub record ReadsTasks (text : List ℕ) (first : Mode) (left : Option (List ℕ)) (number : ℕ) (setup : List Task) (cycle : List Planned) (names : List Name) (nears : List Near)
     (mode : Mode) : Type 0 where
@@ -166,11 +166,11 @@ pub tasks_few : (text : List ℕ) (first : Mode) (left : Option (List ℕ)) (num
     → length text ≤ 65536 → ReadsTasks text first left number setup cycle names nears mode → number ≤ 65537
 tasks_few text first left number setup cycle names nears mode within r = reads_few IsTaskLine text left number r.said within r.reads
 
--- what was read
+-- what holds of the lines that were read of a text of at most 65,536 bytes
 module _
     (text : List ℕ) (deadline : ℕ) (chained : Bool) (left : Option (List ℕ)) (number : ℕ) (setup : List Task) (cycle : List Planned) (names : List Name) (nears : List Near) (mode : Mode)
     (within : length text ≤ 65536) (r : ReadsTasks text (opening deadline chained) left number setup cycle names nears mode) where
-  -- at most as many lines say something as were read
+  -- at most 65,537 of the lines that were read aren't skipped
   said_few : length r.said ≤ 65537
   said_few =
       let many = said_many (filter is_kept r.reads.read) r.said r.reads.items_are in
@@ -178,26 +178,26 @@ module _
       let read = reads_few IsTaskLine text left number r.said within r.reads in
       omega (arith, many, few, read, r.reads.count)
 
-  -- the counts of the mode are at most those of the lines
+  -- each count of the mode is at most 65,537
   counted : Counted mode 65537
   counted =
       let all = counted_lines (opening deadline chained) r.said 0 (record { begun = omega arith; place = omega arith; link = omega arith }) in
       let few = said_few in
       subst (λ m. Counted m 65537) (sym r.mode_is) (record { begun = omega (arith, few, all.begun); place = omega (arith, few, all.place); link = omega (arith, few, all.link) })
 
-  -- the set-up has at most as many commands
+  -- the mode counts at most 65,537 commands of the setup
   pub begun_few : mode.begun ≤ 65537
   begun_few = counted.begun
 
-  -- the cycle has at most as many commands
+  -- the mode counts at most 65,537 commands of the cycle
   pub place_few : mode.place ≤ 65537
   place_few = counted.place
 
-  -- a chain has at most as many commands
+  -- the mode counts at most 65,537 commands of a chain
   pub link_few : mode.link ≤ 65537
   link_few = counted.link
 
-  -- the cycle's commands are at most as many
+  -- the cycle's commands are at most 65,537
   pub cycle_few : length cycle ≤ 65537
   cycle_few = let few = said_few in let all = planned_few (opening deadline chained) r.said in let is = ap length r.cycle_are in omega (arith, few, all, is)
 
@@ -251,12 +251,12 @@ module _
       }
 
   -- how far the reading had come before this turn, as to the lines
-  stood : Reads IsTaskLine text (Some now) number r.said
-  stood = subst (λ o. Reads IsTaskLine text o number r.said) some r.reads
+  reads_before : Reads IsTaskLine text (Some now) number r.said
+  reads_before = subst (λ o. Reads IsTaskLine text o number r.said) some r.reads
 
   -- the text's lines are those that were read, this one, and those of the rest
-  split : text_lines text ≡ stood.read ++ without_cr line ∷ lines_left rest
-  split = stood.lines_are ∙ ap (λ ls. stood.read ++ ls) (lines-cut now line rest cut)
+  split : text_lines text ≡ reads_before.read ++ without_cr line ∷ lines_left rest
+  split = reads_before.lines_are ∙ ap (λ ls. reads_before.read ++ ls) (lines-cut now line rest cut)
 
   -- a line that tested as not skipped is one that has to say something
   is_line : skipped ≡ false → is_kept (without_cr line) ≡ true
@@ -266,14 +266,14 @@ module _
   faulty : skipped ≡ false → ((said : TaskLine) → IsTaskLine plain said → may_follow names nears said ≡ false) → IsFirstFaultyTask text (number + 1)
   faulty isnt none =
       record {
-        front = stood.read;
+        front = reads_before.read;
         line = without_cr line;
         rest = lines_left rest;
         lines_are = split;
-        place = ap (λ n. n + 1) stood.count;
+        place = ap (λ n. n + 1) reads_before.count;
         kept = is_line isnt;
         before = r.said;
-        lines = record { forms = stood.items_are; follow = r.follow };
+        lines = record { forms = reads_before.items_are; follow = r.follow };
         faulty = λ said is. said_so said ∙ none said (subst (λ (l : List ℕ). IsTaskLine l said) (sym is_plain) is);
       }
 
@@ -282,33 +282,33 @@ module _
   task_fails isnt none = faulty isnt (λ said is. absurd (none said is))
 
   -- a line that has a form, and isn't allowed there, is the first faulty one
-  pub task_refused : (said : TaskLine) (stands : Bool) → skipped ≡ false → IsTaskLine plain said → stands ≡ may_follow names nears said → stands ≡ false → IsFirstFaultyTask text (number + 1)
-  task_refused said stands isnt is asked no_more = faulty isnt (λ other form. ap (may_follow names nears) (one_said plain other said form is) ∙ sym asked ∙ no_more)
+  pub task_refused : (said : TaskLine) (allowed : Bool) → skipped ≡ false → IsTaskLine plain said → allowed ≡ may_follow names nears said → allowed ≡ false → IsFirstFaultyTask text (number + 1)
+  task_refused said allowed isnt is asked no_more = faulty isnt (λ other form. ap (may_follow names nears) (one_said plain other said form is) ∙ sym asked ∙ no_more)
 
   -- where memory is refused at a line that has a form and is allowed there, no line up to it is faulty
-  pub task_wants : (said : TaskLine) (stands : Bool) → skipped ≡ false → IsTaskLine plain said → stands ≡ may_follow names nears said → stands ≡ true → ReachesASoundTaskLine text
-  task_wants said stands isnt is asked did =
+  pub task_wants : (said : TaskLine) (allowed : Bool) → skipped ≡ false → IsTaskLine plain said → allowed ≡ may_follow names nears said → allowed ≡ true → ReachesASoundTaskLine text
+  task_wants said allowed isnt is asked did =
       record {
-        front = stood.read;
+        front = reads_before.read;
         line = without_cr line;
         rest = lines_left rest;
         lines_are = split;
         kept = is_line isnt;
         before = r.said;
-        lines = record { forms = stood.items_are; follow = r.follow };
+        lines = record { forms = reads_before.items_are; follow = r.follow };
         said = said;
         form = subst (λ (l : List ℕ). IsTaskLine l said) is_plain is;
-        stands = said_so said ∙ sym asked ∙ did;
+        allowed = said_so said ∙ sym asked ∙ did;
       }
 
   -- a line that isn't skipped, has a form and is allowed there is read: the lists grow by what it gives, and the mode is the
   -- one after it
   pub task_reads :
-      (said : TaskLine) (new_setup : List Task) (new_cycle : List Planned) (new_names : List Name) (new_nears : List Near) (next : Mode) (stands : Bool) → skipped ≡ false → IsTaskLine plain said
-      → stands ≡ may_follow names nears said → stands ≡ true → new_setup ≡ setup ++ setup_at mode said → new_cycle ≡ cycle ++ planned_at mode said → new_names ≡ names ++ name_at said
+      (said : TaskLine) (new_setup : List Task) (new_cycle : List Planned) (new_names : List Name) (new_nears : List Near) (next : Mode) (allowed : Bool) → skipped ≡ false → IsTaskLine plain said
+      → allowed ≡ may_follow names nears said → allowed ≡ true → new_setup ≡ setup ++ setup_at mode said → new_cycle ≡ cycle ++ planned_at mode said → new_names ≡ names ++ name_at said
       → new_nears ≡ nears ++ near_at said
       → next ≡ mode_after mode said → ReadsTasks text first rest (number + 1) new_setup new_cycle new_names new_nears next
-  task_reads said new_setup new_cycle new_names new_nears next stands isnt is asked did more_setup more_cycle more_names more_nears more =
+  task_reads said new_setup new_cycle new_names new_nears next allowed isnt is asked did more_setup more_cycle more_names more_nears more =
       record {
         said = r.said ++ said ∷ [];
         reads = turn_reads IsTaskLine text left now line plain rest number r.said skipped r.reads some cut is_plain tested said (r.said ++ said ∷ []) isnt is refl;
@@ -318,5 +318,5 @@ module _
         names_are = more_names ∙ ap (λ ns. ns ++ name_at said) r.names_are ∙ sym (names_more r.said said);
         nears_are = more_nears ∙ ap (λ ns. ns ++ near_at said) r.nears_are ∙ sym (nears_more r.said said);
         mode_is = more ∙ ap (λ m. mode_after m said) r.mode_is ∙ sym (behind_more first r.said said);
-        reached = inr (task_wants said stands isnt is asked did);
+        reached = inr (task_wants said allowed isnt is asked did);
       }

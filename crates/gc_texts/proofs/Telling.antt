@@ -7,7 +7,7 @@ use Rattle.gc_lines.proofs.Known.{Appends-append, Appends-is}
 use Rattle.gc_catalogue.specs.declared.call.Call.{Call}
 use Rattle.gc_client.specs.declared.settlement.Settlement.{Settlement}
 use Rattle.gc_client.specs.Settlements.{settlement_seen}
-use Rattle.gc_texts.specs.Settlements.{settlement_line, lines_from, ToldPart}
+use Rattle.gc_texts.specs.Settlements.{settlement_line, lines_from, WrotePartOfSettlements}
 use Rattle.gc_texts.proofs.SettlementLines.{lines_one, map_one, at_place}
 
 -- there are i settlements before the one at place i
@@ -27,10 +27,10 @@ lines_next place ss i s old mid new line below is text so more =
     (Appends-append old mid new _ _ so more)
 
 -- where a sink took the lines of the first i settlements, numbered from `place` on, and then only the first n bytes of the next
--- line, it took a part of all lines (`ToldPart`)
+-- line, it took a part of all lines (`WrotePartOfSettlements`)
 pub lines_part : (place : ℕ) (ss : List (Settlement Call)) (i n : ℕ) (s : Settlement Call) (old mid new : Option (List ℕ)) (line : List ℕ) → i < length ss
     → s ≡ get_or ss i s → line ≡ settlement_line (place + i) (settlement_seen s)
-    → Appends old mid (lines_from place (map settlement_seen (take i ss))) → TakesFront mid new n line → ToldPart place (map settlement_seen ss) old new
+    → Appends old mid (lines_from place (map settlement_seen (take i ss))) → TakesFront mid new n line → WrotePartOfSettlements place (map settlement_seen ss) old new
 lines_part place ss i n s old mid new line below is text so part =
     let front = map settlement_seen (take i ss) in
     let at : line ≡ settlement_line (place + length front) (settlement_seen s) = text ∙ ap (λ m. settlement_line (place + m) (settlement_seen s)) (sym (front_is ss i below)) in

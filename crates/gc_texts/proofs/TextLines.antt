@@ -17,7 +17,7 @@ abbrev pub much_left : Option (List ℕ) → ℕ
 much_left None = 0
 much_left (Some text) = length text + 1
 
--- a byte that isn't LF goes on the first piece
+-- a byte that isn't LF is added to the first piece
 piece-on : (before bs : List ℕ) (b : ℕ) → b ≢ 10 → text_pieces before (b ∷ bs) ≡ text_pieces (before ++ b ∷ []) bs
 piece-on before bs b other = ap (λ t. cond t (before ∷ text_pieces [] bs) (text_pieces (before ++ b ∷ []) bs)) (ne_eqb b 10 other)
 
@@ -151,9 +151,9 @@ next_item form text now line rest number items r cut kept e is =
 module _
     {Item : Type 0} (form : Form Item) (text : List ℕ) (left : Option (List ℕ)) (now line plain : List ℕ) (rest : Option (List ℕ)) (number : ℕ) (items : List Item) (skipped : Bool)
     (r : Reads form text left number items) (some : left ≡ Some now) (cut : Cuts 10 now line rest) (is_plain : plain ≡ without_cr line) (tested : skipped ≡ is_skipped plain) where
-  -- how far the reading had come before this turn
-  stands : Reads form text (Some now) number items
-  stands = subst (λ o. Reads form text o number items) some r
+  -- how far the reading had come before this turn, with the text `now` left
+  reads_before : Reads form text (Some now) number items
+  reads_before = subst (λ o. Reads form text o number items) some r
 
   -- a line that tested as not skipped isn't
   not_skipped : skipped ≡ false → is_skipped (without_cr line) ≡ false
@@ -163,20 +163,20 @@ module _
   pub turn_skips : skipped ≡ true → Reads form text rest (number + 1) items
   turn_skips is =
       let empty : LineItems form (without_cr line) [] = skipped_line form (without_cr line) (ap is_skipped (sym is_plain) ∙ sym tested ∙ is) in
-      subst (λ es. Reads form text rest (number + 1) es) (append-nil items) (reads_on form text now line rest number items [] stands cut empty)
+      subst (λ es. Reads form text rest (number + 1) es) (append-nil items) (reads_on form text now line rest number items [] reads_before cut empty)
 
   -- a line that isn't skipped and has the form of an item is read, and gives that item
   pub turn_reads : (item : Item) (new : List Item) → skipped ≡ false → form plain item → new ≡ items ++ item ∷ [] → Reads form text rest (number + 1) new
   turn_reads item new isnt is grown =
       let own : LineItems form (without_cr line) (item ∷ []) = kept_line form (without_cr line) item (not_skipped isnt) (subst (λ l. form l item) is_plain is) in
-      subst (λ es. Reads form text rest (number + 1) es) (sym grown) (reads_on form text now line rest number items (item ∷ []) stands cut own)
+      subst (λ es. Reads form text rest (number + 1) es) (sym grown) (reads_on form text now line rest number items (item ∷ []) reads_before cut own)
 
   -- a line that isn't skipped and has the form of no item is the first faulty one
   pub turn_fails : skipped ≡ false → ((e : Item) → form plain e → ⊥) → FirstFaulty form text (number + 1)
   turn_fails isnt none =
-      first_faulty form text now line rest number items stands cut (not_skipped isnt) (λ e is. none e (subst (λ l. form l e) (sym is_plain) is))
+      first_faulty form text now line rest number items reads_before cut (not_skipped isnt) (λ e is. none e (subst (λ l. form l e) (sym is_plain) is))
 
   -- where memory is refused at a line that has the form of an item, no line up to it is faulty
   pub turn_wants : (item : Item) → skipped ≡ false → form plain item → ReachesASoundLine form text
   turn_wants item isnt is =
-      next_item form text now line rest number items stands cut (not_skipped isnt) item (subst (λ l. form l item) is_plain is)
+      next_item form text now line rest number items reads_before cut (not_skipped isnt) item (subst (λ l. form l item) is_plain is)

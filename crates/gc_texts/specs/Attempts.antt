@@ -1,5 +1,5 @@
 -- The attempts of the chains of a station's text: this project's own. A chain is a command that isn't chained, and the
--- chained ones after it. It is sent at most once more than its line `retry` says, each time from its first command on.
+-- chained ones after it. It is sent once, and again at most as often as its line `retry` says, each time from its first command on.
 use Rattle.std.specs.Prelude.{ℕ, zero, suc, ◌+◌, ◌*◌, ◌==◌, ◌&&◌, nat_lt, List, [], ◌∷◌, ◌++◌, length, map, if◌then◌else◌}
 use Rattle.gc_texts.specs.Again.{no_again}
 use Rattle.gc_texts.specs.Retries.{no_retry}
@@ -8,8 +8,8 @@ use Rattle.gc_texts.specs.declared.retry.Retry.{Retry}
 use Rattle.gc_texts.specs.declared.attempts.Planned.{Planned}
 use Rattle.gc_texts.specs.declared.tasks.Task.{Task}
 
--- a command in this attempt of its chain. After the endings in `again` the chain is repeated. The first command of a later
--- attempt says how many commands this attempt and those after it have together
+-- the task of a command in this attempt of its chain. `again` says after which endings the chain is repeated, and `commands` how many
+-- commands this attempt and those after it have together: only the first command of a later attempt records that
 abbrev pub in_attempt : ℕ → Again → ℕ → Planned → Task
 in_attempt attempt again commands planned =
     record planned.task {
@@ -18,23 +18,23 @@ in_attempt attempt again commands planned =
       others = if (nat_lt 1 attempt) && (planned.task.turn.link == 0) then commands else 0;
     }
 
--- a chain's attempts from this one on, where as many as `left` may follow it; after the last the chain isn't repeated
+-- the tasks of a chain's attempts from this one on, if `left` more may follow it; after the last attempt the chain isn't repeated
 abbrev pub attempts_from : ℕ → ℕ → Again → List Planned → List Task
 attempts_from attempt zero again chain = map (in_attempt attempt no_again (length chain)) chain
 attempts_from attempt (suc left) again chain = map (in_attempt attempt again (length chain * suc (suc left))) chain ++ attempts_from (attempt + 1) left again chain
 
--- all attempts of a chain
+-- the tasks of all attempts of a chain
 abbrev pub attempts : Retry → List Planned → List Task
 attempts retry chain = attempts_from 1 retry.times retry.again chain
 
--- the attempts of a chain that was begun, and those of the chains after it: a chained command goes on with the chain, and
--- one that isn't chained begins the next
+-- the tasks of all attempts of `chain`, whose retry is `retry`, and of the chains that the further commands form: a chained command
+-- belongs to the chain before it, `chain` being the first, and one that isn't chained begins the next chain
 abbrev pub laid_from : Retry → List Planned → List Planned → List Task
 laid_from retry chain [] = attempts retry chain
 laid_from retry chain (planned ∷ later) =
     if planned.task.chained then laid_from retry (chain ++ planned ∷ []) later
     else attempts retry chain ++ laid_from planned.retry (planned ∷ []) later
 
--- the attempts of the chains of these commands, in order
+-- the tasks of all attempts of the chains that these commands form, chain by chain
 abbrev pub laid_out : List Planned → List Task
 laid_out planned = laid_from no_retry [] planned

@@ -1,5 +1,4 @@
--- What holds of a command in a station's text, by the lines before it: this project's own. The lines `chained` and
--- `unchained` are called lines of a mode: they say whether the commands after them are chained.
+-- What holds of a command in a station's text, by the lines before it: this project's own.
 use Rattle.std.specs.Prelude.{◌≡◌, ◌⊎◌, ℕ, ◌+◌, ◌≤◌, nat_lt, if◌then◌else◌, Bool, true, false, List, [], ◌∷◌, ◌++◌, length, Some}
 use Rattle.std.specs.List.{AllByRecursion}
 use Rattle.gc_texts.specs.Codes.{no_codes}
@@ -15,7 +14,7 @@ use Rattle.gc_texts.specs.declared.task_line.TaskLine.{TaskLine}
 use Rattle.gc_texts.specs.declared.task_line.TaskLine.TheVariants as says
 use Rattle.gc_texts.specs.declared.tasks.Task.{Task}
 
--- whether the commands after these lines are set-up, as the last line `at start` or `each cycle` says; `setup` says it
+-- whether the commands after these lines are setup, as the last line `at start` or `each cycle` says; `setup` says it
 -- before them
 abbrev pub section_after : Bool → List TaskLine → Bool
 section_after setup [] = setup
@@ -23,7 +22,7 @@ section_after setup (says.AtStart ∷ later) = section_after true later
 section_after setup (says.EachCycle ∷ later) = section_after false later
 section_after setup (line ∷ later) = section_after setup later
 
--- how many of these lines are commands of the set-up
+-- how many of these lines are commands of the setup; `setup` says whether the setup holds before them
 abbrev pub setup_commands : Bool → List TaskLine → ℕ
 setup_commands setup [] = 0
 setup_commands setup (says.Command command now ∷ later) = (if setup then 1 else 0) + setup_commands setup later
@@ -31,7 +30,7 @@ setup_commands setup (says.AtStart ∷ later) = setup_commands true later
 setup_commands setup (says.EachCycle ∷ later) = setup_commands false later
 setup_commands setup (line ∷ later) = setup_commands setup later
 
--- how many of these lines are commands of each cycle
+-- how many of these lines are commands of each cycle; `setup` says whether the setup holds before them
 abbrev pub cycle_commands : Bool → List TaskLine → ℕ
 cycle_commands setup [] = 0
 cycle_commands setup (says.Command command now ∷ later) = (if setup then 0 else 1) + cycle_commands setup later
@@ -39,46 +38,47 @@ cycle_commands setup (says.AtStart ∷ later) = cycle_commands true later
 cycle_commands setup (says.EachCycle ∷ later) = cycle_commands false later
 cycle_commands setup (line ∷ later) = cycle_commands setup later
 
--- a line says no deadline
+-- a line doesn't set the deadline
 abbrev pub SaysNoDeadline : TaskLine → Type 0
 SaysNoDeadline (says.Deadline deadline) = ⊥
 SaysNoDeadline _ = Unit {0}
 
+-- the value of a setting after these lines: that of the last line that sets it, or `given` where none does. `line_of` gives the line that
+-- sets a value, and `SetsNone` holds of the lines that leave the setting as it is
+abbrev pub IsSetAfter : {Value : Type 0} → (TaskLine → Type 0) → (Value → TaskLine) → Value → List TaskLine → Value → Type 0
+IsSetAfter SetsNone line_of given lines value =
+    (AllByRecursion SetsNone lines × (value ≡ given))
+    ⊎ ((before : List TaskLine) × (between : List TaskLine) × (lines ≡ before ++ line_of value ∷ between) × AllByRecursion SetsNone between)
+
 -- the deadline after these lines: that of the last one that says a deadline, or `given` where none does
 abbrev pub IsDeadlineAfter : ℕ → List TaskLine → ℕ → Type 0
-IsDeadlineAfter given lines deadline =
-    (AllByRecursion SaysNoDeadline lines × (deadline ≡ given))
-    ⊎ ((before : List TaskLine) × (between : List TaskLine) × (lines ≡ before ++ says.Deadline deadline ∷ between) × AllByRecursion SaysNoDeadline between)
+IsDeadlineAfter given lines deadline = IsSetAfter SaysNoDeadline says.Deadline given lines deadline
 
--- a line is neither `chained` nor `unchained`
+-- a line doesn't set whether commands are chained: it is neither `chained` nor `unchained`
 abbrev pub SaysNoChaining : TaskLine → Type 0
 SaysNoChaining says.Chained = ⊥
 SaysNoChaining says.Unchained = ⊥
 SaysNoChaining _ = Unit {0}
 
--- the line of a mode: `chained` or `unchained`
+-- the line that sets whether commands are chained: `chained` or `unchained`
 abbrev pub chaining_line : Bool → TaskLine
 chaining_line true = says.Chained
 chaining_line false = says.Unchained
 
--- whether commands are chained after these lines: as the last line of a mode says, or as `given` says where there is none
+-- whether commands are chained after these lines: as the last line `chained` or `unchained` says, or as `given` says where there is none
 abbrev pub IsChainingAfter : Bool → List TaskLine → Bool → Type 0
-IsChainingAfter given lines chained =
-    (AllByRecursion SaysNoChaining lines × (chained ≡ given))
-    ⊎ ((before : List TaskLine) × (between : List TaskLine) × (lines ≡ before ++ chaining_line chained ∷ between) × AllByRecursion SaysNoChaining between)
+IsChainingAfter given lines chained = IsSetAfter SaysNoChaining chaining_line given lines chained
 
--- a line sets no codes
+-- a line doesn't set the accepted codes
 abbrev pub SaysNoCodes : TaskLine → Type 0
 SaysNoCodes (says.Accepting accepted) = ⊥
 SaysNoCodes _ = Unit {0}
 
 -- the codes that are accepted after these lines: those of the last line that sets codes, and none where no line sets any
 abbrev pub AreAcceptedAfter : List TaskLine → Codes → Type 0
-AreAcceptedAfter lines accepted =
-    (AllByRecursion SaysNoCodes lines × (accepted ≡ no_codes))
-    ⊎ ((before : List TaskLine) × (between : List TaskLine) × (lines ≡ before ++ says.Accepting accepted ∷ between) × AllByRecursion SaysNoCodes between)
+AreAcceptedAfter lines accepted = IsSetAfter SaysNoCodes says.Accepting no_codes lines accepted
 
--- a line sets no retry
+-- a line doesn't set how often chains are repeated
 abbrev pub SaysNoRetry : TaskLine → Type 0
 SaysNoRetry (says.Retrying retry) = ⊥
 SaysNoRetry _ = Unit {0}
@@ -86,16 +86,14 @@ SaysNoRetry _ = Unit {0}
 -- how often chains are repeated after these lines, and after what: as the last line `retry` says, and never where there is
 -- none
 abbrev pub IsRetryAfter : List TaskLine → Retry → Type 0
-IsRetryAfter lines retry =
-    (AllByRecursion SaysNoRetry lines × (retry ≡ no_retry))
-    ⊎ ((before : List TaskLine) × (between : List TaskLine) × (lines ≡ before ++ says.Retrying retry ∷ between) × AllByRecursion SaysNoRetry between)
+IsRetryAfter lines retry = IsSetAfter SaysNoRetry says.Retrying no_retry lines retry
 
 -- a line that may come between two commands of a chain without ending it: a deadline, a name, where a target is, or accepted
 -- codes
 abbrev pub KeepsRow : TaskLine → Type 0
 KeepsRow (says.Deadline deadline) = Unit {0}
 KeepsRow (says.Naming name) = Unit {0}
-KeepsRow (says.Standing near) = Unit {0}
+KeepsRow (says.Locating near) = Unit {0}
 KeepsRow (says.Accepting accepted) = Unit {0}
 KeepsRow _ = ⊥
 
@@ -113,7 +111,7 @@ pub record IsTaskInCycle (chained : Bool) (front : List TaskLine) (command : Wis
   pub only : task.chained ≡ true → IsChainingAfter chained front true × EndsInRowOf front command.target
   pub found : IsChainingAfter chained front true → EndsInRowOf front command.target → task.chained ≡ true
 
--- the task of a command of the set-up that follows the lines `front`: its place counts the set-up's commands among them, and
+-- the task of a command of the setup that follows the lines `front`: its place counts the setup's commands among them, and
 -- it is chained exactly where there is one
 pub record IsTaskOfSetUp (front : List TaskLine) (task : Task) : Type 0 where
   pub place : task.turn.place ≡ setup_commands false front
@@ -132,7 +130,7 @@ pub record IsTaskOf (deadline : ℕ) (chained : Bool) (front : List TaskLine) (c
   pub in_cycle : section_after false front ≡ false → IsTaskInCycle chained front command task
 
 -- each command of a text is sent as the lines before it say, and its task has the place that the text gives its target, if
--- any. A command of the set-up is among the first `setup` tasks, after as many as are before it in the text; one of the
+-- any. A command of the setup is among the first `setup` tasks, after as many as are before it in the text; one of the
 -- cycle after them
 abbrev pub TasksFollowTheirLines : Type 0
 TasksFollowTheirLines =
@@ -146,5 +144,5 @@ TasksFollowTheirLines =
 abbrev pub PlacesHoldForAll : Type 0
 PlacesHoldForAll =
     (text : List ℕ) (deadline : ℕ) (chained : Bool) (setup : ℕ) (tasks : List Task) (names : List Name) (nears : List Near) (is : IsTasks text deadline chained setup tasks names nears)
-    (front later : List TaskLine) (near : Near) → is.said ≡ front ++ says.Standing near ∷ later
+    (front later : List TaskLine) (near : Near) → is.said ≡ front ++ says.Locating near ∷ later
     → (earlier others : List Task) (task : Task) → tasks ≡ earlier ++ task ∷ others → task.command.target ≡ near.target → task.near ≡ Some near

@@ -1,25 +1,24 @@
--- Return codes that a station's text accepts: this project's own.
+-- Lists of return codes in a station's text: this project's own.
 use Rattle.std.specs.Prelude.{◌≡◌, ℕ, ◌-◌, ◌≤◌, ◌==◌, ◌&&◌, Bool, not, List, [], ◌∷◌, ◌++◌, length, replicate}
 use Rattle.std.specs.List.{list_any}
 use Rattle.gc_texts.specs.Procedures.{IsNumber}
+use Rattle.gc_texts.specs.Words.{AreWords}
 use Rattle.gc_texts.specs.declared.codes.Codes.{Codes}
 
--- a word is this code, from 1 to 65535
+-- a word is this return code in decimal digits, from 1 to 65535
 pub record IsCode (word : List ℕ) (code : ℕ) : Type 0 where
   pub number : IsNumber word code 65535
   pub some : 1 ≤ code
 
 -- a text is these codes, at least one, with one space between two
 abbrev pub AreCodes : List ℕ → List ℕ → Type 0
-AreCodes text [] = ⊥
-AreCodes text (code ∷ []) = IsCode text code
-AreCodes text (code ∷ next ∷ others) = (word : List ℕ) × (rest : List ℕ) × (text ≡ word ++ 32 ∷ rest) × IsCode word code × AreCodes rest (next ∷ others)
+AreCodes text listed = AreWords IsCode text listed
 
 -- these codes in the first of 16 places, and 0, which is no code, in the others
 abbrev pub padded_codes : List ℕ → List ℕ
 padded_codes listed = listed ++ replicate (16 - length listed) 0
 
--- no code in any place
+-- the empty list of codes
 abbrev pub no_codes : Codes
 no_codes = record { codes = padded_codes [] }
 
@@ -31,5 +30,5 @@ pub record IsCodeList (text : List ℕ) (codes : Codes) : Type 0 where
   pub filled_are : codes.codes ≡ padded_codes listed
 
 -- whether this return code is among these codes; 0, which fills the places after them, never is
-abbrev pub are_accepted : Codes → ℕ → Bool
-are_accepted accepted code = not (code == 0) && list_any (λ c. c == code) accepted.codes
+abbrev pub lists_code : Codes → ℕ → Bool
+lists_code accepted code = not (code == 0) && list_any (λ c. c == code) accepted.codes

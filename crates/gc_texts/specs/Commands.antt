@@ -20,7 +20,7 @@ IsCommands text commands = IsText IsCommand text commands
 abbrev pub IsFirstFaultyCommand : List ℕ → ℕ → Type 0
 IsFirstFaultyCommand text n = FirstFaulty IsCommand text n
 
--- some line has the form of a command, and no line before it is faulty: the reading comes to that line, and may want memory
--- there
+-- the text has a line that has the form of a command, and no faulty line before it: a reader comes to such a line, and memory may be
+-- refused there
 abbrev pub ReachesASoundCommand : List ℕ → Type 0
 ReachesASoundCommand text = ReachesASoundLine IsCommand text

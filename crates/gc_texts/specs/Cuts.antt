@@ -6,8 +6,8 @@ abbrev pub Lacks : ℕ → List ℕ → Type 0
 Lacks mark [] = Unit {0}
 Lacks mark (b ∷ bs) = (b ≢ mark) × Lacks mark bs
 
--- `front` is what is before the first mark, and the last argument what follows it; without a mark, all of the text and
--- `None`
+-- a text, cut at the first mark: `front` is what is before the mark, and the last argument what follows it. Without a mark `front` is
+-- all of the text, and the last argument `None`
 abbrev pub Cuts : ℕ → List ℕ → List ℕ → Option (List ℕ) → Type 0
 Cuts mark text front None = (text ≡ front) × Lacks mark front
 Cuts mark text front (Some rest) = (text ≡ front ++ mark ∷ rest) × Lacks mark front
@@ -17,7 +17,7 @@ abbrev pub before : ℕ → List ℕ → List ℕ
 before mark [] = []
 before mark (b ∷ bs) = if b == mark then [] else b ∷ before mark bs
 
--- what follows the first mark, or nothing
+-- what follows the first mark; empty where there is none
 abbrev pub behind : ℕ → List ℕ → List ℕ
 behind mark [] = []
 behind mark (b ∷ bs) = if b == mark then bs else behind mark bs

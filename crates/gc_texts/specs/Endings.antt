@@ -18,14 +18,14 @@ pub data End : Type 0 where
   Elsewhere : (line : List ℕ) → End
   -- a reply to it came after it had timed out
   Late : End
-  -- no reply came, or none will be taken
+  -- no reply came, and one that still comes will be ignored
   Lost : End
   -- it wasn't sent, because the command before it in its chain wasn't answered well
   Skipped : End
   -- it wasn't sent, because its cycle couldn't begin before the next was due
   Missed : End
 
--- an ending of the code as one of the type above: its answer by its value, and the reply's line by its bytes
+-- an ending of the code as an `End`: its answer by its value, and the reply's line by its bytes
 abbrev pub ending_seen : Ending → End
 ending_seen (ending.Answered quality answer line) = Answered quality (option_map (λ a. a.now) answer) line.now.items
 ending_seen (ending.Unreadable line fault) = Unreadable line.now.items fault
@@ -35,7 +35,7 @@ ending_seen ending.Lost = Lost
 ending_seen ending.Skipped = Skipped
 ending_seen ending.Missed = Missed
 
--- the outcome in one word
+-- the word of an ending in records
 abbrev pub word_of : End → List ℕ
 word_of (Answered quality answer line) = codes "answered"
 word_of (Unreadable line fault) = codes "unreadable"
@@ -45,24 +45,24 @@ word_of Lost = codes "lost"
 word_of Skipped = codes "skipped"
 word_of Missed = codes "missed"
 
--- why the values of the command's reply don't read, where they don't
+-- the fault of the reply's values, if the ending is `Unreadable`
 abbrev pub fault_of : End → Option ValueFault
 fault_of (Unreadable line fault) = Some fault
 fault_of _ = None
 
--- the line of the command's reply, where one came in time
+-- the line of the command's reply, if one came in time
 abbrev pub line_of : End → Option (List ℕ)
 line_of (Answered quality answer line) = Some line
 line_of (Unreadable line fault) = Some line
 line_of (Elsewhere line) = Some line
 line_of _ = None
 
--- the quality of the command's answer, where it was answered
+-- the quality of the command's answer, if it was answered
 abbrev pub quality_of : End → Option Quality
 quality_of (Answered quality answer line) = Some quality
 quality_of _ = None
 
--- the word of a quality in a row; empty where there is none
+-- the word of an answer's quality in records; empty if there is no answer
 abbrev pub quality_text : Option Quality → List ℕ
 quality_text (Some quality) = quality_word quality
 quality_text None = []

@@ -41,7 +41,7 @@ fault_detail (Write replies bytes) = how_far replies bytes
 fault_detail (Schedule line) = codes " line " ++ decimal line
 fault_detail _ = []
 
--- a fault as it is printed
+-- the text of a fault: its number, and its detail
 abbrev pub run_fault_text : RunFault → List ℕ
 run_fault_text fault = numbered (run_fault_number fault) ++ fault_detail fault
 
@@ -56,7 +56,7 @@ Tells text (Ok _) status old new = (status ≡ 0) × (new ≡ old)
 Tells text (Err fault) status old new = (status ≡ 1) × Appends old new (fault_line (text fault))
 
 -- the result of serving, as the result of a run: `Ok` as `Ok`, and each fault as the run's fault of the same name. A failed
--- write keeps how far it came
+-- write carries how far it came
 abbrev pub end_of_serving : Result Served ServeFault → Result (Unit {0}) RunFault
 end_of_serving (Ok _) = Ok tt
 end_of_serving (Err (serving.Read _)) = Err Read

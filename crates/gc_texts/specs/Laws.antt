@@ -19,7 +19,7 @@ use Rattle.gc_texts.specs.declared.near.Near.{Near}
 use Rattle.gc_texts.specs.declared.tasks.Task.{Task}
 use Rattle.gc_texts.specs.declared.log_line.LogMark.{LogMark}
 
--- a text gives one list of commands at most
+-- a command text gives one list of commands at most
 abbrev pub OneCommandList : Type 0
 OneCommandList = (text : List ℕ) (xs ys : List Command) → IsCommands text xs → IsCommands text ys → xs ≡ ys
 
@@ -35,8 +35,8 @@ CommandsAreTasks =
     (text : List ℕ) (commands : List Command) (deadline : ℕ) (chained : Bool) → IsCommands text commands →
     (tasks : List Task) × IsTasks text deadline chained 0 tasks [] [] × (map (λ task. task.command) tasks ≡ map wish_of commands)
 
--- the tasks of these commands, the first of which is at this place: with the deadline, each not chained, and without a place
--- of its target, an accepted code or a rule
+-- the tasks of these commands, numbered from `place` on: each has this deadline, isn't chained, and has no place of its target, no
+-- accepted code and no rule of repetition
 abbrev pub plain_tasks : ℕ → ℕ → List Command → List Task
 plain_tasks deadline place [] = []
 plain_tasks deadline place (command ∷ others) =
@@ -58,7 +58,7 @@ abbrev pub CommandsArePlain : Type 0
 CommandsArePlain =
     (text : List ℕ) (commands : List Command) (deadline : ℕ) → IsCommands text commands → IsTasks text deadline false 0 (plain_tasks deadline 0 commands) [] []
 
--- each chained task follows one for the same target; the task before these, where there is one, is for the target `before`
+-- each chained task follows one for the same target; `before` is the target of the task before all of these, if there is one
 abbrev pub AreRows : Option ℕ → List Task → Type 0
 AreRows before [] = Unit {0}
 AreRows before (task ∷ later) = (task.chained ≡ true → before ≡ Some task.command.target) × AreRows (Some task.command.target) later
@@ -68,7 +68,7 @@ abbrev pub IsOneChain : List Task → Type 0
 IsOneChain [] = Unit {0}
 IsOneChain (first ∷ later) = (first.chained ≡ false) × AllByRecursion (λ task. task.chained ≡ true) later
 
--- the set-up is one chain; of the tasks after it the first isn't chained, and each chained one follows one for the same
+-- the setup is one chain; of the tasks after it the first isn't chained, and each chained one follows one for the same
 -- target
 abbrev pub ChainsAreRows : Type 0
 ChainsAreRows =
@@ -86,8 +86,10 @@ NamesAreTheCatalogues = (call : Call) → name_of (call_fields call).number ≡ 
 -- a log line reads back: what is written of a moment, a mark and bytes is a log line of these (`written`), and no text is a log
 -- line of two moments, marks or lists of bytes (`once`)
 pub record LogLinesReadBack : Type 0 where
-  pub written : (utc : ℕ) (mark : LogMark) (bytes : List ℕ) → utc < 2 ^ 64 → All (λ b. b < 256) bytes → IsLogLine (log_text (stamp_text utc) mark bytes) (stamp_text utc) mark bytes
-  pub once : (text one other : List ℕ) (mark sign : LogMark) (bytes more : List ℕ) → IsLogLine text one mark bytes → IsLogLine text other sign more → (one ≡ other) × (mark ≡ sign) × (bytes ≡ more)
+  pub written : (utc : ℕ) (mark : LogMark) (bytes : List ℕ) → utc < 2 ^ 64 → All (λ b. b < 256) bytes
+      → IsLogLine (log_text (stamp_text utc) mark bytes) (stamp_text utc) mark bytes
+  pub once : (text one other : List ℕ) (mark other_mark : LogMark) (bytes other_bytes : List ℕ) → IsLogLine text one mark bytes → IsLogLine text other other_mark other_bytes
+      → (one ≡ other) × (mark ≡ other_mark) × (bytes ≡ other_bytes)
 
 -- a log line has printable bytes alone, before its line feed
 abbrev pub LogLinesArePrintable : Type 0

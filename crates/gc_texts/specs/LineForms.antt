@@ -1,10 +1,10 @@
--- A text of lines, each of which stands for one item of a kind: this project's own.
-use Rattle.std.specs.Prelude.{◌≡◌, ℕ, ◌+◌, ◌-◌, ◌<◌, ◌≤◌, ◌==◌, Bool, true, List, [], ◌∷◌, ◌++◌, length, get_or, map, filter, not, if◌then◌else◌}
+-- A text of lines, each of which is written for one item: this project's own.
+use Rattle.std.specs.Prelude.{◌≡◌, ℕ, ◌+◌, ◌-◌, ◌<◌, ◌≤◌, ◌↔◌, ◌==◌, Bool, true, List, [], ◌∷◌, ◌++◌, length, get_or, map, filter, not, if◌then◌else◌, Result, Err}
 use Rattle.gc_texts.specs.declared.fault.RunFault.{RunFault}
 use Rattle.gc_texts.specs.declared.fault.RunFault.TheVariants.{Schedule, Memory, InputTooLong}
 use Rattle.gc_texts.specs.declared.text.TheConstants.{TEXT_LIMIT}
 
--- which lines have the form of which item
+-- a form of lines: it says which lines are written for which item
 abbrev pub Form : Type 0 → Type 1
 Form Item = List ℕ → Item → Type 0
 
@@ -32,18 +32,18 @@ abbrev pub is_skipped : List ℕ → Bool
 is_skipped [] = true
 is_skipped (b ∷ bs) = b == 35
 
--- whether a line isn't skipped, and so has to stand for an item
+-- whether a line isn't skipped, so that it must have the form of an item
 abbrev pub is_kept : List ℕ → Bool
 is_kept line = not (is_skipped line)
 
--- each line has the form of its item, one for one
+-- these lines have the forms of these items, one for one and in order
 abbrev pub AreItems : {Item : Type 0} → Form Item → List (List ℕ) → List Item → Type 0
 AreItems form [] [] = Unit {0}
 AreItems form [] (x ∷ xs) = ⊥
 AreItems form (line ∷ lines) [] = ⊥
 AreItems form (line ∷ lines) (x ∷ xs) = form line x × AreItems form lines xs
 
--- the text stands for these items: one for each line that isn't skipped
+-- the lines of the text that aren't skipped have the forms of these items, one for one and in order
 abbrev pub IsText : {Item : Type 0} → Form Item → List ℕ → List Item → Type 0
 IsText form text items = AreItems form (filter is_kept (text_lines text)) items
 
@@ -59,7 +59,8 @@ pub record FirstFaulty {Item : Type 0} (form : Form Item) (text : List ℕ) (n :
   pub items : List Item
   pub before : AreItems form (filter is_kept front) items
 
--- the text has a line that isn't faulty and has no faulty one before it. The reading comes to such a line, and may want memory there
+-- the text has a line that has the form of an item, and no faulty line before it: a reader comes to such a line, and memory may be
+-- refused there
 pub record ReachesASoundLine {Item : Type 0} (form : Form Item) (text : List ℕ) : Type 0 where
   pub front : List (List ℕ)
   pub line : List ℕ
@@ -78,3 +79,11 @@ TextFault form text InputTooLong = TEXT_LIMIT < length text
 TextFault form text (Schedule n) = (length text ≤ TEXT_LIMIT) × FirstFaulty form text n
 TextFault form text Memory = (length text ≤ TEXT_LIMIT) × ReachesASoundLine form text
 TextFault form text _ = ⊥
+
+-- the reading of this text had this result, which is `InputTooLong` exactly if the text has more bytes than a text may have
+abbrev pub RefusesLong : {A : Type 0} → List ℕ → Result A RunFault → Type 0
+RefusesLong text result = (result ≡ Err InputTooLong) ↔ (TEXT_LIMIT < length text)
+
+-- if a reading had this result, and it is `Schedule`, `faulty` holds of the number of the line that it names
+abbrev pub NamesFaulty : {A : Type 0} → (faulty : ℕ → Type 0) → Result A RunFault → Type 0
+NamesFaulty faulty result = (n : ℕ) → result ≡ Err (Schedule n) → faulty n

@@ -14,9 +14,9 @@ mark_text Came = codes "<"
 mark_text CamePart = codes "<|"
 mark_text Link = codes "-"
 
--- whether a byte is written as it is: printable ASCII except the backslash
-abbrev pub is_as_it_is : ℕ → Bool
-is_as_it_is b = nat_lt 31 b && nat_lt b 127 && not (b == 92)
+-- whether a log line writes a byte as it is, without \x: printable ASCII except the backslash
+abbrev pub is_unescaped : ℕ → Bool
+is_unescaped b = nat_lt 31 b && nat_lt b 127 && not (b == 92)
 
 -- a digit of base 16, in lower case
 abbrev pub hex_digit : ℕ → ℕ
@@ -24,9 +24,9 @@ hex_digit n = if nat_lt n 10 then 48 + n else 87 + n
 
 -- a byte as it is, or as \x and two digits
 abbrev pub escape : ℕ → List ℕ
-escape b = if is_as_it_is b then b ∷ [] else 92 ∷ 120 ∷ hex_digit (b / 16) ∷ hex_digit (b % 16) ∷ []
+escape b = if is_unescaped b then b ∷ [] else 92 ∷ 120 ∷ hex_digit (b / 16) ∷ hex_digit (b % 16) ∷ []
 
--- printable ASCII alone
+-- each byte of a text is printable ASCII
 abbrev pub IsPrintable : List ℕ → Type 0
 IsPrintable text = All (λ b. (32 ≤ b) × (b ≤ 126)) text
 

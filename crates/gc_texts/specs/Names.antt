@@ -16,11 +16,11 @@ is_formula (b ∷ bs) = (b == 61) || (b == 43) || (b == 45) || (b == 64)
 abbrev pub is_name : List ℕ → Bool
 is_name text = nat_lt 0 (length text) && nat_lt (length text) 65 && not (is_formula text) && not (list_any is_foreign text)
 
--- whether a target has a name among these
+-- whether one of these names is of this target
 abbrev pub is_named : ℕ → List Name → Bool
 is_named target names = list_any (λ name. name.target == target) names
 
--- the name of a target among these, or nothing
+-- the name of a target: that of the first of these names that is of this target; empty where none is
 abbrev pub name_text : ℕ → List Name → List ℕ
 name_text target [] = []
 name_text target (name ∷ names) = if name.target == target then name.text.items else name_text target names

@@ -14,16 +14,16 @@ use Rattle.gc_values.specs.Directions.{is_near, is_place, is_tolerance}
 use Rattle.gc_values.specs.Spelling.{Spells}
 use Rattle.gc_values.specs.declared.decimal.Decimal.{Decimal}
 use Rattle.gc_values.specs.declared.direction.Direction.{Direction}
-use Rattle.gc_texts.specs.Cuts.{before, behind}
 use Rattle.gc_texts.specs.Procedures.{IsNumber}
+use Rattle.gc_texts.specs.Words.{first_word, second_word, third_word, after_three_words}
 use Rattle.gc_texts.specs.declared.near.Near.{Near}
 
--- a number with a point or without one, as a parameter has it
+-- a text is this decimal number, with or without a point, as a parameter is written
 abbrev pub IsDouble : List ℕ → Decimal → Type 0
 IsDouble text d = Spells text d.digits d.scale
 
--- these words say a target, the direction in which it is, and how far from that each angle of a measurement may be, in
--- radians: `hz` is from 0 to a turn, and `v` and `tolerance` are from 0 to half a turn
+-- these four words are a target's number, the direction in which the target is, and how far from there each angle of a measurement may
+-- be. Angles are in radians: `hz` is from 0 to a turn, and `v` and `tolerance` are from 0 to half a turn
 pub record AreNearWords (target hz v tolerance : List ℕ) (near : Near) : Type 0 where
   pub target_is : IsNumber target near.target 4294967295
   pub hz_is : IsDouble hz near.place.hz
@@ -34,13 +34,13 @@ pub record AreNearWords (target hz v tolerance : List ℕ) (near : Near) : Type 
 
 -- `T HZ V TOLERANCE`, with one space between two words
 abbrev pub IsNearText : List ℕ → Near → Type 0
-IsNearText text near = AreNearWords (before 32 text) (before 32 (behind 32 text)) (before 32 (behind 32 (behind 32 text))) (behind 32 (behind 32 (behind 32 text))) near
+IsNearText text near = AreNearWords (first_word text) (second_word text) (third_word text) (after_three_words text) near
 
--- whether one of these places is the target's
-abbrev pub is_said : ℕ → List Near → Bool
-is_said target nears = list_any (λ near. near.target == target) nears
+-- whether one of these places is of this target
+abbrev pub has_near : ℕ → List Near → Bool
+has_near target nears = list_any (λ near. near.target == target) nears
 
--- the first of these places that is the target's, if there is one
+-- the first of these places that is of this target, if there is one
 abbrev pub near_of : ℕ → List Near → Option Near
 near_of target [] = None
 near_of target (near ∷ nears) = if near.target == target then Some near else near_of target nears
@@ -65,7 +65,7 @@ abbrev pub seeks_direction : Asked → Bool
 seeks_direction (Table call) = asks_direction call
 seeks_direction (Raw raw) = false
 
--- whether there is a direction, and it isn't near the place where the target is
+-- whether there is a direction that isn't near the place of the target
 abbrev pub is_away : Near → Option Direction → Bool
 is_away near None = false
 is_away near (Some d) = not (is_near d near.place near.tolerance)

@@ -4,7 +4,7 @@ use Rattle.gc_values.specs.Whole.{NamesNumber}
 use Rattle.gc_catalogue.specs.Calls.{IsCall}
 use Rattle.gc_catalogue.specs.declared.call.Call.{Call}
 
--- a number of a text: digits without a sign, at most max
+-- the text is the number `n` in digits, without a sign, and `n` is at most `max`
 pub record IsNumber (text : List ℕ) (n max : ℕ) : Type 0 where
   pub names : NamesNumber text n
   pub within : n ≤ max

@@ -9,7 +9,7 @@ is_good Fine = true
 is_good Warning = true
 is_good Refused = false
 
--- the word of a quality in a row
+-- the word of a quality in rows and in lines of JSON
 abbrev pub quality_word : Quality → List ℕ
 quality_word Fine = codes "ok"
 quality_word Warning = codes "warning"

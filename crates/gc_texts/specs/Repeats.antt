@@ -17,16 +17,16 @@ use Rattle.gc_texts.specs.declared.tasks.Task.{Task}
 
 -- a task without the fields that distinguish the attempts of its chain: what it asks, its deadline, its places and its
 -- accepted codes are left
-abbrev pub as_said : Task → Task
-as_said task = record task { again = no_again; turn = record { place = task.turn.place; attempt = 1; link = task.turn.link }; others = 0 }
+abbrev pub as_planned : Task → Task
+as_planned task = record task { again = no_again; turn = record { place = task.turn.place; attempt = 1; link = task.turn.link }; others = 0 }
 
 -- these tasks are one attempt of a chain: its commands, in order, each in this attempt and with this rule
 pub record IsAttempt (attempt : ℕ) (again : Again) (commands tasks : List Task) : Type 0 where
-  pub same : map as_said tasks ≡ commands
+  pub same : map as_planned tasks ≡ commands
   pub numbered : AllByRecursion (λ task. task.turn.attempt ≡ attempt) tasks
   pub ruled : AllByRecursion (λ task. task.again ≡ again) tasks
 
--- these tasks are a chain's attempts from this one on, in order, as many as `left` after it. Each but the last has the rule
+-- these tasks are a chain's attempts from this one on, in order; `left` more follow it. Each but the last has the rule
 -- `again`, and the last has none
 abbrev pub AreAttempts : ℕ → ℕ → Again → List Task → List Task → Type 0
 AreAttempts attempt zero again commands tasks = IsAttempt attempt no_again commands tasks
@@ -45,7 +45,7 @@ AreLaidOut (chain ∷ others) tasks =
     IsOneChain chain.commands
     × ((mine : List Task) × (later : List Task) × (tasks ≡ mine ++ later) × AreAttempts 1 chain.retry.times chain.retry.again chain.commands mine × AreLaidOut others later)
 
--- the tasks after the set-up are the attempts of chains, in order, and the commands of these chains, each with its chain's
+-- the tasks after the setup are the attempts of chains, in order, and the commands of these chains, each with its chain's
 -- retry, are the text's commands of the cycle, in order, each once, with the retry that holds for it
 abbrev pub ChainsGoOutAgain : Type 0
 ChainsGoOutAgain =

@@ -17,18 +17,18 @@ outcome_text Lost = codes " lost"
 abbrev pub settlement_line : ℕ → Settlement Call → List ℕ
 settlement_line place s = decimal place ++ codes " " ++ decimal s.target ++ outcome_text s.outcome ++ codes "\n"
 
--- the lines of settlements, from this place on
+-- the lines of settlements, numbered from this place on
 abbrev pub lines_from : ℕ → List (Settlement Call) → List ℕ
 lines_from place [] = []
 lines_from place (s ∷ later) = settlement_line place s ++ lines_from (place + 1) later
 
--- the lines of settlements, from place 0 on
+-- the lines of settlements, numbered from place 0 on
 abbrev pub settlement_lines : List (Settlement Call) → List ℕ
 settlement_lines settlements = lines_from 0 settlements
 
--- a sink took a part of the lines of these settlements, the first of them at this place: the whole lines of the earlier ones, and less than
--- the line of the next one
-pub record ToldPart (place : ℕ) (settled : List (Settlement Call)) (old new : Option (List ℕ)) : Type 0 where
+-- a sink took a part of the lines of these settlements, which are numbered from `place` on: the whole lines of the earlier ones, and the
+-- first `part` bytes, which aren't all, of the line of the next one. `old` and `new` are what it has taken before and after
+pub record WrotePartOfSettlements (place : ℕ) (settled : List (Settlement Call)) (old new : Option (List ℕ)) : Type 0 where
   pub earlier : List (Settlement Call)
   pub next : Settlement Call
   pub later : List (Settlement Call)
@@ -37,8 +37,10 @@ pub record ToldPart (place : ℕ) (settled : List (Settlement Call)) (old new : 
   pub not_all : part < length (settlement_line (place + length earlier) next)
   pub took : Appends old new (lines_from place earlier ++ take part (settlement_line (place + length earlier) next))
 
--- the lines of these settlements, from this place on, were written: all, or a part of them where the sink failed
-abbrev pub Told : ℕ → List (Settlement Call) → Option (List ℕ) → Option (List ℕ) → Bool → Bool → Result (Unit {0}) RunFault → Type 0
-Told place settled old new old_failed new_failed (Ok _) = Appends old new (lines_from place settled) × (new_failed ≡ old_failed)
-Told place settled old new old_failed new_failed (Err Output) = ToldPart place settled old new × (new_failed ≡ true)
-Told place settled old new old_failed new_failed (Err _) = ⊥
+-- the result of writing the lines of these settlements, numbered from `place` on, to a sink: `Ok` if it took all of them, and `Output`
+-- if it took a part of them and failed. `old` and `new` are what it has taken before and after, and `old_failed` and `new_failed` whether
+-- it has failed
+abbrev pub WroteSettlements : ℕ → List (Settlement Call) → Option (List ℕ) → Option (List ℕ) → Bool → Bool → Result (Unit {0}) RunFault → Type 0
+WroteSettlements place settled old new old_failed new_failed (Ok _) = Appends old new (lines_from place settled) × (new_failed ≡ old_failed)
+WroteSettlements place settled old new old_failed new_failed (Err Output) = WrotePartOfSettlements place settled old new × (new_failed ≡ true)
+WroteSettlements place settled old new old_failed new_failed (Err _) = ⊥

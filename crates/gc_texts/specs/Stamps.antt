@@ -8,17 +8,17 @@ use Rattle.gc_texts.specs.declared.stamp.Date.{Date}
 abbrev pub is_leap : ℕ → Bool
 is_leap year = (year % 4 == 0) && (not (year % 100 == 0) || (year % 400 == 0))
 
--- the days of a month
+-- how many days a month of a year has; months count from 1
 abbrev pub month_days : ℕ → ℕ → ℕ
 month_days year month =
     if month == 2 then (if is_leap year then 29 else 28)
     else (if (month == 4) || (month == 6) || (month == 9) || (month == 11) then 30 else 31)
 
--- the days of a year
+-- how many days a year has
 abbrev pub year_days : ℕ → ℕ
 year_days year = if is_leap year then 366 else 365
 
--- how many days the first `months` months of a year have
+-- how many days the first n months of a year have together; n is the second argument
 unfoldable pub days_of_months : ℕ → ℕ → ℕ
 days_of_months year zero = 0
 days_of_months year (suc n) = days_of_months year n + month_days year (n + 1)
@@ -38,19 +38,19 @@ days_after (suc n) d = days_after n (next_day d)
 abbrev pub date_of : ℕ → Date
 date_of days = days_after days (record { year = 1970; month = 1; day = 1 })
 
--- a number in two digits
+-- a number below 100, in two ASCII digits
 abbrev pub two_digits : ℕ → List ℕ
 two_digits n = (48 + n / 10) ∷ (48 + n % 10) ∷ []
 
--- a number in three digits
+-- a number below 1000, in three ASCII digits
 abbrev pub three_digits : ℕ → List ℕ
 three_digits n = (48 + n / 100) ∷ two_digits (n % 100)
 
--- a day, as 2026-11-22
+-- a date as text, as 2026-11-22
 abbrev pub date_text : Date → List ℕ
 date_text d = decimal d.year ++ codes "-" ++ two_digits d.month ++ codes "-" ++ two_digits d.day
 
--- the milliseconds of a day as its time, as 23:08:27.123
+-- the time of day that is `millis` milliseconds after midnight, as 23:08:27.123
 abbrev pub time_text : ℕ → List ℕ
 time_text millis =
     two_digits (millis / 3_600_000) ++ codes ":" ++ two_digits (millis / 60_000 % 60) ++ codes ":"

@@ -59,27 +59,27 @@ pub record IsRetryLine (line : List ℕ) (retry : Retry) : Type 0 where
 abbrev pub SetsRetry : List ℕ → Retry → Type 0
 SetsRetry line retry = ((line ≡ codes "retry 0") × (retry ≡ no_retry)) ⊎ IsRetryLine line retry
 
--- `T 5007 now`: the target T, whose clock is set to the moment at which the command is sent. Until then the call has the
--- first moment
+-- `T 5007 now`: a command that sets the clock of target T to the moment at which it is sent. Until then its call has the first moment
+-- of 1970
 pub record SetsClock (line : List ℕ) (wish : Wish) : Type 0 where
   pub target_is : IsNumber (first_word line) wish.target 4294967295
   pub rest_is : behind 32 line ≡ codes "5007 now"
   pub call_is : wish.call ≡ Table (SetDate FIRST_MOMENT)
 
--- a line asks for this; `true`: with the moment at which it is sent
+-- a line asks for this wish; `true`: the wish sets the clock to the moment at which it is sent
 abbrev pub IsAsking : List ℕ → Wish → Bool → Type 0
 IsAsking line wish true = SetsClock line wish
 IsAsking line wish false = IsWish line wish
 
 -- what a line says: a command, a deadline, that commands are chained or that they aren't, a name, where a target is, which
--- return codes are accepted, how often chains are repeated, or that the commands after it are set-up or those of each cycle
+-- return codes are accepted, how often chains are repeated, or that the commands after it are setup or those of each cycle
 abbrev pub IsTaskLine : List ℕ → TaskLine → Type 0
 IsTaskLine line (says.Command wish now) = IsAsking line wish now
 IsTaskLine line (says.Deadline deadline) = IsDeadline line deadline
 IsTaskLine line says.Chained = line ≡ codes "chained"
 IsTaskLine line says.Unchained = line ≡ codes "unchained"
 IsTaskLine line (says.Naming name) = IsNameLine line name
-IsTaskLine line (says.Standing near) = IsNearLine line near
+IsTaskLine line (says.Locating near) = IsNearLine line near
 IsTaskLine line (says.Accepting accepted) = SetsAccepted line accepted
 IsTaskLine line (says.Retrying retry) = SetsRetry line retry
 IsTaskLine line says.AtStart = line ≡ codes "at start"

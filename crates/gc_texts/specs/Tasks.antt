@@ -1,9 +1,9 @@
 -- A station's text, and the tasks, the names and the places of targets that it gives: this project's own. The mode at a line
 -- is what holds for a command there: its deadline, whether commands are chained, the target of the row that it may continue,
--- the codes that are accepted, how often its chain is repeated, whether it is set-up, and how many commands of each section
+-- the codes that are accepted, how often its chain is repeated, whether it is setup, and how many commands of each section
 -- are in front. A row is a run of commands for one target, with no line `chained`, `unchained`, `retry`, `at start` or `each
 -- cycle` between them.
-use Rattle.std.specs.Prelude.{◌≡◌, ℕ, ◌+◌, ◌<◌, ◌≤◌, ◌==◌, ◌&&◌, Bool, true, false, not, nat_lt, List, [], ◌∷◌, ◌++◌, length, map, filter, Option, None, Some, if◌then◌else◌}
+use Rattle.std.specs.Prelude.{◌≡◌, ℕ, ◌+◌, ◌<◌, ◌≤◌, ◌==◌, ◌&&◌, Bool, true, false, not, nat_lt, List, [], ◌∷◌, ◌++◌, length, map, filter, Option, None, Some, Vec, vec_capacity, vec_len, if◌then◌else◌}
 use Rattle.gc_catalogue.specs.declared.asked.Asked.{Asked}
 use Rattle.gc_catalogue.specs.declared.asked.Asked.TheVariants.{Table}
 use Rattle.gc_catalogue.specs.declared.call.Call.TheVariants.{SetDate}
@@ -12,7 +12,7 @@ use Rattle.gc_texts.specs.Attempts.{laid_out}
 use Rattle.gc_texts.specs.Codes.{no_codes}
 use Rattle.gc_texts.specs.LineForms.{text_lines, is_kept, AreItems}
 use Rattle.gc_texts.specs.Names.{is_named}
-use Rattle.gc_texts.specs.Nears.{is_said, near_of}
+use Rattle.gc_texts.specs.Nears.{has_near, near_of}
 use Rattle.gc_texts.specs.Retries.{no_retry}
 use Rattle.gc_texts.specs.Stamps.{date_time}
 use Rattle.gc_texts.specs.TaskLines.{IsTaskLine}
@@ -29,8 +29,8 @@ use Rattle.gc_texts.specs.declared.turn.Turn.{Turn}
 use Rattle.gc_texts.specs.declared.wish.Wish.{Wish}
 use Rattle.gc_texts.specs.declared.text.TheConstants.{TEXT_LIMIT}
 
--- the mode before any line: this deadline, chained or not, no row, no code that is accepted beside 0, and no retry; the
--- commands are those of each cycle, and none is in front
+-- the mode before any line: the caller's deadline and chaining, no row, no code that is accepted beside 0, and no retry; the commands
+-- after it are those of each cycle, and none came before it
 abbrev pub opening : ℕ → Bool → Mode
 opening deadline chained = record { deadline = deadline; chained = chained; row = None; accepted = no_codes; retry = no_retry; setup = false; begun = 0; place = 0; link = 0 }
 
@@ -39,17 +39,17 @@ abbrev pub continues_row : Option ℕ → ℕ → Bool
 continues_row (Some before) target = before == target
 continues_row None target = false
 
--- whether a command for this target is chained: of the set-up each but the first, and of the cycle where the mode says so and the command
--- continues the row
+-- whether a command for this target is chained: in the setup each command but the first is, and in the cycle a command is if the mode
+-- chains commands and the command continues the row
 abbrev pub is_chained : Mode → ℕ → Bool
 is_chained mode target = if mode.setup then nat_lt 0 mode.begun else mode.chained && continues_row mode.row target
 
--- where a command is in its chain: a set-up command after all others of the set-up, a command that is chained after the one
--- before it, and any other in front
+-- the place of a command in its chain, from 0: a setup command follows all others of the setup, a chained command of the cycle
+-- follows the one before it, and any other is the first
 abbrev pub place_in_chain : Mode → Bool → ℕ
 place_in_chain mode chained = if mode.setup then mode.begun else if chained then mode.link else 0
 
--- the place of a command among those of its section, its first attempt, and its place in its chain
+-- the turn of a command, chained or not, in its first attempt: its place among the commands of its section, and its place in its chain
 abbrev pub turn_at : Mode → Bool → Turn
 turn_at mode chained = record { place = if mode.setup then mode.begun else mode.place; attempt = 1; link = place_in_chain mode chained }
 
@@ -73,13 +73,14 @@ mode_after mode (says.Deadline deadline) = record mode { deadline = deadline }
 mode_after mode says.Chained = record mode { chained = true; row = None }
 mode_after mode says.Unchained = record mode { chained = false; row = None }
 mode_after mode (says.Naming name) = mode
-mode_after mode (says.Standing near) = mode
+mode_after mode (says.Locating near) = mode
 mode_after mode (says.Accepting accepted) = record mode { accepted = accepted }
 mode_after mode (says.Retrying retry) = record mode { retry = retry; row = None }
 mode_after mode says.AtStart = record mode { setup = true; row = None }
 mode_after mode says.EachCycle = record mode { setup = false; row = None }
 
--- the task of a command in its first attempt; its place and its rule are set later (`placed`, `laid_out`)
+-- the task of a command in its first attempt; `now` says whether the command sets the clock to the moment at which it is sent. The place
+-- of its target and the rule of its chain are set later (`placed`, `laid_out`)
 abbrev pub task_at : Mode → Wish → Bool → Task
 task_at mode command now =
     record {
@@ -94,33 +95,37 @@ task_at mode command now =
       now = now;
     }
 
--- the task of a line that is a set-up command, as a list of one; no task of another line
+-- a list has no room for one more item, unless it grows
+abbrev pub IsFull : {X Z : Type 0} → Vec X Z → Type 0
+IsFull items = vec_capacity items ≤ vec_len items
+
+-- the task that a line gives the setup, as a list of one, where `mode` holds before it; none if it is no setup command
 abbrev pub setup_at : Mode → TaskLine → List Task
 setup_at mode (says.Command command now) = if mode.setup then task_at mode command now ∷ [] else []
 setup_at mode _ = []
 
--- the tasks of the set-up of these lines, the first of which is in this mode
+-- the tasks of the setup that these lines give, where `mode` holds before them
 abbrev pub setup_of : Mode → List TaskLine → List Task
 setup_of mode [] = []
 setup_of mode (line ∷ later) = setup_at mode line ++ setup_of (mode_after mode line) later
 
--- the command of a line that is one of each cycle, with how often its chain is repeated, as a list of one; none of another
--- line
+-- the command that a line gives each cycle, with the rule of its chain, as a list of one, where `mode` holds before it; none if it is no
+-- command of each cycle
 abbrev pub planned_at : Mode → TaskLine → List Planned
 planned_at mode (says.Command command now) = if mode.setup then [] else record { task = task_at mode command now; retry = mode.retry } ∷ []
 planned_at mode _ = []
 
--- the commands of each cycle of these lines, the first of which is in this mode
+-- the commands of each cycle that these lines give, where `mode` holds before them
 abbrev pub planned_of : Mode → List TaskLine → List Planned
 planned_of mode [] = []
 planned_of mode (line ∷ later) = planned_at mode line ++ planned_of (mode_after mode line) later
 
--- the tasks of these lines, before any line of which this mode holds: those of the set-up, and after them the attempts of
--- the chains of the cycle
+-- the tasks that these lines give, where `mode` holds before them: those of the setup, and after them the attempts of the chains of the
+-- cycle
 abbrev pub tasks_of : Mode → List TaskLine → List Task
 tasks_of mode lines = setup_of mode lines ++ laid_out (planned_of mode lines)
 
--- the name that a line gives a target, as a list of one; none of another line
+-- the name that a line gives a target, as a list of one; none if it is no line `name`
 abbrev pub name_at : TaskLine → List Name
 name_at (says.Naming name) = name ∷ []
 name_at _ = []
@@ -130,38 +135,38 @@ abbrev pub names_of : List TaskLine → List Name
 names_of [] = []
 names_of (line ∷ later) = name_at line ++ names_of later
 
--- the place that a line gives a target, as a list of one; none of another line
+-- the place that a line gives a target, as a list of one; none if it is no line `near`
 abbrev pub near_at : TaskLine → List Near
-near_at (says.Standing near) = near ∷ []
+near_at (says.Locating near) = near ∷ []
 near_at _ = []
 
--- where targets are, as these lines say
+-- the places that these lines give
 abbrev pub nears_of : List TaskLine → List Near
 nears_of [] = []
 nears_of (line ∷ later) = near_at line ++ nears_of later
 
--- a task with its target's place, where one of `nears` is of that target
+-- a task with the place of its target: the first of `nears` that is of that target, and none where there is none
 abbrev pub placed : List Near → Task → Task
 placed nears task = record task { near = near_of task.command.target nears }
 
 -- whether a line may follow lines that gave these names and places: a name only where there are fewer than 64 names and its
--- target has none, and a place likewise
+-- target has none, a place only where there are fewer than 64 places and its target has none, and any other line always
 abbrev pub may_follow : List Name → List Near → TaskLine → Bool
 may_follow names nears (says.Naming name) = nat_lt (length names) 64 && not (is_named name.target names)
-may_follow names nears (says.Standing near) = nat_lt (length nears) 64 && not (is_said near.target nears)
+may_follow names nears (says.Locating near) = nat_lt (length nears) 64 && not (has_near near.target nears)
 may_follow names nears _ = true
 
--- each line may follow these names and places, and those of the lines before it
+-- each of these lines may follow (`may_follow`) these names and places, and those of the lines before it
 abbrev pub MayFollow : List Name → List Near → List TaskLine → Type 0
 MayFollow names nears [] = Unit {0}
 MayFollow names nears (line ∷ later) = (may_follow names nears line ≡ true) × MayFollow (names ++ name_at line) (nears ++ near_at line) later
 
--- these lines are in a station's text: each has its form, and may follow those before it
+-- a station's text may have these lines, and those that aren't skipped say this: each has its form, and may follow those before it
 pub record AreTaskLines (lines : List (List ℕ)) (said : List TaskLine) : Type 0 where
   pub forms : AreItems IsTaskLine (filter is_kept lines) said
   pub follow : MayFollow [] [] said
 
--- the text gives these tasks, names and places; the first `setup` tasks are the set-up. Before any line the deadline is
+-- the text gives these tasks, names and places; the first `setup` tasks are the setup. Before any line the deadline is
 -- `deadline`, and commands are chained where `chained` says so. A place holds for all tasks of its target, wherever its line
 -- is
 pub record IsTasks (text : List ℕ) (deadline : ℕ) (chained : Bool) (setup : ℕ) (tasks : List Task) (names : List Name) (nears : List Near) : Type 0 where
@@ -185,8 +190,8 @@ pub record IsFirstFaultyTask (text : List ℕ) (n : ℕ) : Type 0 where
   pub lines : AreTaskLines front before
   pub faulty : (said : TaskLine) → IsTaskLine line said → may_follow (names_of before) (nears_of before) said ≡ false
 
--- the text has a line that isn't faulty and has no faulty one before it: it has a form, and may follow the lines before it.
--- The reading comes to such a line, and may want memory there
+-- the text has a line that has a form and may follow the lines before it, and none of these is faulty: a reader comes to such a line,
+-- and memory may be refused there
 pub record ReachesASoundTaskLine (text : List ℕ) : Type 0 where
   pub front : List (List ℕ)
   pub line : List ℕ
@@ -197,7 +202,7 @@ pub record ReachesASoundTaskLine (text : List ℕ) : Type 0 where
   pub lines : AreTaskLines front before
   pub said : TaskLine
   pub form : IsTaskLine line said
-  pub stands : may_follow (names_of before) (nears_of before) said ≡ true
+  pub allowed : may_follow (names_of before) (nears_of before) said ≡ true
 
 -- why the reading of a station's text gave no tasks: the text is too long; or else line n is its first faulty one; or else
 -- memory was refused at a line that isn't faulty

@@ -20,10 +20,14 @@ use Rattle.gc_texts.specs.declared.trouble.Trouble.TheVariants as trouble
 abbrev pub parameter_count : ℕ → ℕ
 parameter_count rpc =
     if (rpc == 107) || (rpc == 2012) || (rpc == 2107) || (rpc == 17008) || (rpc == 17017) then 1
-    else (if (rpc == 2008) || (rpc == 2108) then 2 else (if (rpc == 9028) || (rpc == 9037) then 3
-    else (if rpc == 2010 then 4 else (if rpc == 9027 then 5 else (if rpc == 5007 then 6 else 0)))))
+    else if (rpc == 2008) || (rpc == 2108) then 2
+    else if (rpc == 9028) || (rpc == 9037) then 3
+    else if rpc == 2010 then 4
+    else if rpc == 9027 then 5
+    else if rpc == 5007 then 6
+    else 0
 
--- what is reported of a procedure's parameters with this fault: how many the procedure wants, where the line has another
+-- what is reported of a procedure's parameters with this fault: how many the procedure has, where the line has another
 -- number of them; else that their spelling is at fault
 abbrev pub parameters_trouble : ℕ → ValueFault → Trouble
 parameters_trouble rpc Count = trouble.Wants rpc (parameter_count rpc)
@@ -45,15 +49,15 @@ IsCallTrouble rpc params (trouble.Wants n count) = IsParametersTrouble rpc param
 IsCallTrouble rpc params trouble.Parameters = IsParametersTrouble rpc params trouble.Parameters
 IsCallTrouble rpc params _ = ⊥
 
--- what is reported of a procedure's number and its parameters after the word `raw`, where they may not be asked for so: that
+-- what is reported of a procedure's number and its parameters after the word `raw`, if they are refused for this reason: that
 -- the number is in the table, that the line would be too long, or that the parameters are at fault
 abbrev pub raw_trouble : ℕ → RawFault → Trouble
 raw_trouble rpc InTable = trouble.RawInTable rpc
 raw_trouble rpc TooLong = trouble.RawTooLong
 raw_trouble rpc _ = trouble.RawParameters
 
--- a procedure's number and its parameters may not be asked for after the word `raw`, and `t` is what is reported of the
--- reason; or they may, and nothing is at fault in them
+-- a procedure's number and its parameters are refused after the word `raw`, and `t` is what is reported of the reason; or
+-- they make a request, and nothing is at fault in them (`NoForm`)
 abbrev pub IsRawTrouble : ℕ → List ℕ → Trouble → Type 0
 IsRawTrouble rpc params t = ((fault : RawFault) × IsRawRefusal rpc params fault × (t ≡ raw_trouble rpc fault)) ⊎ (IsRawCall rpc params × (t ≡ trouble.NoForm))
 
@@ -61,8 +65,8 @@ IsRawTrouble rpc params t = ((fault : RawFault) × IsRawRefusal rpc params fault
 abbrev pub NoNumber : List ℕ → ℕ → Type 0
 NoNumber text max = (n : ℕ) → IsNumber text n max → ⊥
 
--- the word after `raw` is no procedure's number; or it is one that has this trouble with the parameters
--- after it
+-- the word after `raw` is no procedure's number, and `t` is `Number`; or it is one, and `t` is what is at fault in it and the
+-- parameters after it
 abbrev pub IsRawWordsTrouble : List ℕ → List ℕ → Trouble → Type 0
 IsRawWordsTrouble word params t = ((t ≡ trouble.Number) × NoNumber word 65535) ⊎ ((rpc : ℕ) × IsNumber word rpc 65535 × IsRawTrouble rpc params t)
 
@@ -126,11 +130,11 @@ IsAskingTrouble line t = IsCommandTrouble line t
 abbrev pub IsTrouble : List ℕ → Trouble → Type 0
 IsTrouble line t = IsSettingTrouble line t ⊎ (BeginsAsCommand line × IsAskingTrouble line t)
 
--- that the procedure with this number and name is in the table, so that the word `raw` is to be left out
+-- the text that the procedure with this number and name is in the table, so the word `raw` is to be left out
 abbrev pub in_table_text : ℕ → List ℕ → List ℕ
 in_table_text rpc name = decimal rpc ++ codes " is " ++ name ++ codes ": leave out raw"
 
--- a trouble as it is printed
+-- the text of a trouble, as it is printed after the line's number
 abbrev pub trouble_text : Trouble → List ℕ
 trouble_text (trouble.NoProcedure rpc) = codes "no procedure " ++ decimal rpc
 trouble_text (trouble.Wants rpc count) = decimal rpc ++ codes " wants " ++ decimal count ++ codes " parameters"

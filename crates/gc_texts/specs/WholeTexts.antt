@@ -4,7 +4,7 @@ use Rattle.std.specs.Io.KnownBytes.{Consumes, IsAtEnd}
 use Rattle.gc_lines.specs.declared.ports.Source.{Ghosts as Source}
 use Rattle.gc_texts.specs.Commands.{IsCommand, IsCommands}
 use Rattle.gc_texts.specs.LineForms.{TextFault}
-use Rattle.gc_texts.specs.Texts.{end_reads}
+use Rattle.gc_texts.specs.Texts.{IsReadFault, end_reads}
 use Rattle.gc_texts.specs.declared.commands.Command.{Command}
 use Rattle.gc_texts.specs.declared.text.TheConstants.{TEXT_LIMIT}
 use Rattle.gc_texts.specs.declared.fault.RunFault.{RunFault}
@@ -23,10 +23,23 @@ abbrev pub input_of : {S : Type 0} → Source S → S → Input
 input_of of_source source =
     record { remaining = of_source.remaining source; reads = of_source.reads source; ended = of_source.ended source; failed = of_source.failed source }
 
--- a source gave some bytes, in at most a read for each and one for its end, and `claim` holds of them
+-- a source gave some bytes, with at most one read for each byte and one for its end, and `claim` holds of these bytes
 abbrev pub Gave : Input → Input → (List ℕ → Type 0) → Type 0
 Gave old new claim =
     (given : List ℕ) × Consumes old.remaining new.remaining given × (new.reads ≤ old.reads + length given + end_reads new.ended) × claim given
+
+-- reading took a source from `old` to `new`, and gave this text, which is within the limit
+abbrev pub ReadsText : (old new : Input) → (text : List ℕ) → Type 0
+ReadsText old new text = Consumes old.remaining new.remaining text × (length text ≤ TEXT_LIMIT) × (new.reads ≤ old.reads + length text + end_reads new.ended)
+
+-- reading took a source from `old` to `new`, and gave no text, for the reason that this fault says
+abbrev pub ReadsNoText : (old new : Input) → RunFault → Type 0
+ReadsNoText old new fault =
+    (given : List ℕ) × Consumes old.remaining new.remaining given × IsReadFault given fault × (new.reads ≤ old.reads + length given + end_reads new.ended)
+
+-- reading took a source from `old` to `new`, by one read or more, of which the last was the end, and the source has no byte left
+abbrev pub IsReadToEnd : (old new : Input) → Type 0
+IsReadToEnd old new = IsAtEnd new.remaining × (new.ended ≡ true) × (old.reads < new.reads)
 
 -- a source gave a text within the limit, to its end, by one read or more, and didn't fail
 pub record WasRead (given : List ℕ) (old new : Input) : Type 0 where
@@ -55,3 +68,11 @@ pub record GivesCommands (given : List ℕ) (old new : Input) (commands : List C
 -- the text that a source gave wasn't read to its end, or is no command text, and this fault says why
 abbrev pub RefusesCommands : List ℕ → Input → Input → RunFault → Type 0
 RefusesCommands given old new fault = RefusesText (TextFault IsCommand) given old new fault
+
+-- reading took a source from `old` to `new`, and gave the commands of the text that came
+abbrev pub ReadsCommands : (old new : Input) → List Command → Type 0
+ReadsCommands old new commands = Gave old new (λ given. GivesCommands given old new commands)
+
+-- reading took a source from `old` to `new`, and gave no commands, for the reason that this fault says
+abbrev pub ReadsNoCommands : (old new : Input) → RunFault → Type 0
+ReadsNoCommands old new fault = Gave old new (λ given. RefusesCommands given old new fault)

@@ -1,4 +1,5 @@
--- Wishes: what a station is to ask, and whom, this project's own: a procedure of the table, or any other as it is.
+-- Wishes: what a station is to ask, and of which target: a procedure of the table, or any other with its parameters as they are. This
+-- project's own.
 use Rattle.std.specs.Prelude.{◌≡◌, ◌⊎◌, ◌<◌, ℕ, List, length, codes}
 use Rattle.gc_catalogue.specs.declared.asked.Asked.{Asked}
 use Rattle.gc_catalogue.specs.declared.asked.Asked.TheVariants.{Table, Raw}
@@ -10,7 +11,7 @@ use Rattle.gc_texts.specs.Words.{first_word, second_word, third_word, after_two_
 use Rattle.gc_texts.specs.declared.commands.Command.{Command}
 use Rattle.gc_texts.specs.declared.wish.Wish.{Wish}
 
--- a command, as a wish
+-- the wish that asks what a command asks, of the same target
 abbrev pub wish_of : Command → Wish
 wish_of command = record { target = command.target; call = Table command.call }
 
@@ -23,7 +24,7 @@ pub record IsRawWish (line : List ℕ) (target : ℕ) (raw : RawCall) : Type 0 w
   pub params_are : raw_bytes raw.params ≡ after_three_words line
   pub some : (length (third_word line) ≡ length (after_two_words line)) ⊎ (0 < length (after_three_words line))
 
--- the line asks this target for this: for a call of the table as a command does, and for any other procedure after the word
+-- the line asks this target for `asked`: a call of the table has the form of a command, and any other procedure follows the word
 -- `raw`
 abbrev pub AsksFor : List ℕ → ℕ → Asked → Type 0
 AsksFor line target (Table call) = IsCommand line (record { target = target; call = call })

@@ -1,6 +1,7 @@
 -- The words of a line of a station's text, with one space (byte 32) between two: this project's own.
-use Rattle.std.specs.Prelude.{ℕ, List}
+use Rattle.std.specs.Prelude.{◌≡◌, ℕ, List, [], ◌∷◌, ◌++◌}
 use Rattle.gc_texts.specs.Cuts.{before, behind}
+use Rattle.gc_texts.specs.LineForms.{Form}
 
 -- the first word of a line
 abbrev pub first_word : List ℕ → List ℕ
@@ -21,3 +22,9 @@ third_word line = before 32 (after_two_words line)
 -- what follows the first three words of a line
 abbrev pub after_three_words : List ℕ → List ℕ
 after_three_words line = behind 32 (after_two_words line)
+
+-- a text is the words of these items, one for each and at least one, with one space between two; `form` says which word is which item
+abbrev pub AreWords : {Item : Type 0} → Form Item → List ℕ → List Item → Type 0
+AreWords form text [] = ⊥
+AreWords form text (item ∷ []) = form text item
+AreWords form text (item ∷ next ∷ others) = (word : List ℕ) × (rest : List ℕ) × (text ≡ word ++ 32 ∷ rest) × form word item × AreWords form rest (next ∷ others)

@@ -10,17 +10,17 @@ use crate::ending::Ending;
 /// The return codes and outcomes after which a chain is repeated.
 #[derive(Clone, Copy, Debug, PartialEq, Eq)]
 pub struct Again {
-    /// The return codes of an answered command.
+    /// The return codes of an answered command after which the chain is repeated.
     pub codes: Codes,
-    /// Whether it is repeated after a reply whose values don't read.
+    /// Whether the chain is repeated after a reply whose values don't read.
     pub unreadable: bool,
-    /// Whether it is repeated after a measurement that was made elsewhere.
+    /// Whether the chain is repeated after a measurement that was made away from its target.
     pub elsewhere: bool,
-    /// Whether it is repeated after a late reply.
+    /// Whether the chain is repeated after a late reply.
     pub late: bool,
-    /// Whether it is repeated where no reply came.
+    /// Whether the chain is repeated after a command without a reply.
     pub lost: bool,
-    /// Whether it is repeated where a command was skipped.
+    /// Whether the chain is repeated after a command that was skipped.
     pub skipped: bool,
 }
 
@@ -39,7 +39,7 @@ impl Again {
         }
     }
 
-    // Whether a reply's return code is among the codes. `None` stands for return code 0, which never is.
+    // Whether a reply's return code is one of `codes`. `None` stands for return code 0, which never is.
     fn has_code(&self, code: Option<u16>) -> bool
         ensures { result ≡ has_code self.now.codes code }
     {
@@ -49,8 +49,8 @@ impl Again {
         }
     }
 
-    /// Whether this names the ending of a command: by `code`, its reply's return code other than 0, if it was answered, and else by
-    /// the outcome.
+    /// Whether a chain with this rule is repeated after this ending of one of its commands. An answered command decides by `code`, the
+    /// return code of its reply (`None`: 0); any other ending by its outcome alone, and a missed cycle never.
     pub fn names(&self, code: Option<u16>, ending: Ending<'_>) -> bool
         ensures { result ≡ is_named self.now code (ending_seen ending.entry) }
     {

@@ -16,8 +16,8 @@ pub(crate) struct Planned {
     pub(crate) retry: Retry,
 }
 
-// A command in this attempt of its chain. `again` says after which endings the chain is repeated. The first command of a later attempt
-// says how many commands this attempt and those after it have.
+// The task of a command in this attempt of its chain. `again` says after which endings the chain is repeated, and `commands` how many
+// commands this attempt and those after it have together: only the first command of a later attempt records that.
 fn in_attempt(attempt: u64, again: Again, commands: usize, planned: &Planned) -> Task
     ensures { result ≡ in_attempt attempt again commands planned.now }
 {
@@ -38,7 +38,7 @@ fn in_attempt(attempt: u64, again: Again, commands: usize, planned: &Planned) ->
     }
 }
 
-// Appends one attempt of a chain. It fails where memory was refused.
+// Appends the tasks of one attempt of a chain; `again` and `commands` as in `in_attempt`. Fails if memory was refused.
 fn push_attempt(
     tasks: &mut Vec<Task>,
     chain: &[Planned],
@@ -56,7 +56,7 @@ fn push_attempt(
     Ok(())
 }
 
-// Appends all attempts of a chain. It fails where memory was refused.
+// Appends the tasks of all attempts of a chain: of the first, and of as many more as `retry` allows. Fails if memory was refused.
 fn push_attempts(tasks: &mut Vec<Task>, chain: &[Planned], retry: Retry) -> Result<(), AllocError>
     requires { length chain.now < 4294967296 }
     ensures appends { OnOk result (tasks.new.items ≡ tasks.old.items ++ attempts retry chain.now) }
@@ -73,7 +73,7 @@ fn push_attempts(tasks: &mut Vec<Task>, chain: &[Planned], retry: Retry) -> Resu
     push_attempt(tasks, chain, attempt, Again::none(), chain.len())
 }
 
-// The commands of the places from `from` to `to`, without `to`.
+// The commands of `cycle` from place `from` up to the one before place `to`.
 fn part(cycle: &[Planned], from: usize, to: usize) -> &[Planned]
     requires up { from ≤ to }
     requires within { to ≤ length cycle.now }
@@ -82,7 +82,7 @@ fn part(cycle: &[Planned], from: usize, to: usize) -> &[Planned]
     &cycle[from..to]
 }
 
-// Appends the attempts of all chains of these commands. It fails where memory was refused.
+// Appends the tasks of all attempts of the chains that these commands form, chain by chain. Fails if memory was refused.
 pub(crate) fn lay_out(tasks: &mut Vec<Task>, cycle: &[Planned]) -> Result<(), AllocError>
     requires { length cycle.now < 4294967296 }
     ensures appends { OnOk result (tasks.new.items ≡ tasks.old.items ++ laid_out cycle.now) }

@@ -1,28 +1,28 @@
-//! The return codes beside 0 that a station's text accepts of an answer.
+//! Lists of return codes in a station's text: those that are accepted of an answer beside 0, and those after which a chain is repeated.
 
 ghost use Rattle.std.specs.Prelude.{◌≡◌, ◌==◌, ◌+◌, ◌<◌, ◌≤◌, ◌∷◌, ◌++◌, ℕ, List, [], length, slice_set, MatchOption};
 ghost use Rattle.std.specs.List.{list_any};
-ghost use Rattle.gc_texts.specs.Codes.{AreCodes, IsCodeList, IsCode, are_accepted, padded_codes, no_codes};
+ghost use Rattle.gc_texts.specs.Codes.{AreCodes, IsCodeList, IsCode, lists_code, padded_codes, no_codes};
 ghost use Rattle.gc_texts.specs.declared.codes.Codes.{Codes};
 
 use crate::cuts::cut_at;
 use crate::procedure::number_of;
 
-/// The most codes of a line.
+/// The most return codes that a line of a station's text may list.
 pub const CODES_MAX: usize = 16;
 
-// The greatest return code of a reply's line.
+// The greatest return code of a reply.
 const CODE_MAX: u64 = 65535;
 
-/// Return codes, each from 1 to 65535, in the order of their line. An answer with such a code is a warning, and counts as good.
+/// At most 16 return codes, each from 1 to 65535, that a line of a station's text lists.
 #[derive(Clone, Copy, Debug, PartialEq, Eq)]
 pub struct Codes {
-    /// The codes, and 0 in the places after them.
+    /// The codes, in the order of their line, and 0 in the places after them.
     pub codes: [u16; CODES_MAX],
 }
 
 impl Codes {
-    /// No code.
+    /// The empty list of codes.
     pub fn none() -> Codes
         ensures { result ≡ no_codes }
     {
@@ -31,7 +31,7 @@ impl Codes {
         }
     }
 
-    // Whether some place has this number.
+    // Whether one of the 16 places holds this number, which may be the 0 that fills a place without a code.
     fn is_in_a_place(&self, code: u16) -> bool
         ensures { result ≡ list_any (λ c. c == code) self.now.codes }
     {
@@ -40,13 +40,13 @@ impl Codes {
 
     /// Whether this return code is among the codes; 0, which fills the places after them, never is.
     pub fn has(&self, code: u16) -> bool
-        ensures { result ≡ are_accepted self.now code }
+        ensures { result ≡ lists_code self.now code }
     {
         code != 0 && self.is_in_a_place(code)
     }
 
-    // These codes, with this one in a place.
-    pub(crate) fn with(self, place: usize, code: u16) -> Codes
+    // These codes, with `code` at this place.
+    pub(crate) fn with_code_at(self, place: usize, code: u16) -> Codes
         requires { place < 16 }
         ensures { result.codes ≡ slice_set self.codes place code }
     {
@@ -54,19 +54,9 @@ impl Codes {
         codes[place] = code;
         Codes { codes }
     }
-
-    // These codes, of which there are `count`, with one more after them.
-    fn with_next(self, count: usize, code: u16) -> Codes
-        requires { count < 16 }
-        ensures { (listed : List ℕ) → length listed ≡ count → self.codes ≡ padded_codes listed → result.codes ≡ padded_codes (listed ++ code ∷ []) }
-    {
-        let mut codes = self.codes;
-        codes[count] = code;
-        Codes { codes }
-    }
 }
 
-// Reads a code, from 1 to 65535. `None`: the word is no number, or the number lies outside.
+// Reads a return code, from 1 to 65535. `None`: the word is no number, or the number lies outside.
 pub(crate) fn code_of(word: &[u8]) -> Option<u16>
     ensures { MatchOption result ((code : ℕ) → IsCode word.now code → ⊥) (λ code. IsCode word.now code) }
 {
@@ -79,7 +69,7 @@ pub(crate) fn code_of(word: &[u8]) -> Option<u16>
     Some(code as u16)
 }
 
-/// Reads codes with one space between two. `None`: a word is no code, or there are more than 16.
+/// Reads return codes with one space between two. `None`: a word is no return code, or there are more than 16.
 pub(crate) fn read_codes(text: &[u8]) -> Option<Codes>
     ensures { MatchOption result ((codes : Codes) → IsCodeList text.now codes → ⊥) (λ codes. IsCodeList text.now codes) }
 {
@@ -94,7 +84,7 @@ pub(crate) fn read_codes(text: &[u8]) -> Option<Codes>
         if count == CODES_MAX {
             return None;
         }
-        codes = codes.with_next(count, code);
+        codes = codes.with_code_at(count, code);
         count += 1;
         left = rest;
     }

@@ -1,10 +1,9 @@
-//! Commands: whom to ask for what, and the text of them. They know no deadline and no time.
+//! Commands: what is asked of which target, and their text. A command has no deadline.
 
-ghost use Rattle.std.specs.Prelude.{◌≡◌, ◌<◌, ◌↔◌, ℕ, length, Err, IfOk, IfErr, MatchOption};
+ghost use Rattle.std.specs.Prelude.{◌≡◌, Err, IfOk, IfErr, MatchOption};
 ghost use Rattle.gc_texts.specs.Commands.{IsCommand, IsCommands, IsFirstFaultyCommand, ReachesASoundCommand};
-ghost use Rattle.gc_texts.specs.LineForms.{TextFault};
+ghost use Rattle.gc_texts.specs.LineForms.{RefusesLong, NamesFaulty, TextFault};
 ghost use Rattle.gc_texts.specs.declared.fault.RunFault.{RunFault};
-ghost use Rattle.gc_texts.specs.declared.text.TheConstants.{TEXT_LIMIT};
 
 use crate::cuts::cut_at;
 use crate::fault::RunFault;
@@ -13,12 +12,12 @@ use crate::procedure::{TARGET_MAX, number_of, read_procedure};
 use gc_catalogue::Call;
 use std::alloc::Global;
 
-/// A request that is to be asked.
+/// What is to be asked of which target.
 #[derive(Clone, Copy, Debug, PartialEq, Eq)]
 pub struct Command {
-    /// Whom it is for: a number of the caller's own, handed back with the settlement.
+    /// The target: a number that the caller chooses, and gets back with the settlement.
     pub target: u32,
-    /// What it asks for.
+    /// What is asked of the target.
     pub call: Call,
 }
 
@@ -30,6 +29,7 @@ impl LineForm for CommandForm {
 
     ghost form = { IsCommand };
 
+    // A command to write over: `NullProc` of target 0.
     fn blank() -> Command {
         Command {
             target: 0,
@@ -37,6 +37,7 @@ impl LineForm for CommandForm {
         }
     }
 
+    // Reads a line as a command, into `command`, and returns whether the line has the form of one. If it hasn't, `command` is unchanged.
     fn read(line: &[u8], command: &mut Command) -> bool {
         match read_command(line) {
             Some(found) => {
@@ -68,15 +69,15 @@ pub(crate) fn read_command(line: &[u8]) -> Option<Command>
     }
 }
 
-/// Reads a command text: its commands, in order.
+/// Reads a command text, and returns its commands, in order.
 ///
-/// Refused are a text of more than 65,536 bytes (`InputTooLong`, before any line is looked at), and the first line that has the
-/// form of no command (`Schedule`, with its number counted from 1). `Memory` comes only where the list of commands couldn't
-/// grow, at a line that is a command.
+/// Fails with `InputTooLong` if the text has more than 65,536 bytes, before any line is read; with `Schedule` and the number of the
+/// line, counted from 1, at the first line that has the form of no command; and with `Memory` if memory was refused at a line that has
+/// the form of a command.
 pub fn read_commands(alloc: Global, text: &[u8]) -> Result<Vec<Command>, RunFault>
     ensures found { IfOk result (λ commands. IsCommands text.now commands.items) }
-    ensures too_long { (result ≡ Err RunFault.InputTooLong) ↔ (TEXT_LIMIT < length text.now) }
-    ensures faulty { (n : ℕ) → result ≡ Err (RunFault.Schedule n) → IsFirstFaultyCommand text.now n }
+    ensures too_long { RefusesLong text.now result }
+    ensures faulty { NamesFaulty (IsFirstFaultyCommand text.now) result }
     ensures memory { result ≡ Err RunFault.Memory → ReachesASoundCommand text.now }
     ensures faults { IfErr result (λ e. TextFault IsCommand text.now e) }
 {

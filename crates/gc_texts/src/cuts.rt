@@ -6,7 +6,7 @@ ghost use Rattle.gc_texts.specs.Cuts.{Cuts, before, behind};
 
 use memchr::memchr;
 
-/// What is before the first mark, and what is after it.
+/// Cuts a text at the first mark: returns what is before the mark, and what is after it. Without a mark: all of the text, and `None`.
 pub fn cut_at(mark: u8, text: &[u8]) -> (&[u8], Option<&[u8]>)
     ensures { Cuts mark text.now result.0.now (option_copied result.1) }
 {
@@ -24,7 +24,7 @@ pub fn before(mark: u8, text: &[u8]) -> &[u8]
     cut_at(mark, text).0
 }
 
-/// What is after the first mark, or nothing.
+/// What is after the first mark; empty if there is none.
 pub fn behind(mark: u8, text: &[u8]) -> &[u8]
     ensures is { result.now ≡ behind mark text.now }
     ensures short { length result.now ≤ length text.now }

@@ -21,7 +21,7 @@ pub enum Ending<'a> {
     Elsewhere(&'a Line),
     /// A reply to it came after it had timed out.
     Late,
-    /// No reply came, or none will be taken.
+    /// No reply came, and one that still comes will be ignored.
     Lost,
     /// It wasn't sent: the command before it in its chain wasn't answered well.
     Skipped,
@@ -30,7 +30,7 @@ pub enum Ending<'a> {
 }
 
 impl<'a> Ending<'a> {
-    /// The word for the ending, as the records have it: the lines, the rows and the objects of JSON.
+    /// The word of this ending in records: in rows of comma-separated values and in lines of JSON.
     pub fn word(self) -> &'static [u8]
         ensures is { result.now ≡ word_of (ending_seen self.entry) }
         ensures short { length result.now ≤ 16 }
@@ -46,7 +46,7 @@ impl<'a> Ending<'a> {
         }
     }
 
-    /// Why the values of the command's reply don't read, where they don't.
+    /// The fault of the reply's values, if the ending is `Unreadable`.
     pub fn fault(self) -> Option<ValueFault>
         ensures { result ≡ fault_of (ending_seen self.entry) }
     {
@@ -56,7 +56,7 @@ impl<'a> Ending<'a> {
         }
     }
 
-    /// The quality of the command's answer, where it was answered.
+    /// The quality of the command's answer, if the ending is `Answered`.
     pub fn quality(self) -> Option<Quality>
         ensures { result ≡ quality_of (ending_seen self.entry) }
     {
@@ -66,7 +66,7 @@ impl<'a> Ending<'a> {
         }
     }
 
-    /// The word for the quality of the command's answer, as rows and objects of JSON have it; empty where it wasn't answered.
+    /// The word of the answer's quality in rows and in lines of JSON; empty if the ending isn't `Answered`.
     pub fn quality_text(self) -> &'static [u8]
         ensures is { result.now ≡ quality_text (quality_of (ending_seen self.entry)) }
         ensures short { length result.now ≤ 16 }
@@ -77,7 +77,7 @@ impl<'a> Ending<'a> {
         }
     }
 
-    /// The line of its reply, where one came in time.
+    /// The line of the command's reply, if one came in time.
     pub fn line(self) -> Option<&'a Line>
         ensures { option_map (λ line. line.now.items) result ≡ line_of (ending_seen self.entry) }
     {

@@ -17,7 +17,7 @@ pub enum RunFault {
     /// A read of the input, or of the link, failed.
     #[error("fault {}", self.number())]
     Read,
-    /// A write to the link failed: how many lines went out whole, and how many bytes of the next.
+    /// A write to the link failed, after `replies` whole lines and the first `bytes` bytes of the next.
     #[error("fault {} reply {replies} byte {bytes}", self.number())]
     Write { replies: u64, bytes: usize },
     /// As many reads were made as are allowed.
@@ -26,7 +26,7 @@ pub enum RunFault {
     /// The other end of the link closed it.
     #[error("fault {}", self.number())]
     LinkClosed,
-    /// No reply came any more, though the link was open.
+    /// No more replies came, although the link was open.
     #[error("fault {}", self.number())]
     Mute,
     /// The clock can't be read, or is before 1970.
@@ -35,7 +35,7 @@ pub enum RunFault {
     /// No good answer came for as long as `--stale` allows.
     #[error("fault {}", self.number())]
     Stale,
-    /// Set-up commands weren't answered well, and no try is left.
+    /// Setup commands weren't answered well, and no try is left.
     #[error("fault {}", self.number())]
     SetUp,
     /// The text has no command.
@@ -77,7 +77,7 @@ pub enum RunFault {
     /// Another program, or another opening of this one, holds the file of records.
     #[error("fault {}", self.number())]
     RecordsHeld,
-    /// The file of records holds something else.
+    /// The file of records contains something other than records.
     #[error("fault {}", self.number())]
     RecordsForeign,
 }

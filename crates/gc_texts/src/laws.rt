@@ -7,7 +7,7 @@ ghost use Rattle.gc_texts.specs.Moments.{StampsAreMoments};
 ghost use Rattle.gc_texts.specs.Nears.{DirectionsAreAskedFor};
 ghost use Rattle.gc_texts.specs.Laws.{OneCommandList, OneTaskList, CommandsAreTasks, CommandsArePlain, ChainsAreRows, ParameterCountsAreTheCatalogues, NamesAreTheCatalogues, LogLinesReadBack, LogLinesArePrintable};
 
-/// A text gives one list of commands at most.
+/// A command text gives one list of commands at most.
 pub fn commands_have_one_reading()
     ensures { OneCommandList }
 {}
@@ -43,12 +43,12 @@ pub fn retries_hold_behind_their_lines()
     ensures { RetriesHold }
 {}
 
-/// The number of parameters that is printed of a procedure, where a line has another number of them, is the catalogue's.
-pub fn wanted_is_the_catalogues()
+/// The number of parameters that is printed for a procedure, if a line has another number of them, is the catalogue's.
+pub fn parameter_counts_are_the_catalogues()
     ensures { ParameterCountsAreTheCatalogues }
 {}
 
-/// The name that is printed of a procedure's number, if a line has that number after the word `raw`, is the catalogue's.
+/// The name that is printed for a procedure's number, if a line has that number after the word `raw`, is the catalogue's.
 pub fn names_are_the_catalogues()
     ensures { NamesAreTheCatalogues }
 {}

@@ -1,9 +1,8 @@
-//! The lines of a text: which are skipped, what each of the others stands for, and which is the first faulty one.
+//! The lines of a text: which are skipped, the item of each of the others, and which is the first faulty one.
 
-ghost use Rattle.std.specs.Prelude.{◌≡◌, ◌<◌, ◌≤◌, ◌↔◌, length, Err, IfOk, IfErr};
+ghost use Rattle.std.specs.Prelude.{◌≡◌, ◌≤◌, length, IfOk, IfErr};
 ghost use Rattle.std.specs.Option.{option_copied};
-ghost use Rattle.gc_texts.specs.LineForms.{IsText, TextFault, without_cr, line_at, is_skipped};
-ghost use Rattle.gc_texts.specs.declared.fault.RunFault.{RunFault};
+ghost use Rattle.gc_texts.specs.LineForms.{IsText, RefusesLong, TextFault, without_cr, line_at, is_skipped};
 ghost use Rattle.gc_texts.specs.declared.text.TheConstants.{TEXT_LIMIT};
 
 use crate::cuts::cut_at;
@@ -15,7 +14,7 @@ use std::alloc::Global;
 pub trait LineForm {
     ghost use Rattle.std.specs.Prelude.{ℕ, List, IsTrue, IsFalse};
 
-    /// What a line stands for.
+    /// What a line is read as.
     type Item: Copy;
 
     /// Which lines have the form of an item.
@@ -24,7 +23,7 @@ pub trait LineForm {
     /// An item for `read` to write over: which one doesn't matter.
     fn blank() -> Self::Item;
 
-    /// Reads a line as an item, into `item`, and says whether the line has the form of one. Where it hasn't, `item` may be any.
+    /// Reads a line as an item, into `item`, and returns whether the line has the form of one. If it hasn't, `item` is any item.
     fn read(line: &[u8], item: &mut Self::Item) -> bool
         ensures found { IsTrue result → form line.now item.new }
         ensures none { IsFalse result → (other : Self.Item) → form line.now other → ⊥ };
@@ -65,14 +64,14 @@ pub(crate) fn is_skipped(line: &[u8]) -> bool
     matches!(line, [] | [b'#', ..])
 }
 
-/// Reads a text: its items, in order.
+/// Reads a text, and returns the items of its lines, in order; empty lines and those that begin with `#` are skipped.
 ///
-/// Refused are a text of more than 65,536 bytes (`InputTooLong`, before any line is looked at), and the first line that
-/// has the form of no item (`Schedule`, with its number counted from 1). `Memory` comes only where the list of items couldn't
-/// grow, at a line that is an item.
+/// Fails with `InputTooLong` if the text has more than 65,536 bytes, before any line is read; with `Schedule` and the number of the
+/// line, counted from 1, at the first line that has the form of no item; and with `Memory` if memory was refused at a line that has the
+/// form of an item.
 pub fn read_items<F: LineForm>(alloc: Global, text: &[u8]) -> Result<Vec<F::Item>, RunFault>
     ensures found { IfOk result (λ items. IsText F.form text.now items.items) }
-    ensures too_long { (result ≡ Err RunFault.InputTooLong) ↔ (TEXT_LIMIT < length text.now) }
+    ensures too_long { RefusesLong text.now result }
     ensures fault { IfErr result (λ e. TextFault F.form text.now e) }
 {
     if text.len() > TEXT_LIMIT {
@@ -81,9 +80,9 @@ pub fn read_items<F: LineForm>(alloc: Global, text: &[u8]) -> Result<Vec<F::Item
     read_lines::<F>(alloc, text)
 }
 
-// How many further items the list makes room for, where it holds `count` items and the bytes `left` of the text are unread.
-// An empty list makes room for an item in each eight bytes, because a line rarely has fewer: it rarely grows again. A list
-// that holds items makes room for one more.
+// For how many further items a list reserves memory, if it holds `count` items and the bytes `left` of the text are unread.
+// An empty list reserves for an item in each eight bytes, because a line rarely has fewer: so it rarely grows again. Any other list
+// reserves for one more.
 fn room_for(count: usize, left: &[u8]) -> usize
     ensures { 1 ≤ result }
 {
@@ -94,7 +93,7 @@ fn room_for(count: usize, left: &[u8]) -> usize
     }
 }
 
-// Reads the lines of a text: its items, in order. The faults are `Schedule` and `Memory`, as `read_items` has them.
+// Reads the lines of a text that isn't too long, and returns their items, in order. Fails with `Schedule` and `Memory`, as `read_items`.
 fn read_lines<F: LineForm>(alloc: Global, text: &[u8]) -> Result<Vec<F::Item>, RunFault>
     requires { length text.now ≤ TEXT_LIMIT }
     ensures found { IfOk result (λ items. IsText F.form text.now items.items) }

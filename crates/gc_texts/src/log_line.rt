@@ -4,7 +4,7 @@ ghost use Rattle.std.specs.Prelude.{◌≡◌, ◌+◌, ◌*◌, ◌<◌, ◌≤
 ghost use Rattle.std.specs.Io.KnownBytes.{Appends};
 ghost use Rattle.arrayvec.specs.ArrayVec.{array_vec_len};
 ghost use Rattle.gc_lines.specs.Ports.{FailsWith, TakesFront};
-ghost use Rattle.gc_texts.specs.Logs.{mark_text, is_as_it_is, hex_digit, escape, escaped, log_line};
+ghost use Rattle.gc_texts.specs.Logs.{mark_text, is_unescaped, hex_digit, escape, escaped, log_line};
 
 use crate::stamp::stamp_text;
 use arrayvec::ArrayVec;
@@ -33,7 +33,7 @@ pub enum LogMark {
 }
 
 impl LogMark {
-    /// The mark as it is written.
+    /// The mark as a log line has it.
     pub fn text(self) -> &'static [u8]
         ensures is { result.now ≡ mark_text self }
         ensures short { length result.now ≤ 2 }
@@ -66,7 +66,7 @@ pub fn write_log_line<K: Sink>(
     write_whole(sink, &log_line(utc, mark, bytes))
 }
 
-// A line of a log, with its line feed.
+// The line of a log for this moment, mark and bytes, with its line feed.
 fn log_line(utc: u64, mark: LogMark, bytes: &LogBytes) -> ArrayVec<u8, LOG_ROOM>
     ensures { result.items ≡ log_line utc mark bytes.now.items }
 {
@@ -91,7 +91,7 @@ pub fn append_escaped<const N: usize>(to: &mut ArrayVec<u8, N>, bytes: &[u8])
     }
 }
 
-/// Bytes as a log line writes them, for other texts that quote bytes.
+/// At most 514 bytes in the form of a log line (each becomes at most four), in a text of their own: for other texts that quote bytes.
 pub fn escaped(bytes: &[u8]) -> ArrayVec<u8, 2056>
     requires { length bytes.now ≤ 514 }
     ensures is { result.items ≡ escaped bytes.now }
@@ -108,16 +108,16 @@ fn append_escape<const N: usize>(to: &mut ArrayVec<u8, N>, b: u8)
     ensures text { to.new.items ≡ to.old.items ++ escape b }
     ensures room { array_vec_len to.new ≤ array_vec_len to.old + 4 }
 {
-    if is_as_it_is(b) {
+    if is_unescaped(b) {
         append(to, &[b]);
     } else {
         append(to, &[b'\\', b'x', hex_digit(b / 16), hex_digit(b % 16)]);
     }
 }
 
-// Whether a byte is written as it is: printable ASCII except the backslash.
-pub(crate) fn is_as_it_is(b: u8) -> bool
-    ensures { result ≡ is_as_it_is b }
+// Whether a log line writes a byte as it is, without `\x`: printable ASCII except the backslash.
+pub(crate) fn is_unescaped(b: u8) -> bool
+    ensures { result ≡ is_unescaped b }
 {
     31 < b && b < 127 && b != b'\\'
 }

@@ -1,16 +1,16 @@
-//! The reading of a log's lines: a line reads exactly where it could have been written.
+//! Reads the lines of a log. Exactly the lines that a log can have are read; any other is refused.
 
 ghost use Rattle.std.specs.Prelude.{◌≡◌, ◌+◌, ◌<◌, ◌≤◌, ◌∷◌, ◌++◌, ℕ, ◌↔◌, List, length, All, MatchOption, IsTrue};
 ghost use Rattle.gc_texts.specs.Logs.{mark_text, hex_digit, escape, escaped, IsPrintable, IsLogLine};
 ghost use Rattle.gc_texts.specs.declared.log_line.LogMark.{LogMark};
 
 use crate::cuts::cut_at;
-use crate::log_line::{LogBytes, LogMark, is_as_it_is};
+use crate::log_line::{LogBytes, LogMark, is_unescaped};
 
-/// What a line of a log says.
+/// A line of a log, in its parts.
 #[derive(Debug, PartialEq, Eq, Drop)]
 pub struct LogLine<'a> {
-    /// The moment, as it is: one word of printable ASCII.
+    /// The moment, as the line has it: one word of printable ASCII, which isn't read as a time.
     pub moment: &'a [u8],
     /// Which way the bytes were going, and what followed them.
     pub mark: LogMark,
@@ -18,8 +18,8 @@ pub struct LogLine<'a> {
     pub bytes: LogBytes,
 }
 
-/// Reads a line of a log, without its line feed: a word of printable ASCII, a mark, and at most 514 bytes, each in the one way in
-/// which it is written. `None`: it is no such line.
+/// Reads a line of a log, without its line feed: a word of printable ASCII, a mark, and at most 514 bytes, each in the one form that a
+/// log gives it. `None`: the line has another form.
 pub fn read_log_line(line: &[u8]) -> Option<LogLine<'_>>
     ensures { MatchOption result
         ((moment : List ℕ) (mark : LogMark) (bytes : List ℕ) → length bytes ≤ 514 → IsLogLine line.now moment mark bytes → ⊥)
@@ -49,7 +49,7 @@ pub fn read_log_line(line: &[u8]) -> Option<LogLine<'_>>
     })
 }
 
-// Whether a text is printable ASCII alone, so that it may be shown.
+// Whether each byte of a text is printable ASCII.
 fn is_printable(text: &[u8]) -> bool
     ensures { IsTrue result ↔ IsPrintable text.now }
 {
@@ -101,7 +101,7 @@ fn read_byte(text: &[u8]) -> Option<(u8, &[u8])>
     let [b, more @ ..] = text else {
         return None;
     };
-    if is_as_it_is(*b) {
+    if is_unescaped(*b) {
         return Some((*b, more));
     }
     let Some(digits) = text.strip_prefix(b"\\x") else {
@@ -111,7 +111,7 @@ fn read_byte(text: &[u8]) -> Option<(u8, &[u8])>
 }
 
 // Reads the two digits after `\x`, and returns their byte with what follows them. `None`: there are no two digits of base
-// 16, or they write a byte that a log never writes by digits: printable ASCII but the backslash.
+// 16, or their byte is one that a log writes as it is: printable ASCII other than the backslash.
 fn read_digits(text: &[u8]) -> Option<(u8, &[u8])>
     ensures { MatchOption result
         ((b : ℕ) (more : List ℕ) → b < 256 → 92 ∷ 120 ∷ text.now ≡ escape b ++ more → ⊥)
@@ -127,7 +127,7 @@ fn read_digits(text: &[u8]) -> Option<(u8, &[u8])>
         return None;
     };
     let b = high * 16 + low;
-    if is_as_it_is(b) {
+    if is_unescaped(b) {
         return None;
     }
     Some((b, more))

@@ -1,8 +1,8 @@
-//! The mode at a line of a station's text: what the lines before it make hold for the next command.
+//! The mode at a line of a station's text: the settings for the next command, and the counts of the commands so far.
 //!
 //! A row is a run of commands for one target, with no line `chained`, `unchained`, `retry`, `at start` or `each cycle`
 //! between them. Where commands are chained, each command of a row but the first is chained to the one before it. All
-//! commands of the set-up are one chain.
+//! commands of the setup are one chain.
 
 ghost use Rattle.std.specs.Prelude.{◌≡◌, ◌<◌};
 ghost use Rattle.gc_texts.specs.Tasks.{opening, mode_after, mode_after_command, continues_row, is_chained, place_in_chain, task_at};
@@ -15,7 +15,7 @@ use crate::tasks::Task;
 use crate::turn::Turn;
 use crate::wish::Wish;
 
-// What the lines before a command make hold for it: the mode there.
+// The settings for the next command that the lines before it make, and how many commands these lines have.
 #[derive(Clone, Copy)]
 pub(crate) struct Mode {
     // The deadline, in milliseconds.
@@ -28,13 +28,13 @@ pub(crate) struct Mode {
     pub(crate) accepted: Codes,
     // How often a chain is repeated, and after what.
     pub(crate) retry: Retry,
-    // Whether commands are set-up.
+    // Whether commands are setup.
     pub(crate) setup: bool,
-    // How many commands of the set-up are in front.
+    // How many commands of the setup are before the line.
     pub(crate) begun: usize,
-    // How many commands of the cycle are in front.
+    // How many commands of the cycle are before the line.
     pub(crate) place: usize,
-    // How many commands the chain has that was begun.
+    // How many commands before the line are in the last chain.
     pub(crate) link: usize,
 }
 
@@ -55,8 +55,8 @@ pub(crate) fn first_mode(deadline: u64, chained: bool) -> Mode
     }
 }
 
-// Where a command is in its chain. Of the set-up it follows all others; of the cycle a chained one follows the command
-// before it.
+// The place of a command in its chain, from 0. A command of the setup follows all others of the setup; of the cycle, a chained
+// command follows the one before it, and any other is the first.
 fn place_in_chain(mode: Mode, chained: bool) -> usize
     ensures { result ≡ place_in_chain mode chained }
 {
@@ -69,8 +69,8 @@ fn place_in_chain(mode: Mode, chained: bool) -> usize
     }
 }
 
-// Whether a command for this target is chained. Of the set-up each is but the first; of the cycle one is that continues the row, where
-// commands are chained.
+// Whether a command for this target is chained. In the setup each command but the first is; in the cycle a command is if the mode
+// chains commands and the command continues the row.
 fn is_chained(mode: Mode, target: u32) -> bool
     ensures { result ≡ is_chained mode target }
 {
@@ -81,7 +81,7 @@ fn is_chained(mode: Mode, target: u32) -> bool
     }
 }
 
-// The mode after a command for this target.
+// The mode after a command for this target: the command is counted, and its target is that of the row.
 fn mode_after_command(mode: Mode, target: u32) -> Mode
     requires begun { mode.begun < 4294967296 }
     requires place { mode.place < 4294967296 }
@@ -106,7 +106,7 @@ fn mode_after_command(mode: Mode, target: u32) -> Mode
     }
 }
 
-// The mode after a line, where `mode` holds before it. After a command the row is its target's, and it is counted. A line
+// The mode after a line, if `mode` holds before it. After a command the row is of its target, and the command is counted. A line
 // `deadline` sets the deadline, `chained` and `unchained` set whether commands are chained, `retry` sets how often chains
 // are repeated, `at start` and `each cycle` set the section, and each of these five ends the row; `accept` sets which return
 // codes are accepted. A name or a place changes nothing.
@@ -132,7 +132,7 @@ pub(crate) fn mode_after(mode: Mode, said: &TaskLine) -> Mode
             row: None,
             ..mode
         },
-        TaskLine::Naming(_) | TaskLine::Standing(_) => mode,
+        TaskLine::Naming(_) | TaskLine::Locating(_) => mode,
         TaskLine::Accepting(accepted) => Mode {
             accepted: *accepted,
             ..mode
@@ -155,7 +155,7 @@ pub(crate) fn mode_after(mode: Mode, said: &TaskLine) -> Mode
     }
 }
 
-// Whether a command for this target continues the row, which is one of commands for the target `row`. `None`: there is no row to
+// Whether a command for this target continues the row: `row` is the target of that row's commands. `None`: there is no row to
 // continue.
 fn continues_row(row: Option<u32>, target: u32) -> bool
     ensures { result ≡ continues_row row target }
@@ -166,8 +166,8 @@ fn continues_row(row: Option<u32>, target: u32) -> bool
     }
 }
 
-// The task of a command in its first attempt. Where its target is and what its chain's rule is are set at the end of the
-// text.
+// The task of a command in its first attempt; `now` says whether the command sets the clock to the moment at which it is sent. The
+// place of its target and the rule of its chain are set at the end of the text, by `place_tasks` and `lay_out`.
 pub(crate) fn task_at(mode: Mode, command: Wish, now: bool) -> Task
     ensures { result ≡ task_at mode command now }
 {

@@ -13,14 +13,14 @@ pub const NAME_ROOM: usize = 64;
 /// The name of a target.
 #[derive(Debug, Drop, PartialEq, Eq)]
 pub struct Name {
-    /// Whose name it is.
+    /// The target that has this name.
     pub target: u32,
     /// The name: 1 to 64 bytes, each printable ASCII other than a comma and a double quote, and the first none of `=`, `+`, `-` and `@`.
     pub text: ArrayVec<u8, NAME_ROOM>,
 }
 
 // Whether a text has a byte that no name may have: one that isn't printable ASCII, or a comma or double quote, which rows use.
-fn is_foreign(text: &[u8]) -> bool
+fn has_foreign_byte(text: &[u8]) -> bool
     ensures { result ≡ list_any is_foreign text.now }
 {
     text.iter()
@@ -41,10 +41,10 @@ fn is_formula(text: &[u8]) -> bool
 pub(crate) fn is_name(text: &[u8]) -> bool
     ensures { result ≡ is_name text.now }
 {
-    !text.is_empty() && text.len() <= NAME_ROOM && !is_formula(text) && !is_foreign(text)
+    !text.is_empty() && text.len() <= NAME_ROOM && !is_formula(text) && !has_foreign_byte(text)
 }
 
-/// A target's name, with these bytes as its text.
+/// The `Name` of a target, with a copy of these bytes as its text.
 pub(crate) fn named_target(target: u32, bytes: &[u8]) -> Name
     requires { length bytes.now ≤ 64 }
     ensures target { result.target ≡ target }
@@ -55,14 +55,14 @@ pub(crate) fn named_target(target: u32, bytes: &[u8]) -> Name
     Name { target, text }
 }
 
-/// Whether a target has a name among these.
+/// Whether one of `names` is of this target.
 pub(crate) fn is_named(target: u32, names: &[Name]) -> bool
     ensures { result ≡ is_named target names.now }
 {
     names.iter().any(|name| name.target == target)
 }
 
-/// The name of a target among these: that of the first that is the target's, or nothing.
+/// The name of a target: that of the first of `names` that is of this target; empty if none is.
 pub(crate) fn name_text(target: u32, names: &[Name]) -> &[u8]
     ensures is { result.now ≡ name_text target names.now }
     ensures short { length result.now ≤ 64 }

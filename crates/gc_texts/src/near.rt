@@ -1,7 +1,7 @@
 //! Where a target is, and whether an answer was measured there.
 
 ghost use Rattle.std.specs.Prelude.{◌≡◌, MatchOption};
-ghost use Rattle.gc_texts.specs.Nears.{IsDouble, AreNearWords, IsNearText, is_said, near_of, direction_of, asks_direction, seeks_direction, is_elsewhere};
+ghost use Rattle.gc_texts.specs.Nears.{IsDouble, AreNearWords, IsNearText, has_near, near_of, direction_of, asks_direction, seeks_direction, is_elsewhere};
 ghost use Rattle.gc_texts.specs.declared.near.Near.{Near};
 ghost use Rattle.gc_values.specs.declared.decimal.Decimal.{Decimal};
 
@@ -13,10 +13,10 @@ use crate::turn::Turn;
 use gc_catalogue::{Answer, Asked, Call};
 use gc_values::{Decimal, Direction, is_tolerance};
 
-/// Where a target is, as a text says it. Angles are in radians.
+/// Where a target is, as a line `near` gives it. Angles are in radians.
 #[derive(Clone, Copy, Debug, PartialEq, Eq)]
 pub struct Near {
-    /// Which target.
+    /// The target whose place it is.
     pub target: u32,
     /// Its direction in face I: the horizontal one within a turn, the vertical one within half a turn.
     pub place: Direction,
@@ -24,7 +24,8 @@ pub struct Near {
     pub tolerance: Decimal,
 }
 
-/// What the text says of a command beside what it asks and how long it waits: what is expected of its answer, and which turn it is.
+/// What a station's text says of a command beside its request and its deadline: what is expected of the answer, after what its chain is
+/// repeated, and which command of the text it is.
 #[derive(Clone, Copy, Debug, PartialEq, Eq)]
 pub struct Expected {
     /// Where the command's target is, if the text says so.
@@ -37,7 +38,7 @@ pub struct Expected {
     pub turn: Turn,
 }
 
-/// Reads a number with a point or without one. `None`: the text is no number, or has too many digits.
+/// Reads a decimal number, with or without a point. `None`: the text is no number, or has too many digits.
 pub fn read_double(text: &[u8]) -> Option<Decimal>
     ensures { MatchOption result ((d : Decimal) → IsDouble text.now d → ⊥) (λ d. IsDouble text.now d) }
 {
@@ -91,14 +92,14 @@ pub(crate) fn read_near(text: &[u8]) -> Option<Near>
     )
 }
 
-/// Whether one of `nears` says where this target is.
-pub(crate) fn is_said(target: u32, nears: &[Near]) -> bool
-    ensures { result ≡ is_said target nears.now }
+/// Whether one of `nears` is of this target.
+pub(crate) fn has_near(target: u32, nears: &[Near]) -> bool
+    ensures { result ≡ has_near target nears.now }
 {
     nears.iter().any(|near| near.target == target)
 }
 
-/// Where a target is, by the first of `nears` that is this target's. `None`: none of them is.
+/// The first of `nears` that is of this target. `None`: none of them is.
 pub(crate) fn near_of(target: u32, nears: &[Near]) -> Option<Near>
     ensures { result ≡ near_of target nears.now }
 {
@@ -110,7 +111,7 @@ pub(crate) fn near_of(target: u32, nears: &[Near]) -> Option<Near>
     None
 }
 
-/// The direction that an answer has, if it has one.
+// The direction that an answer has, if it has one.
 fn direction_of(answer: &Answer) -> Option<Direction>
     ensures { result ≡ direction_of answer.now }
 {
@@ -122,7 +123,7 @@ fn direction_of(answer: &Answer) -> Option<Direction>
     }
 }
 
-/// Whether the answers of a call have a direction, that is, a horizontal and a vertical angle.
+// Whether the answers of a call have a direction, that is, a horizontal and a vertical angle.
 fn asks_direction(call: &Call) -> bool
     ensures { result ≡ asks_direction call.now }
 {
@@ -142,8 +143,8 @@ pub(crate) fn seeks_direction(asked: &Asked) -> bool
     }
 }
 
-/// Whether an answer was measured away from its target, by its direction. It is `false` where nothing says where the target
-/// is, and for an answer without a direction.
+/// Whether an answer was measured away from its target: its direction isn't near the target's place. `false` if no place is known
+/// (`near` is `None`), or the answer has no direction.
 #[tactic(auto, unfolding(crate::specs::Nears::is_elsewhere))]
 pub fn is_elsewhere(near: Option<Near>, answer: &Answer) -> bool
     ensures { result ≡ is_elsewhere near answer.now }

@@ -10,7 +10,7 @@ use gc_catalogue::{Call, decode_call_into};
 use gc_lines::Request;
 use gc_values::read_whole;
 
-/// The greatest target.
+/// The greatest number of a target.
 pub const TARGET_MAX: u64 = 4294967295;
 
 /// The greatest number of a procedure.

@@ -3,7 +3,7 @@
 ghost use Rattle.std.specs.Prelude.{◌≡◌, ◌≤◌, length};
 ghost use Rattle.gc_texts.specs.Qualities.{is_good, quality_word};
 
-/// What an answer is worth.
+/// How good an answer is, by its codes and by whether its values read.
 #[derive(Clone, Copy, Debug, PartialEq, Eq)]
 pub enum Quality {
     /// Both codes are 0, and its values read.
@@ -25,7 +25,7 @@ impl Quality {
         }
     }
 
-    /// The word of this quality, as rows and objects have it.
+    /// The word of this quality in rows and in lines of JSON.
     pub fn word(self) -> &'static [u8]
         ensures is { result.now ≡ quality_word self }
         ensures short { length result.now ≤ 16 }

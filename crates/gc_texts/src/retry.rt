@@ -11,19 +11,20 @@ use crate::codes::{CODES_MAX, code_of};
 use crate::cuts::{before, behind, cut_at, is_word};
 use crate::procedure::number_of;
 
-// How often a chain is repeated at most.
+// The greatest number of repetitions that a line `retry` may name.
 const TIMES_MAX: u64 = 9;
 
 // How often a chain is repeated at most, and after which endings of its commands.
 #[derive(Clone, Copy)]
 pub(crate) struct Retry {
-    // At most 9; 0: it isn't repeated.
+    // How often at most: up to 9, and 0 if the chain isn't repeated.
     pub(crate) times: u8,
+    // After which endings of a command of the chain.
     pub(crate) again: Again,
 }
 
 impl Retry {
-    // A chain with this isn't repeated.
+    // The rule of a chain that isn't repeated.
     pub(crate) fn none() -> Retry
         ensures { result ≡ no_retry }
     {
@@ -70,7 +71,7 @@ fn reason_of(word: &[u8]) -> Option<Reason>
     }
 }
 
-// Whether there is room for a word after `count` codes: for an outcome always.
+// Whether a line with `count` codes may have one more word: a code if these are fewer than 16, and an outcome always.
 fn has_room(count: usize, reason: Reason) -> bool
     ensures { result ≡ has_room count reason }
 {
@@ -80,7 +81,7 @@ fn has_room(count: usize, reason: Reason) -> bool
     }
 }
 
-// How many codes there are with one more word, where there were `count` before it.
+// How many codes a line has with one more word, if it had `count` before the word.
 fn count_with(count: usize, reason: Reason) -> usize
     requires { count < 4294967296 }
     ensures { result ≡ count_with count reason }
@@ -91,14 +92,14 @@ fn count_with(count: usize, reason: Reason) -> usize
     }
 }
 
-// What is named with one more word, where `count` codes are named so far.
+// The rule `again`, which has `count` codes, with one more word.
 fn again_with(again: Again, count: usize, reason: Reason) -> Again
     requires { has_room count reason ≡ true }
     ensures { result ≡ again_with again count reason }
 {
     match reason {
         Reason::Code(code) => Again {
-            codes: again.codes.with(count, code),
+            codes: again.codes.with_code_at(count, code),
             ..again
         },
         Reason::Unreadable => Again {
@@ -147,7 +148,8 @@ fn read_again(text: &[u8]) -> Option<Again>
     Some(again)
 }
 
-// Reads `N WORD WORD ..`: from 1 to 9 times, and a word at least. `None`: the text has no such form.
+// Reads what follows `retry ` in a line, `N WORD WORD ..`: N is from 1 to 9, and there is at least one word. `None`: the text has no
+// such form, or more than 16 codes.
 pub(crate) fn read_rule(text: &[u8]) -> Option<Retry>
     ensures { MatchOption result ((retry : Retry) → IsRetryRule text.now retry → ⊥) (λ retry. IsRetryRule text.now retry) }
 {

@@ -1,8 +1,8 @@
-//! The lines of settlements, one for each. A line is made without taking memory.
+//! The lines of settlements, one for each. A line is made in a fixed buffer, without allocation.
 
 ghost use Rattle.std.specs.Prelude.{◌≡◌, ℕ, ◌+◌, ◌^◌, ◌≤◌, ◌++◌, length, map, OnOk};
 ghost use Rattle.gc_client.specs.Settlements.{settlement_seen};
-ghost use Rattle.gc_texts.specs.Settlements.{settlement_line, settlement_lines, Told};
+ghost use Rattle.gc_texts.specs.Settlements.{settlement_line, settlement_lines, WroteSettlements};
 
 use crate::fault::RunFault;
 use arrayvec::ArrayVec;
@@ -12,7 +12,8 @@ use gc_lines::{Sink, append, write_whole};
 use itoa::Buffer;
 use std::alloc::AllocError;
 
-/// Appends the lines of settlements, the first of them at place 0. Where memory was refused, only the first lines were appended.
+/// Appends the lines of settlements, numbered from place 0. Fails if memory was refused: then the lines of the first settlements were
+/// appended, and no others.
 pub fn append_settlements(
     text: &mut Vec<u8>,
     settlements: &[Settlement<Call>],
@@ -26,7 +27,7 @@ pub fn append_settlements(
     Ok(())
 }
 
-// Appends the line of the settlement at a place, which is made in `line`, whatever was there. It fails where memory was
+// Appends the line of a settlement at a place. `line` is a buffer for it, whose old content is discarded. Fails if memory was
 // refused.
 fn append_settlement(
     text: &mut Vec<u8>,
@@ -40,15 +41,15 @@ fn append_settlement(
     text.extend_from_slice(line.as_slice())
 }
 
-/// Writes the lines of settlements, the first of them at this place, each in one write where the sink takes all of it.
-/// `Output` comes where the sink failed; it has then taken a part of these lines.
+/// Writes the lines of settlements, numbered from `place` on, each in one write if the sink takes all of it. Returns `Output` if the
+/// sink failed: it has then taken a part of these lines.
 pub fn write_settlements<K: Sink>(
     sink: &mut K,
     place: usize,
     settlements: &[Settlement<Call>],
 ) -> Result<(), RunFault>
     requires { place + length settlements.now ≤ 2 ^ 64 }
-    ensures { Told place (map settlement_seen settlements.now) (K.taken sink.old) (K.taken sink.new) (K.failed sink.old) (K.failed sink.new) result }
+    ensures { WroteSettlements place (map settlement_seen settlements.now) (K.taken sink.old) (K.taken sink.new) (K.failed sink.old) (K.failed sink.new) result }
 {
     let mut line = ArrayVec::new();
     for (i, settlement) in settlements.iter().enumerate() {
@@ -63,8 +64,7 @@ pub fn write_settlements<K: Sink>(
 // The most bytes of a settlement's line: a place and a target, the words, and the reply's line.
 const LINE_ROOM: usize = 20 + 1 + 10 + 10 + 512 + 1;
 
-// Writes the line of the settlement at a place into `line`, in place of what is there. (Clearing a line costs as much as it
-// has bytes, so one is kept for all settlements.)
+// Makes the line of a settlement at a place in `line`, whose old content is discarded. Callers reuse one buffer for all settlements.
 fn write_line(line: &mut ArrayVec<u8, LINE_ROOM>, place: usize, settlement: &Settlement<Call>)
     ensures { line.new.items ≡ settlement_line place (settlement_seen settlement.now) }
 {

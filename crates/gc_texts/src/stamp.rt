@@ -35,7 +35,7 @@ struct Date {
     day: u64,
 }
 
-// The days of a month.
+// How many days a month of a year has; months count from 1.
 fn month_days(year: u64, month: u64) -> u64
     ensures { result ≡ month_days year month }
 {
@@ -47,7 +47,7 @@ fn month_days(year: u64, month: u64) -> u64
     }
 }
 
-// The days of a year.
+// How many days a year has.
 fn year_days(year: u64) -> u64
     ensures { result ≡ year_days year }
 {
@@ -97,7 +97,7 @@ fn day_of_year(year: u64, days: u64) -> Date
     }
 }
 
-// A number in two digits.
+// A number below 100, in two ASCII digits.
 fn two_digits(n: u64) -> [u8; 2]
     requires { n < 100 }
     ensures { result ≡ two_digits n }
@@ -105,7 +105,7 @@ fn two_digits(n: u64) -> [u8; 2]
     [b'0' + (n / 10) as u8, b'0' + (n % 10) as u8]
 }
 
-// A number in three digits.
+// A number below 1000, in three ASCII digits.
 fn three_digits(n: u64) -> [u8; 3]
     requires { n < 1000 }
     ensures { result ≡ three_digits n }
@@ -114,7 +114,7 @@ fn three_digits(n: u64) -> [u8; 3]
     [b'0' + (n / 100) as u8, tens, ones]
 }
 
-// A day, as 2026-11-22.
+// A date as text, as 2026-11-22.
 fn date_text(date: Date) -> ArrayVec<u8, 26>
     requires month { date.month < 100 }
     requires day { date.day < 100 }
@@ -130,7 +130,7 @@ fn date_text(date: Date) -> ArrayVec<u8, 26>
     text
 }
 
-// The milliseconds of a day as its time, as 23:08:27.123.
+// The time of day that is `millis` milliseconds after midnight, as 23:08:27.123.
 fn time_text(millis: u64) -> ArrayVec<u8, 12>
     requires { millis < 86400000 }
     ensures { result.items ≡ time_text millis }
@@ -146,7 +146,7 @@ fn time_text(millis: u64) -> ArrayVec<u8, 12>
     text
 }
 
-// The beginning of 1970, as a date and a time of day.
+// The first moment of 1970, as a date and a time of day.
 pub(crate) const FIRST_MOMENT: DateTime = DateTime {
     year: 1970,
     month: 1,
@@ -156,7 +156,7 @@ pub(crate) const FIRST_MOMENT: DateTime = DateTime {
     second: 0,
 };
 
-// The greatest year of a date and a time of day.
+// The greatest year that a `DateTime` holds, in its `i16`.
 const YEAR_MAX: u64 = 32767;
 
 /// The moment `utc` milliseconds after the beginning of 1970, cut to seconds, as a date and a time of day. The years from

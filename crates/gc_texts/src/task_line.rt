@@ -1,4 +1,4 @@
-//! The reading of one line of a station's text.
+//! Reads one line of a station's text.
 
 ghost use Rattle.std.specs.Prelude.{◌≡◌, ◌++◌, ℕ, List, MatchOption};
 ghost use Rattle.gc_texts.specs.TaskLines.{IsDeadline, IsNameLine, IsNearLine, SetsAccepted, SetsRetry, SetsClock, IsTaskLine};
@@ -25,7 +25,7 @@ pub const DEADLINE_MAX: u64 = 86400000;
 // What a line of a station's text says.
 #[derive(Drop)]
 pub(crate) enum TaskLine {
-    // A command is to be asked; `true`: it sets the clock to the moment at which it is sent.
+    // A command, for every cycle or the setup; `true`: it sets the clock to the moment at which it is sent.
     Command(Wish, bool),
     // The deadline of the commands after it, in milliseconds.
     Deadline(u64),
@@ -33,21 +33,21 @@ pub(crate) enum TaskLine {
     Chained,
     // The commands after it aren't chained.
     Unchained,
-    // A target has a name.
+    // The name of a target.
     Naming(Name),
     // Where a target is.
-    Standing(Near),
+    Locating(Near),
     // The return codes that are accepted of the commands after it.
     Accepting(Codes),
     // How often the chains after it are repeated, and after what.
     Retrying(Retry),
-    // The commands after it are set-up.
+    // The commands after it are setup.
     AtStart,
     // The commands after it are those of each cycle.
     EachCycle,
 }
 
-// What follows a word at the front of a line. `None`: the line doesn't begin with the word.
+// What follows the prefix `word` of a line. `None`: the line doesn't begin with `word`.
 fn after_word<'a>(word: &[u8], line: &'a [u8]) -> Option<&'a [u8]>
     ensures { MatchOption result ((rest : List ℕ) → line.now ≡ word.now ++ rest → ⊥) (λ rest. line.now ≡ word.now ++ rest.now) }
 {
@@ -89,7 +89,7 @@ fn read_naming(line: &[u8]) -> Option<Name>
 }
 
 // Reads `near T HZ V TOLERANCE`: where a target is. `None`: the line has no such form, or a number lies outside its range.
-fn read_standing(line: &[u8]) -> Option<Near>
+fn read_locating(line: &[u8]) -> Option<Near>
     ensures { MatchOption result ((near : Near) → IsNearLine line.now near → ⊥) (λ near. IsNearLine line.now near) }
 {
     match after_word(b"near ", line) {
@@ -112,7 +112,7 @@ fn read_accepting(line: &[u8]) -> Option<Codes>
     }
 }
 
-// Reads `retry N WORD WORD ..`, or `retry 0`. `None`: the line has no such form.
+// Reads `retry N WORD WORD ..`: how often chains are repeated, and after what; never after `retry 0`. `None`: the line has neither form.
 fn read_retrying(line: &[u8]) -> Option<Retry>
     ensures { MatchOption result ((retry : Retry) → SetsRetry line.now retry → ⊥) (λ retry. SetsRetry line.now retry) }
 {
@@ -125,8 +125,8 @@ fn read_retrying(line: &[u8]) -> Option<Retry>
     }
 }
 
-// Reads `T 5007 now`: a target whose clock is set to the moment at which the command is sent. `None`: the line has no such
-// form.
+// Reads `T 5007 now`: a command that sets the clock of target T to the moment at which it is sent. Until then its call has the first
+// moment of 1970. `None`: the line has no such form.
 fn read_clock(line: &[u8]) -> Option<Wish>
     ensures { MatchOption result ((wish : Wish) → SetsClock line.now wish → ⊥) (λ wish. SetsClock line.now wish) }
 {
@@ -142,7 +142,7 @@ fn read_clock(line: &[u8]) -> Option<Wish>
     }
 }
 
-// Reads one line of a station's text. `None`: it has no form.
+// Reads one line of a station's text. `None`: the line has none of the forms.
 pub(crate) fn read_task_line(line: &[u8]) -> Option<TaskLine>
     ensures { MatchOption result ((said : TaskLine) → IsTaskLine line.now said → ⊥) (λ said. IsTaskLine line.now said) }
 {
@@ -158,8 +158,8 @@ pub(crate) fn read_task_line(line: &[u8]) -> Option<TaskLine>
     if let Some(name) = read_naming(line) {
         return Some(TaskLine::Naming(name));
     }
-    if let Some(near) = read_standing(line) {
-        return Some(TaskLine::Standing(near));
+    if let Some(near) = read_locating(line) {
+        return Some(TaskLine::Locating(near));
     }
     if let Some(codes) = read_accepting(line) {
         return Some(TaskLine::Accepting(codes));

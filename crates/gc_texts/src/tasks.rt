@@ -1,12 +1,12 @@
 //! Tasks: the commands of a station's text, with how each is sent and where its target is. `mode.rt` says what the lines
 //! before a command make hold for it, and `attempts.rt` which tasks the chains give.
 
-ghost use Rattle.std.specs.Prelude.{◌≡◌, ◌<◌, ◌≤◌, ◌↔◌, ◌⊎◌, ◌++◌, ◌==◌, ◌&&◌, ℕ, length, map, Err, IfOk, IfErr, OnOk, OnErr};
+ghost use Rattle.std.specs.Prelude.{◌≡◌, ◌≤◌, ◌⊎◌, ◌++◌, ◌==◌, ◌&&◌, length, map, Err, IfOk, IfErr, OnOk, OnErr};
 ghost use Rattle.std.specs.List.{list_any};
-ghost use Rattle.std.specs.Vec.{vec_capacity, vec_len};
+ghost use Rattle.gc_texts.specs.LineForms.{RefusesLong, NamesFaulty};
 ghost use Rattle.gc_texts.specs.Names.{name_text};
 ghost use Rattle.gc_texts.specs.Nears.{seeks_direction};
-ghost use Rattle.gc_texts.specs.Tasks.{setup_at, planned_at, call_at, name_at, near_at, placed, may_follow, IsTasks, IsFirstFaultyTask, ReachesASoundTaskLine, TaskFault};
+ghost use Rattle.gc_texts.specs.Tasks.{IsFull, setup_at, planned_at, call_at, name_at, near_at, placed, may_follow, IsTasks, IsFirstFaultyTask, ReachesASoundTaskLine, TaskFault};
 ghost use Rattle.gc_texts.specs.declared.fault.RunFault.{RunFault};
 ghost use Rattle.gc_texts.specs.declared.text.TheConstants.{TEXT_LIMIT};
 
@@ -18,7 +18,7 @@ use crate::fault::RunFault;
 use crate::line_forms::{is_skipped, without_cr};
 use crate::mode::{Mode, first_mode, mode_after, task_at};
 use crate::name::{Name, is_named, name_text};
-use crate::near::{Near, is_said, near_of, seeks_direction};
+use crate::near::{Near, has_near, near_of, seeks_direction};
 use crate::stamp::date_time;
 use crate::task_line::{TaskLine, read_task_line};
 use crate::text::TEXT_LIMIT;
@@ -27,14 +27,14 @@ use crate::wish::Wish;
 use gc_catalogue::{Asked, Call};
 use std::alloc::{AllocError, Global};
 
-/// A command of a station's cycle, and how it is sent.
+/// A command of a station's setup or cycle, in one attempt of its chain, and how it is sent.
 #[derive(Clone, Copy, Debug, PartialEq, Eq)]
 pub struct Task {
-    /// What is asked, and whom.
+    /// What is asked of which target.
     pub command: Wish,
     /// How long its request waits before it times out, in milliseconds.
     pub deadline: u64,
-    /// Whether it is sent only once the command before it was answered well.
+    /// Whether it is sent only if the command before it was answered well.
     pub chained: bool,
     /// Where its target is, if the text says so.
     pub near: Option<Near>,
@@ -44,19 +44,19 @@ pub struct Task {
     pub again: Again,
     /// Which command of the text it is, and which attempt of its chain it belongs to.
     pub turn: Turn,
-    /// Of the first command of a later attempt: how many commands this attempt and those after it have together. 0 of any
-    /// other.
+    /// For the first command of an attempt other than the first: how many commands this attempt and those after it have together. 0 for
+    /// any other task.
     pub others: usize,
     /// Whether it sets the instrument's clock to the moment at which it is sent.
     pub now: bool,
 }
 
-/// What a station's text gives: what is asked in each cycle, and what the targets are called and where they are.
+/// What a station's text gives: its tasks, the names of targets, and where targets are.
 #[derive(Drop)]
 pub struct Tasks {
-    /// How many of the commands in front are the set-up.
+    /// How many of the tasks are the setup; these come first.
     pub setup: usize,
-    /// The commands, in order: the set-up, and then the cycle.
+    /// The tasks, in order: those of the setup, and then those of the cycle.
     pub tasks: Vec<Task>,
     /// The names, in order: one at most for each target, and 64 at most.
     pub names: Vec<Name>,
@@ -65,9 +65,8 @@ pub struct Tasks {
 }
 
 impl Task {
-    /// What it asks for where it is sent at this moment, in milliseconds since 1970: what its command asks for; or, where it
-    /// sets the clock, that the clock is set to this moment, cut to seconds, UTC. The years from 32767 on are all given as
-    /// 32767.
+    /// The request of the task if it is sent at the moment `utc`, in milliseconds since 1970: that of its command; or, if the task sets
+    /// the clock, `SetDate` with this moment, cut to seconds, UTC. The years from 32767 on are all given as 32767.
     pub fn call_at(&self, utc: u64) -> Asked
         ensures { result ≡ call_at self.entry.now utc }
     {
@@ -88,7 +87,7 @@ impl Tasks {
         name_text(target, self.names.as_slice())
     }
 
-    /// Whether a command asks this target for its direction.
+    /// Whether some task of this target has answers with a direction (`seeks_direction`).
     pub fn asks_direction_of(&self, target: u32) -> bool
         ensures { result ≡ list_any (λ task. (task.command.target == target) && seeks_direction task.command.call) self.now.tasks.items }
     {
@@ -103,24 +102,23 @@ const NAMES_MAX: usize = 64;
 // The most targets whose place may be given.
 const NEARS_MAX: usize = 64;
 
-// Whether a line may follow lines that gave these names and places. A name may only where there are fewer than 64 names and
-// its target has none yet; a place only where there are fewer than 64 places and its target has none yet; any other line
-// may.
+// Whether a line may follow lines that gave these names and places. A line `name` may if there are fewer than 64 names and its target
+// has none yet; a line `near` if there are fewer than 64 places and its target has none yet; any other line always.
 fn may_follow(names: &Vec<Name>, nears: &Vec<Near>, said: &TaskLine) -> bool
     ensures { result ≡ may_follow names.now.items nears.now.items said.now }
 {
     match said {
         TaskLine::Naming(name) => names.len() < NAMES_MAX
             && !is_named(name.target, names.as_slice()),
-        TaskLine::Standing(near) => nears.len() < NEARS_MAX
-            && !is_said(near.target, nears.as_slice()),
+        TaskLine::Locating(near) => nears.len() < NEARS_MAX
+            && !has_near(near.target, nears.as_slice()),
         _ => true,
     }
 }
 
-// Appends what a line gives: its command to those of its section, its name or its place; nothing of any other line. `mode`
-// is the mode before the line. It fails if memory was refused.
-fn append_said(
+// Appends what a line gives: a command to `setup` or `cycle`, a name to `names`, a place to `nears`, and nothing for any other line.
+// `mode` is the mode before the line. Fails if memory was refused.
+fn append_given(
     setup: &mut Vec<Task>,
     cycle: &mut Vec<Planned>,
     names: &mut Vec<Name>,
@@ -132,9 +130,7 @@ fn append_said(
     ensures cycle { OnOk result (cycle.new.items ≡ cycle.old.items ++ planned_at mode said) }
     ensures names { OnOk result (names.new.items ≡ names.old.items ++ name_at said) }
     ensures nears { OnOk result (nears.new.items ≡ nears.old.items ++ near_at said) }
-    ensures wants { OnErr result (
-        ((vec_capacity setup.old ≤ vec_len setup.old) ⊎ (vec_capacity cycle.old ≤ vec_len cycle.old))
-        ⊎ ((vec_capacity names.old ≤ vec_len names.old) ⊎ (vec_capacity nears.old ≤ vec_len nears.old))) }
+    ensures wants { OnErr result ((IsFull setup.old ⊎ IsFull cycle.old) ⊎ (IsFull names.old ⊎ IsFull nears.old)) }
 {
     match said {
         TaskLine::Command(command, now) => {
@@ -156,7 +152,7 @@ fn append_said(
             names.push_reserved(name);
             Ok(())
         }
-        TaskLine::Standing(near) => {
+        TaskLine::Locating(near) => {
             nears.reserve(1)?;
             nears.push_reserved(near);
             Ok(())
@@ -165,7 +161,7 @@ fn append_said(
     }
 }
 
-// A task with the place of its target, by one of `nears`, or with none where none of them is for the target.
+// A task with the place of its target: the first of `nears` that is of that target, and none if there is none.
 fn placed(task: Task, nears: &[Near]) -> Task
     ensures { result ≡ placed nears.now task }
 {
@@ -175,7 +171,7 @@ fn placed(task: Task, nears: &[Near]) -> Task
     }
 }
 
-// Sets in each task where its target is.
+// Sets in each task the place of its target, as `placed` does.
 fn place_tasks(tasks: &mut Vec<Task>, nears: &[Near])
     ensures { tasks.new.items ≡ map (placed nears.now) tasks.old.items }
 {
@@ -184,16 +180,15 @@ fn place_tasks(tasks: &mut Vec<Task>, nears: &[Near])
     }
 }
 
-/// Reads a station's text: its commands with how each is sent, the names of targets, and where they are. Until a line says
-/// otherwise the commands have `deadline`, in milliseconds, and are chained where `chained` says so.
+/// Reads a station's text, and returns its tasks, the names of targets, and where targets are. Until a line says otherwise the commands
+/// have `deadline`, in milliseconds, and are chained if `chained`.
 ///
-/// The tasks are those of the set-up, which are one chain, and after them those of the cycle: each chain as often as it may
+/// The tasks are those of the setup, which are one chain, and after them those of the cycle: each chain as often as it may
 /// be sent, one attempt after the other, each from the chain's first command on.
 ///
-/// Refused are a text of more than 65,536 bytes (`InputTooLong`, before any line is looked at), and the first faulty line
-/// (`Schedule`, with its number counted from 1): one that has no form, or gives a target a second name or a second place, or
-/// gives a 65th name or a 65th place. `Memory` comes only where memory ran out at a line that isn't faulty and follows no faulty
-/// one.
+/// Fails with `InputTooLong` if the text has more than 65,536 bytes, before any line is read; with `Schedule` and the number of the
+/// line, counted from 1, at the first faulty line: one that has no form, or gives a target a second name or place, or gives a 65th name or
+/// place; and with `Memory` if memory was refused at a line that isn't faulty and follows no faulty one.
 pub fn read_tasks(
     alloc: Global,
     text: &[u8],
@@ -201,8 +196,8 @@ pub fn read_tasks(
     chained: bool,
 ) -> Result<Tasks, RunFault>
     ensures found { IfOk result (λ all. IsTasks text.now deadline chained all.setup all.tasks.items all.names.items all.nears.items) }
-    ensures too_long { (result ≡ Err RunFault.InputTooLong) ↔ (TEXT_LIMIT < length text.now) }
-    ensures faulty { (n : ℕ) → result ≡ Err (RunFault.Schedule n) → IsFirstFaultyTask text.now n }
+    ensures too_long { RefusesLong text.now result }
+    ensures faulty { NamesFaulty (IsFirstFaultyTask text.now) result }
     ensures memory { result ≡ Err RunFault.Memory → ReachesASoundTaskLine text.now }
     ensures faults { IfErr result (λ e. TaskFault text.now e) }
 {
@@ -212,7 +207,7 @@ pub fn read_tasks(
     read_task_lines(alloc, text, deadline, chained)
 }
 
-// Reads the lines of a station's text, as `read_tasks` does. The faults are `Schedule` and `Memory`.
+// Reads the lines of a station's text that isn't too long, as `read_tasks` does. Fails with `Schedule` and `Memory`.
 fn read_task_lines(
     alloc: Global,
     text: &[u8],
@@ -245,7 +240,7 @@ fn read_task_lines(
             return Err(RunFault::Schedule { line: number });
         }
         let next = mode_after(mode, &said);
-        if append_said(&mut tasks, &mut cycle, &mut names, &mut nears, mode, said).is_err() {
+        if append_given(&mut tasks, &mut cycle, &mut names, &mut nears, mode, said).is_err() {
             return Err(RunFault::Memory);
         }
         mode = next;

@@ -1,36 +1,34 @@
-//! The reading of a text, whole, into memory: how long a text may be is said here.
+//! Reads a whole text into memory. The limit on the length of a text is defined here.
 
-ghost use Rattle.std.specs.Prelude.{◌≡◌, ℕ, ◌+◌, ◌<◌, ◌≤◌, List, length, true, false, Err, OnOk, IfOk, IfErr, MatchResult};
-ghost use Rattle.std.specs.Io.KnownBytes.{Consumes, IsAtEnd};
+ghost use Rattle.std.specs.Prelude.{◌≡◌, ◌+◌, ◌<◌, ◌≤◌, false, Err, OnOk, IfOk, IfErr};
 ghost use Rattle.gc_texts.specs.declared.fault.RunFault.{RunFault};
 ghost use Rattle.gc_texts.specs.declared.text.TheConstants.{TEXT_LIMIT};
-ghost use Rattle.gc_texts.specs.Texts.{IsReadFault, read_failed, end_reads};
+ghost use Rattle.gc_texts.specs.Texts.{FailsAtRead};
+ghost use Rattle.gc_texts.specs.WholeTexts.{IsReadToEnd, ReadsNoText, ReadsText, input_of};
 
 use crate::fault::RunFault;
 use gc_lines::Source;
 use std::alloc::Global;
 
-/// The greatest length of a schedule's or a command list's text, in bytes.
+/// The greatest length of a text that is read whole, in bytes.
 pub const TEXT_LIMIT: usize = 65536;
 
-/// A text has at most 65,536 bytes.
+/// A text has at most 65,536 bytes. The function has no effect: it states the value of `TEXT_LIMIT` for proofs.
 pub fn limits_texts()
     ensures { TEXT_LIMIT ≡ 65536 }
 {}
 
-/// Reads a text until the input ends, or 65,537 bytes, which are too many.
+/// Reads a source until its input ends, and returns the bytes. At most 65,537 bytes are read.
 ///
-/// `Read` comes where the source failed, `InputTooLong` where it gave more than 65,536 bytes, and `Memory` only where the text
-/// couldn't grow by the bytes that a read gave.
+/// Fails with `Read` if the source failed, with `InputTooLong` if it gave more than 65,536 bytes, and with `Memory` if memory was
+/// refused for the bytes that a read gave.
 pub fn read_text<S: Source>(alloc: Global, source: &mut S) -> Result<Vec<u8>, RunFault>
-    ensures found { IfOk result (λ text. Consumes (S.remaining source.old) (S.remaining source.new) text.items × (length text.items ≤ TEXT_LIMIT)
-        × (S.reads source.new ≤ S.reads source.old + length text.items + end_reads (S.ended source.new))) }
-    ensures whole { OnOk result (IsAtEnd (S.remaining source.new) × (S.ended source.new ≡ true) × (S.reads source.old < S.reads source.new)) }
-    ensures fault { IfErr result (λ e. (given : List ℕ) × Consumes (S.remaining source.old) (S.remaining source.new) given × IsReadFault given e
-        × (S.reads source.new ≤ S.reads source.old + length given + end_reads (S.ended source.new))) }
+    ensures found { IfOk result (λ text. ReadsText (input_of S.Source source.old) (input_of S.Source source.new) text.items) }
+    ensures whole { OnOk result (IsReadToEnd (input_of S.Source source.old) (input_of S.Source source.new)) }
+    ensures fault { IfErr result (λ e. ReadsNoText (input_of S.Source source.old) (input_of S.Source source.new) e) }
     ensures memory { result ≡ Err RunFault.Memory → (S.ended source.new ≡ false) × (S.reads source.old < S.reads source.new) }
     ensures bounded { S.reads source.new ≤ S.reads source.old + (TEXT_LIMIT + 1) }
-    ensures failed { MatchResult result (λ _. S.failed source.new ≡ S.failed source.old) (λ e. S.failed source.new ≡ read_failed e (S.failed source.old)) }
+    ensures failed { FailsAtRead (S.failed source.old) (S.failed source.new) result }
 {
     let mut text = Vec::new(alloc);
     let mut buf = [0u8; 4096];

@@ -29,7 +29,7 @@ pub enum Trouble {
     Target,
     /// The deadline is no number from 1 to 86400000.
     Deadline,
-    /// The name has no form, its target has a name already, or 64 targets have names.
+    /// The text of the name is none of a name, its target has a name already, or 64 targets have names.
     Name,
     /// The place has no form or lies outside its range, its target has a place already, or 64 targets have places.
     Near,
@@ -54,7 +54,7 @@ pub enum Trouble {
 }
 
 impl Trouble {
-    /// Writes the trouble of the line with this number, counted from 1: the program's name, the number, and the field at fault.
+    /// Writes the message about the line with this number, counted from 1: the program's name, the number, and which field is at fault.
     pub fn tell<E: Write>(self, line: u32, messages: &mut E) -> io::Result<()>
         ensures { OnOk result (Appends (E.contents messages.old) (E.contents messages.new) (trouble_line line self)) }
     {
@@ -141,7 +141,8 @@ fn call_trouble(rpc: u16, params: &[u8]) -> Trouble
     }
 }
 
-// What is reported of a procedure's parameters that have this fault: how many it wants, or that their spelling is at fault.
+// What is reported of a procedure's parameters with this fault: how many the procedure has if the line has another number of them, else
+// that their spelling is at fault.
 fn parameters_trouble(rpc: u16, fault: ValueFault) -> Trouble
     ensures { result ≡ parameters_trouble rpc fault }
 {
@@ -151,7 +152,7 @@ fn parameters_trouble(rpc: u16, fault: ValueFault) -> Trouble
     }
 }
 
-// What is reported of a procedure's number and its parameters after the word `raw`, which may not be asked for so.
+// What is reported of a procedure's number and its parameters after the word `raw`, if they are refused for this reason.
 fn raw_trouble(rpc: u16, fault: RawFault) -> Trouble
     ensures { result ≡ raw_trouble rpc fault }
 {
@@ -162,7 +163,7 @@ fn raw_trouble(rpc: u16, fault: RawFault) -> Trouble
     }
 }
 
-// What is at fault in a procedure's number and its parameters after the word `raw`. `NoForm`: nothing.
+// What is at fault in a procedure's number and its parameters after the word `raw`. `NoForm`: nothing, because they make a request.
 fn raw_call_trouble(rpc: u16, params: &[u8]) -> Trouble
     ensures { IsRawTrouble rpc params.now result }
 {
@@ -172,7 +173,7 @@ fn raw_call_trouble(rpc: u16, params: &[u8]) -> Trouble
     }
 }
 
-// What is at fault after the word `raw`: the procedure's number, or the parameters that follow it.
+// What is at fault after the word `raw`: the procedure's number, or the parameters that follow it. `NoForm`: nothing.
 fn raw_words_trouble(number: &[u8], params: &[u8]) -> Trouble
     ensures { IsRawWordsTrouble number.now params.now result }
 {
@@ -207,7 +208,7 @@ fn asking_trouble(line: &[u8]) -> Trouble
     }
 }
 
-// Whether a line has a target's number, `5007` and `now`, and perhaps more.
+// Whether a line begins with a target's number, `5007` and `now`.
 fn begins_with_now(line: &[u8]) -> bool
     ensures { IsTrue result → (second_word line.now ≡ codes "5007") × (third_word line.now ≡ codes "now") }
 {
@@ -267,9 +268,8 @@ fn setting_trouble(line: &[u8]) -> Option<Trouble>
 
 /// Which field of a line is at fault, if the line is a faulty one of a station's text. A line that begins with `deadline`, `name`,
 /// `near`, `accept`, `retry`, `at` or `each` is at fault in its target or in what it sets. Any other line is taken for a command, or
-/// for one of any other procedure if its second word is `raw`, and its first field that doesn't read is at fault. Some lines that
-/// aren't faulty give `NoForm`, too: a command, `chained` and `unchained`; and `retry`, `at start`, `each cycle` and `T 5007 now`
-/// give their own.
+/// for one of any other procedure if its second word is `raw`, and its first field that doesn't read is at fault. Of a line that isn't
+/// faulty the result says nothing: a command gives `NoForm`, for example, and a line `retry` gives `Retry`.
 pub fn trouble_of(line: &[u8]) -> Trouble
     ensures { IsTrouble line.now result }
 {

@@ -3,7 +3,7 @@
 /// Which command of a station's text a task is, and which attempt of its chain it belongs to.
 #[derive(Clone, Copy, Debug, PartialEq, Eq)]
 pub struct Turn {
-    /// The command's place among the commands of its section, set-up or cycle, counted from 0.
+    /// The command's place among the commands of its section, setup or cycle, counted from 0.
     pub place: usize,
     /// The attempt of its chain, counted from 1.
     pub attempt: u64,

@@ -1,4 +1,4 @@
-//! Wishes: what a station is to ask, and whom.
+//! Wishes: what a station is to ask of which target, and the lines that say it.
 
 ghost use Rattle.std.specs.Prelude.{◌≡◌, ℕ, MatchOption};
 ghost use Rattle.gc_catalogue.specs.declared.raw.RawCall.{RawCall};
@@ -10,17 +10,17 @@ use crate::cuts::{before, behind, is_word};
 use crate::procedure::{RPC_MAX, TARGET_MAX, number_of};
 use gc_catalogue::{Asked, RawCall, raw_call};
 
-/// A request of a station that is to be asked: a command, or a procedure that isn't in the table.
+/// What a station is to ask of a target: a call of the table, or a procedure that isn't in the table.
 #[derive(Clone, Copy, Debug, PartialEq, Eq)]
 pub struct Wish {
-    /// Whom it is for: a number of the caller's own, handed back with the settlement.
+    /// The target: a number that the caller chooses, and gets back with the settlement.
     pub target: u32,
-    /// What it asks for.
+    /// What is asked of the target.
     pub call: Asked,
 }
 
 impl Wish {
-    /// A command, as a wish.
+    /// The wish that asks what a command asks, of the same target.
     pub fn of(command: &Command) -> Wish
         ensures { result ≡ wish_of command.now }
     {

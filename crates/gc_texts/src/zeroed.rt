@@ -1,4 +1,4 @@
-//! What a reply says of what was asked if its return code is taken for 0: the parameters that come with a warning.
+//! Reads the parameters of a reply whose return code is a warning, as they are read of a reply with return code 0.
 
 ghost use Rattle.std.specs.Prelude.{IfSome, ℕ};
 ghost use Rattle.gc_lines.specs.Replies.{ReplyFields, IsReply};
@@ -9,7 +9,7 @@ ghost use Rattle.gc_texts.specs.Zeroed.{as_zero};
 use gc_catalogue::{Asked, Asking, Reading};
 use gc_lines::{Line, Reply, read_reply};
 
-/// What a reply's line would say of what was asked with return code 0. Where the line is no reply: a refusal.
+/// Reads a reply's line as the answer to `asked`, with its return code taken for 0. Returns `Refused(0)` if the line is no reply.
 pub fn reading_as_zero(asked: &Asked, line: &Line) -> Reading
     ensures { (r : ReplyFields) → IsReply line.now.items r → ReadsBy IsAskedReading asked.now (as_zero line.now.items) result }
 {

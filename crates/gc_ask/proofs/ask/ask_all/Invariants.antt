@@ -5,6 +5,9 @@ use Rattle.gc_ask.proofs.Asked.{Course}
 use Rattle.gc_ask.proofs.Ends.{Sound}
 use Rattle.gc_ask.proofs.ask.ask_all.Given as goal
 
+-- the first `place` commands were asked and settled (`Course`), by at most `ROOM` bytes for each read; both ends of the link are
+-- sound; the reads that are left are the first number without those made; and neither whether the sink failed nor what the link
+-- holds has changed
 abbrev pub invariant-loop-place : goal.invariant-loop-place
 invariant-loop-place g l = record {
   course : (given : List ℕ) × Consumes (g.L.Link.client l.initial.link).remaining (g.L.Link.client l.link).remaining given

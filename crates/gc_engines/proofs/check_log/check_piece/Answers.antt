@@ -1,5 +1,5 @@
 use Rattle.std.proofs.Common.{◌∙◌, arith}
-use Rattle.gc_engines.proofs.LogSaid.{loop_on, loop_fails}
+use Rattle.gc_engines.proofs.LogVerdicts.{loop_on, loop_fails}
 use Rattle.gc_engines.proofs.check_log.check_piece.Goals as goal
 
 pub returns-in-Err-clause-err : goal.returns-in-Err-clause-err

@@ -2,7 +2,7 @@ use Rattle.std.proofs.Common.{◌≡◌, ℕ, ◌≤◌, length, take, arith, sy
 use Rattle.std.proofs.lemmas.Bool.Decides.{nat_tests}
 use Rattle.std.proofs.lemmas.List.{length-take}
 use Rattle.gc_lines.proofs.Exactly.{ended_exactly}
-use Rattle.gc_engines.proofs.LogSaid.{so_far_more, so_far_part}
+use Rattle.gc_engines.proofs.LogVerdicts.{so_far_more, so_far_part}
 use Rattle.gc_engines.proofs.check_log.run_check_log.Goals as goal
 
 not_zero : (n : ℕ) → (n ≡ 0 → ⊥) → eqb n 0 ≡ false

@@ -1,10 +1,12 @@
 use Rattle.std.proofs.Common.{◌≡◌, ◌+◌, ◌*◌, ◌<◌, ◌≤◌, length, false}
-use Rattle.gc_engines.proofs.LogSaid.{SaidSoFar}
+use Rattle.gc_engines.proofs.LogVerdicts.{VerdictsSoFar}
 use Rattle.gc_engines.proofs.check_log.run_check_log.Given as goal
 
+-- the verdicts on the lines of all bytes read so far went out (`VerdictsSoFar`), in `counter` reads, at most 256
+-- for each, the last of which wasn't the end; and whether a port has failed is as at the start
 abbrev pub invariant-loop : goal.invariant-loop
 invariant-loop g l = record {
-  so : SaidSoFar (g.S.Source.remaining l.initial.source) (g.S.Source.remaining l.source) (g.K.Sink.taken l.initial.sink) (g.K.Sink.taken l.sink) l.kept l.counter l.replies;
+  so : VerdictsSoFar (g.S.Source.remaining l.initial.source) (g.S.Source.remaining l.source) (g.K.Sink.taken l.initial.sink) (g.K.Sink.taken l.sink) l.kept l.counter l.replies;
   reads : g.S.Source.reads l.source ≡ g.S.Source.reads l.initial.source + l.counter;
   going : 0 < l.counter → g.S.Source.ended l.source ≡ false;
   source : g.S.Source.failed l.source ≡ g.S.Source.failed l.initial.source;

@@ -2,5 +2,6 @@ use Rattle.std.proofs.Common.{◌≡◌, ◌++◌, drop}
 use Rattle.gc_engines.specs.Scenes.{targets_of}
 use Rattle.gc_engines.proofs.scene.targets_of.Given as goal
 
+-- the targets gathered so far, and those of the lines that are left, are those of all lines
 abbrev pub invariant-loop-line : goal.invariant-loop-line
 invariant-loop-line l = l.targets.items ++ targets_of (drop l.line-index l.lines) ≡ targets_of l.lines

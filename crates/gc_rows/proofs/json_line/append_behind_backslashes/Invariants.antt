@@ -4,6 +4,7 @@ use Rattle.arrayvec.specs.ArrayVec.{array_vec_len}
 use Rattle.gc_rows.specs.JsonLines.{behind_backslash}
 use Rattle.gc_rows.proofs.json_line.append_behind_backslashes.Given as goal
 
+-- the bytes so far were appended, each double quote and each backslash after a backslash
 abbrev pub invariant-loop-b : goal.invariant-loop-b
 invariant-loop-b g l = record {
   written : l.line.items ≡ l.initial.line.items ++ flat_map behind_backslash (take l.b-index l.text);

@@ -4,6 +4,8 @@ use Rattle.gc_rows.specs.declared.json_line.TheConstants.{VALUE_ROOM}
 use Rattle.gc_rows.specs.JsonLines.{members_text, values_members}
 use Rattle.gc_rows.proofs.json_line.append_values.Given as goal
 
+-- the members of the values so far were appended, and those of the others, from this column and the rest of `came` on, make up
+-- all members
 abbrev pub invariant-loop-value : goal.invariant-loop-value
 invariant-loop-value g l = record {
   column : l.column ≡ l.first + l.value-index;

@@ -1,4 +1,4 @@
-use Rattle.gc_rows.proofs.Told.{have_their_names}
+use Rattle.gc_rows.proofs.ProcedureQuantities.{have_their_names}
 use Rattle.gc_rows.proofs.laws.quantities_have_their_names.Goals as goal
 
 pub returns : goal.returns

@@ -1,4 +1,4 @@
-use Rattle.gc_rows.proofs.Told.{fill_their_columns}
+use Rattle.gc_rows.proofs.ProcedureQuantities.{fill_their_columns}
 use Rattle.gc_rows.proofs.laws.rows_fill_their_columns.Goals as goal
 
 pub returns : goal.returns

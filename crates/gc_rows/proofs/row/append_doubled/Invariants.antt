@@ -4,6 +4,7 @@ use Rattle.arrayvec.specs.ArrayVec.{array_vec_len}
 use Rattle.gc_rows.specs.Rows.{within_quotes}
 use Rattle.gc_rows.proofs.row.append_doubled.Given as goal
 
+-- the bytes so far were appended, each double quote twice
 abbrev pub invariant-loop-b : goal.invariant-loop-b
 invariant-loop-b g l = record {
   written : l.to.items ≡ l.initial.to.items ++ flat_map within_quotes (take l.b-index l.text);

@@ -5,6 +5,7 @@ use Rattle.gc_rows.specs.declared.row.TheConstants.{VALUE_ROOM}
 use Rattle.gc_rows.specs.Rows.{value_text}
 use Rattle.gc_rows.proofs.row.append_values.Given as goal
 
+-- the values so far were appended, each as a field after a comma
 abbrev pub invariant-loop-value : goal.invariant-loop-value
 invariant-loop-value g l = record {
   written : l.row.items ≡ l.initial.row.items ++ flat_map value_text (take l.value-index l.values);

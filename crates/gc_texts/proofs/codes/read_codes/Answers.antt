@@ -12,7 +12,7 @@ pub loop-left-preserved : goal.loop-left-preserved
 loop-left-preserved c =
     let room : c.loop-left.count < 16 = search rules in
     code_reads c.args.text.now c.in-Some.text.now c.cut_at.result.0.now (option_copied c.loop-left.left) (option_copied c.cut_at.result.1) c.loop-left.codes c.loop-left.count
-    c.loop-left.invariant (ap option_copied c.in-Some.is) c.cut_at.ensures c.in-Some-code_of.code c.with_next-codes.result c.in-Some-code_of.ensures room c.with_next-codes.ensures
+    c.loop-left.invariant (ap option_copied c.in-Some.is) c.cut_at.ensures c.in-Some-code_of.code c.with_code_at-codes.result c.in-Some-code_of.ensures room c.with_code_at-codes.ensures
 
 pub returns : goal.returns
 returns c = codes_are c.args.text.now (option_copied c.loop-left.left) c.loop-left.codes c.loop-left.count c.loop-left.invariant (ap option_copied c.in_default.is)

@@ -2,5 +2,6 @@ use Rattle.std.proofs.Common.{◌≡◌, drop}
 use Rattle.gc_texts.specs.Names.{name_text}
 use Rattle.gc_texts.proofs.name.name_text.Given as goal
 
+-- the name is that of the first name of the target among those that are left
 abbrev pub invariant-loop-name : goal.invariant-loop-name
 invariant-loop-name l = name_text l.target l.names ≡ name_text l.target (drop l.name-index l.names)

@@ -3,5 +3,6 @@ use Rattle.gc_client.specs.Settlements.{settlement_seen}
 use Rattle.gc_texts.specs.Settlements.{settlement_lines}
 use Rattle.gc_texts.proofs.settled.append_settlements.Given as goal
 
+-- the lines of the settlements so far were appended
 abbrev pub invariant-loop-place : goal.invariant-loop-place
 invariant-loop-place l = l.text.items ≡ l.initial.text.items ++ settlement_lines (map settlement_seen (take l.place l.settlements))

@@ -53,15 +53,16 @@ returns-then-is_err-clause-fault c = (
 
 pub loop-left-preserved : goal.loop-left-preserved
 loop-left-preserved c =
-    let more_setup : c.append_said.new.setup.items ≡ c.loop-left.tasks.items ++ setup_at c.loop-left.mode c.in-Some-read_task_line.said = search rules in
-    let more_cycle : c.append_said.new.cycle.items ≡ c.loop-left.cycle.items ++ planned_at c.loop-left.mode c.in-Some-read_task_line.said = search rules in
-    let more_nears : c.append_said.new.nears.items ≡ c.loop-left.nears.items ++ near_at c.in-Some-read_task_line.said = search rules in
-    let more_names : c.append_said.new.names.items ≡ c.loop-left.names.items ++ name_at c.in-Some-read_task_line.said = search rules in
+    let more_setup : c.append_given.new.setup.items ≡ c.loop-left.tasks.items ++ setup_at c.loop-left.mode c.in-Some-read_task_line.said = search rules in
+    let more_cycle : c.append_given.new.cycle.items ≡ c.loop-left.cycle.items ++ planned_at c.loop-left.mode c.in-Some-read_task_line.said = search rules in
+    let more_nears : c.append_given.new.nears.items ≡ c.loop-left.nears.items ++ near_at c.in-Some-read_task_line.said = search rules in
+    let more_names : c.append_given.new.names.items ≡ c.loop-left.names.items ++ name_at c.in-Some-read_task_line.said = search rules in
     task_reads c.args.text.now (opening c.args.deadline c.args.chained) (option_copied c.loop-left.left) c.in-Some.text.now c.cut_at.result.0.now c.without_cr-line.result.now
     (option_copied c.cut_at.result.1) c.loop-left.number
     c.loop-left.tasks.items c.loop-left.cycle.items c.loop-left.names.items c.loop-left.nears.items c.loop-left.mode c.is_skipped.result c.loop-left.invariant
     (ap option_copied c.in-Some.is) c.cut_at.ensures c.without_cr-line.ensures c.is_skipped.ensures
-    c.in-Some-read_task_line.said c.append_said.new.setup.items c.append_said.new.cycle.items c.append_said.new.names.items c.append_said.new.nears.items c.mode_after-next.result c.may_follow.result
+    c.in-Some-read_task_line.said c.append_given.new.setup.items c.append_given.new.cycle.items c.append_given.new.names.items
+    c.append_given.new.nears.items c.mode_after-next.result c.may_follow.result
     c.if-is_skipped.false c.in-Some-read_task_line.ensures
     c.may_follow.ensures c.if-not-may_follow.false more_setup more_cycle more_names more_nears c.mode_after-next.ensures
 

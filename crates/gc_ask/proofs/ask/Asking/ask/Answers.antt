@@ -5,7 +5,7 @@ use Rattle.gc_ask.specs.Links.{BothStep}
 use Rattle.gc_ask.specs.Listening.{Heard}
 use Rattle.gc_ask.proofs.Asked.{settled_is}
 use Rattle.gc_ask.proofs.Ends.{no_output}
-use Rattle.gc_ask.proofs.Exchanging.{still_waits, lost_alone, asks_told, asks_lost, asks_untold, ends_told, ends_lost, ends_untold}
+use Rattle.gc_ask.proofs.Exchanging.{still_waits, lost_alone, asks_written, asks_lost, asks_sink_failed, ends_written, ends_lost, ends_sink_failed}
 use Rattle.gc_ask.proofs.ask.Asking.ask.Goals as goal
 
 pub write_settlements-requires : goal.write_settlements-requires
@@ -38,7 +38,7 @@ returns-in-Ok-clause-asks g c =
       ex.1,
       ex.2,
       λ rest s.
-          asks_told g.L.Link.alone c.args.place c.args.command.now
+          asks_written g.L.Link.alone c.args.place c.args.command.now
           (record { rest = rest; bytes = c.args.self.now.ahead ++ ex.0; left = asking.ahead; kept = end.assembler; client = end.client.ids; settled = end.settled.items })
           c.as_slice.result.now
           (record { link_old = old.taken; link_new = new.taken; sink_old = g.K.Sink.taken c.args.sink.now; sink_new = g.K.Sink.taken c.write_settlements.new.sink })
@@ -49,7 +49,7 @@ returns-in-Ok-clause-asks g c =
 
 pub returns-in-Ok-clause-ends : goal.returns-in-Ok-clause-ends
 returns-in-Ok-clause-ends g c =
-    ends_told
+    ends_written
     (BothStep (g.L.Link.client c.args.link.now) (g.L.Link.client c.exchange.new.link) (g.L.Link.instrument c.args.link.now) (g.L.Link.instrument c.exchange.new.link))
     c.args.place _ (g.K.Sink.taken c.args.sink.now) (g.K.Sink.taken c.write_settlements.new.sink) (g.K.Sink.failed c.args.sink.now) (g.K.Sink.failed c.write_settlements.new.sink)
     c.write_settlements.result c.in-Ok.ensures.ends c.write_settlements.ensures
@@ -93,7 +93,7 @@ returns-in-Err-write_settlements-clause-asks g c =
       ex.1,
       ex.2,
       λ rest s.
-          asks_untold g.L.Link.alone c.args.place c.args.command.now
+          asks_sink_failed g.L.Link.alone c.args.place c.args.command.now
           (record { rest = rest; bytes = c.args.self.now.ahead ++ ex.0; left = asking.ahead; kept = end.assembler; client = end.client.ids; settled = end.settled.items })
           c.restart-lost.new.self.ids c.restart-lost.result.items c.as_slice-in-Err.result.now
           (record { link_old = old.taken; link_new = new.taken; sink_old = g.K.Sink.taken c.args.sink.now; sink_new = g.K.Sink.taken c.write_settlements-in-Err.new.sink })
@@ -105,7 +105,7 @@ returns-in-Err-write_settlements-clause-asks g c =
 
 pub returns-in-Err-write_settlements-clause-ends : goal.returns-in-Err-write_settlements-clause-ends
 returns-in-Err-write_settlements-clause-ends g c =
-    ends_untold
+    ends_sink_failed
     (BothStep (g.L.Link.client c.args.link.now) (g.L.Link.client c.exchange.new.link) (g.L.Link.instrument c.args.link.now) (g.L.Link.instrument c.exchange.new.link))
     c.args.place _ (g.K.Sink.taken c.args.sink.now) (g.K.Sink.taken c.write_settlements-in-Err.new.sink) (g.K.Sink.failed c.args.sink.now) (g.K.Sink.failed c.write_settlements-in-Err.new.sink)
     c.in-Err.fault c.in-Err-write_settlements.output c.in-Err.ensures.ends c.in-Err-write_settlements.ensures

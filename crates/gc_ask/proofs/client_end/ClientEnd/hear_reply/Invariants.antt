@@ -6,6 +6,8 @@ use Rattle.gc_ask.specs.declared.unheard.TheConstants.{ROOM}
 use Rattle.gc_ask.proofs.FirstReplies.{Reading}
 use Rattle.gc_ask.proofs.client_end.ClientEnd.hear_reply.Given as goal
 
+-- what came so far, at most `ROOM` bytes for each read, settles nothing as far as it was looked at (`Reading`); no read was the end
+-- of the stream, and the source has failed exactly if it had at first; and nothing else of the link was used
 abbrev pub invariant-loop-used : goal.invariant-loop-used
 invariant-loop-used g l = record {
   heard : (given : List ℕ) × Consumes (g.L.Link.client l.initial.link).remaining (g.L.Link.client l.link).remaining given
@@ -19,5 +21,6 @@ invariant-loop-used g l = record {
   only : OnlyReads (g.L.Link.client l.initial.link) (g.L.Link.client l.link) (g.L.Link.instrument l.initial.link) (g.L.Link.instrument l.link) (g.L.Link.held l.initial.link) (g.L.Link.held l.link);
 }
 
+-- how many reads are left
 abbrev pub decreases-loop-used : goal.decreases-loop-used
 decreases-loop-used g l = l.reads

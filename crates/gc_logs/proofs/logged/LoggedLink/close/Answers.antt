@@ -7,9 +7,9 @@ use Rattle.gc_logs.proofs.logged.LoggedLink.close.Goals as goal
 pub returns-clause-logs : goal.returns-clause-logs
 returns-clause-logs g c = record {
   took = takes_last _ _ _ _ _ _ c.args.self.now.log.utc _ (entries_of_pending Went c.args.self.now.log.went.bytes.items
-      ++ entries_of_pending Came c.args.self.now.log.came.bytes.items) (link_entry (codes "closed") ∷ []) c.cut.ensures.utc
-      c.cut.ensures.took c.says.ensures.took;
-  went = c.says.ensures.went ∙ c.cut.ensures.went;
-  came = c.says.ensures.came ∙ c.cut.ensures.came;
-  utc = c.says.ensures.utc ∙ c.cut.ensures.utc;
+      ++ entries_of_pending Came c.args.self.now.log.came.bytes.items) (link_entry (codes "closed") ∷ []) c.flush.ensures.utc
+      c.flush.ensures.took c.add_word.ensures.took;
+  went = c.add_word.ensures.went ∙ c.flush.ensures.went;
+  came = c.add_word.ensures.came ∙ c.flush.ensures.came;
+  utc = c.add_word.ensures.utc ∙ c.flush.ensures.utc;
 }

@@ -8,8 +8,8 @@ pub returns-in-Err-clause-logs : goal.returns-in-Err-clause-logs
 returns-in-Err-clause-logs g c =
     record {
       took = takes_last _ _ _ _ _ _ c.args.self.now.log.utc _ (entries Went c.args.self.now.log.went (take c.in-Err.n c.args.bytes.now))
-          (link_entry (codes "failed") ∷ []) c.went-in-Err.ensures.utc c.went-in-Err.ensures.took c.says.ensures.took;
-      went = c.says.ensures.went ∙ c.went-in-Err.ensures.went;
-      came = c.says.ensures.came ∙ c.went-in-Err.ensures.came;
-      utc = c.says.ensures.utc ∙ c.went-in-Err.ensures.utc;
+          (link_entry (codes "failed") ∷ []) c.add_sent-in-Err.ensures.utc c.add_sent-in-Err.ensures.took c.add_word.ensures.took;
+      went = c.add_word.ensures.went ∙ c.add_sent-in-Err.ensures.went;
+      came = c.add_word.ensures.came ∙ c.add_sent-in-Err.ensures.came;
+      utc = c.add_word.ensures.utc ∙ c.add_sent-in-Err.ensures.utc;
     }

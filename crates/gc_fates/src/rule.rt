@@ -1,29 +1,29 @@
-//! Sayings: what a line of the text says. The words of the text, and what follows each, are known here alone.
+//! Rules: what one line of the text says. The words of the text, and what follows each, are defined here alone.
 
 ghost use Rattle.std.specs.Prelude.{◌≡◌, ◌<◌, ℕ, IsTrue, ◌↔◌, MatchOption, IfOk, IfErr};
 ghost use Rattle.gc_texts.specs.Procedures.{IsNumber};
-ghost use Rattle.gc_fates.specs.Sayings.{name_of, shape_of, place_of, IsPercentage, IsLasting, IsSpan, AreTimes, IsChance, IsSaid, IsIllSaid};
+ghost use Rattle.gc_fates.specs.RuleForms.{name_of, shape_of, place_of, IsPercentage, IsLasting, IsSpan, AreTimes, IsChance, IsRule, IsNoRule};
 ghost use Rattle.gc_fates.specs.declared.chance.Chance.{Chance};
-ghost use Rattle.gc_fates.specs.declared.saying.Word.{Word};
+ghost use Rattle.gc_fates.specs.declared.rule.Word.{Word};
 
 use crate::chance::Chance;
 use crate::share::{WHOLE, read_share};
 use crate::spaced::{first_word, is_blank, other_words};
 use gc_texts::number_of;
 
-/// The longest time, in milliseconds: a day.
+/// The longest time that a rule may name, in milliseconds: a day.
 pub const MILLIS_MAX: u64 = 86_400_000;
 
-// The most times a night.
+// The greatest number of kills a night.
 const TIMES_MAX: u64 = 1000;
 
 // How many words there are.
 pub(crate) const WORDS: usize = 8;
 
-/// A word of the text.
+/// A word of the text: what a rule is about.
 #[derive(Clone, Copy, Debug, PartialEq, Eq)]
 pub enum Word {
-    /// Each line waits.
+    /// Each line is delayed for a time.
     Delay,
     /// A line is lost.
     Lose,
@@ -37,18 +37,18 @@ pub enum Word {
     Refuse,
     /// At a line the instrument restarts.
     Restart,
-    /// The station is killed, so often a night.
+    /// The station is killed a number of times a night.
     Kill,
 }
 
-// What follows a word.
+// The form of what follows a word.
 #[derive(Clone, Copy)]
 enum Shape {
     // `P`: a percentage.
     Share,
-    // `P MS`: a percentage and a time.
+    // `P MS`: a percentage and a time in milliseconds.
     Lasting,
-    // `FROM TO`: two times, and the word applies to each line.
+    // `FROM TO`: two times in milliseconds, and the word applies to each line.
     Span,
     // `N`: how many times.
     Times,
@@ -71,7 +71,7 @@ impl Word {
         }
     }
 
-    // What follows the word.
+    // The form of what follows the word.
     fn shape(self) -> Shape
         ensures { result ≡ shape_of self }
     {
@@ -107,8 +107,8 @@ impl Word {
         self.name() == text
     }
 
-    // The word that a text is. `None`: it is none.
-    fn of(text: &[u8]) -> Option<Word>
+    // The word that is written as this text. `None`: no word is.
+    fn read(text: &[u8]) -> Option<Word>
         ensures { MatchOption result ((word : Word) → name_of word ≡ text.now → ⊥) (λ word. name_of word ≡ text.now) }
     {
         if Word::Delay.is_named(text) {
@@ -139,16 +139,16 @@ impl Word {
     }
 }
 
-// What a line says: a word, how often it applies, and among which numbers it draws.
+// What a line says: a word, how often it applies, and from which range it draws a number.
 #[derive(Clone, Copy)]
-pub(crate) struct Saying {
+pub(crate) struct Rule {
     pub(crate) word: Word,
     pub(crate) chance: Chance,
 }
 
-/// What is wrong with a line.
+/// What is wrong with a line of the text.
 #[derive(Clone, Copy, Debug, PartialEq, Eq)]
-pub enum Ill {
+pub enum RuleFault {
     /// Its first word is no word of the text.
     NoWord,
     /// What follows this word hasn't the form or the range that it takes.
@@ -157,7 +157,7 @@ pub enum Ill {
     Again(Word),
 }
 
-// Reads a time in milliseconds, or how many times. `None`: the word is no number up to `most`.
+// Reads a whole number of at most `most`. `None`: the word is no such number.
 fn read_number(word: &[u8], most: u64) -> Option<u32>
     requires { most < 4294967296 }
     ensures { MatchOption result ((n : ℕ) → IsNumber word.now n most → ⊥) (λ n. IsNumber word.now n most) }
@@ -168,7 +168,7 @@ fn read_number(word: &[u8], most: u64) -> Option<u32>
     }
 }
 
-// Reads `P`. `None`: the text has another form.
+// Reads `P`: a percentage, with no number to draw. `None`: the text has another form.
 fn read_percentage(text: &[u8]) -> Option<Chance>
     ensures { MatchOption result ((chance : Chance) → IsPercentage text.now chance → ⊥) (λ chance. IsPercentage text.now chance) }
 {
@@ -185,7 +185,7 @@ fn read_percentage(text: &[u8]) -> Option<Chance>
     })
 }
 
-// Reads `P MS`. `None`: the text has another form.
+// Reads `P MS`: a percentage and a time in milliseconds, which is the only number to draw. `None`: the text has another form.
 fn read_lasting(text: &[u8]) -> Option<Chance>
     ensures { MatchOption result ((chance : Chance) → IsLasting text.now chance → ⊥) (λ chance. IsLasting text.now chance) }
 {
@@ -206,7 +206,8 @@ fn read_lasting(text: &[u8]) -> Option<Chance>
     })
 }
 
-// Reads `FROM TO`. `None`: the text has another form, or FROM is above TO.
+// Reads `FROM TO`: the range of times, in milliseconds, to draw from for each line. `None`: the text has another form, or FROM is above
+// TO.
 fn read_span(text: &[u8]) -> Option<Chance>
     ensures { MatchOption result ((chance : Chance) → IsSpan text.now chance → ⊥) (λ chance. IsSpan text.now chance) }
 {
@@ -230,7 +231,7 @@ fn read_span(text: &[u8]) -> Option<Chance>
     })
 }
 
-// Reads `N`. `None`: the text has another form.
+// Reads `N`: how many times, which is the only number to draw. `None`: the text has another form.
 fn read_times(text: &[u8]) -> Option<Chance>
     ensures { MatchOption result ((chance : Chance) → AreTimes text.now chance → ⊥) (λ chance. AreTimes text.now chance) }
 {
@@ -259,16 +260,16 @@ fn read_chance(shape: Shape, text: &[u8]) -> Option<Chance>
     }
 }
 
-// Reads what a line says that has a word. `Err`: what is wrong with it, which isn't `Again`.
-pub(crate) fn read_saying(text: &[u8]) -> Result<Saying, Ill>
-    ensures found { IfOk result (λ saying. IsSaid text.now saying) }
-    ensures fault { IfErr result (λ ill. IsIllSaid text.now ill) }
+// Reads the rule of a line that isn't blank, without its comment. `Err`: what is wrong with it: `NoWord` or `Form`, never `Again`.
+pub(crate) fn read_rule(text: &[u8]) -> Result<Rule, RuleFault>
+    ensures found { IfOk result (λ rule. IsRule text.now rule) }
+    ensures fault { IfErr result (λ fault. IsNoRule text.now fault) }
 {
-    let Some(word) = Word::of(first_word(text)) else {
-        return Err(Ill::NoWord);
+    let Some(word) = Word::read(first_word(text)) else {
+        return Err(RuleFault::NoWord);
     };
     match read_chance(word.shape(), other_words(text)) {
-        Some(chance) => Ok(Saying { word, chance }),
-        None => Err(Ill::Form(word)),
+        Some(chance) => Ok(Rule { word, chance }),
+        None => Err(RuleFault::Form(word)),
     }
 }

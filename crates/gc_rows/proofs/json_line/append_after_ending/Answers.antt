@@ -2,7 +2,7 @@ use Rattle.std.proofs.Common.{◌≡◌, ◌++◌, ap, sym, rules, append_assoc,
 use Rattle.std.proofs.lemmas.Grind.{flat_map-append}
 use Rattle.gc_texts.specs.Endings.{ending_seen}
 use Rattle.gc_rows.specs.JsonLines.{member_text, members_text, quantity_members, last_members}
-use Rattle.gc_rows.proofs.json_line.append_more.Goals as goal
+use Rattle.gc_rows.proofs.json_line.append_after_ending.Goals as goal
 
 pub returns-clause-text : goal.returns-clause-text
 returns-clause-text g c =

@@ -3,7 +3,7 @@ use Rattle.std.specs.Prelude.{codes}
 use Rattle.gc_rows.specs.JsonLines.{number_member, text_member, without_zeros}
 use Rattle.gc_rows.specs.Rows.{com_of, code_of, values_of}
 use Rattle.gc_rows.proofs.JsonLines.{three_members}
-use Rattle.gc_rows.proofs.json_line.append_texts.Goals as goal
+use Rattle.gc_rows.proofs.json_line.append_reply_texts.Goals as goal
 
 pub returns-clause-text : goal.returns-clause-text
 returns-clause-text g c =

@@ -1,19 +1,19 @@
-//! What is printed of a faulty line.
+//! What is printed about a faulty line.
 
-use crate::saying::{Ill, Word};
+use crate::rule::{RuleFault, Word};
 use std::io::{self, Write};
 
-impl Ill {
-    /// Writes what is wrong with a line, and a line feed: which words there are, what has to follow the line's word, or that an earlier
-    /// line has the word.
+impl RuleFault {
+    /// Writes what is wrong with a line, and a line feed: the list of the words, what has to follow the line's word, or that an earlier
+    /// line has that word.
     pub fn tell<E: Write>(self, messages: &mut E) -> io::Result<()> {
         match self {
-            Ill::NoWord => writeln!(
+            RuleFault::NoWord => writeln!(
                 messages,
                 "a word is delay, lose, repeat, hold, close, refuse, restart or kill"
             ),
-            Ill::Again(_) => writeln!(messages, "an earlier line has this word"),
-            Ill::Form(word) => tell_form(word, messages),
+            RuleFault::Again(_) => writeln!(messages, "an earlier line has this word"),
+            RuleFault::Form(word) => tell_form(word, messages),
         }
     }
 }

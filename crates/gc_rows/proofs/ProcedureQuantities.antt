@@ -13,7 +13,7 @@ use Rattle.gc_texts.specs.Endings.{End, Answered}
 use Rattle.gc_rows.specs.Quantities.{column_of, column_of_long, quantity_names, quantity_text}
 use Rattle.gc_rows.specs.Records.{names, last_names}
 use Rattle.gc_rows.specs.Rows.{spread, answer_columns, quantity_fields, last_fields, row_fields}
-use Rattle.gc_rows.specs.Told.{QuantitiesHaveTheirNames, RowsFillTheirColumns}
+use Rattle.gc_rows.specs.ProcedureQuantities.{QuantitiesHaveTheirNames, RowsFillTheirColumns}
 use Rattle.gc_texts.specs.declared.wish.Wish.{Wish}
 use Rattle.gc_rows.specs.declared.when.When.{When}
 

@@ -1,16 +1,16 @@
--- What a line of a bad line's text says: this project's own.
+-- The rule that a line of a text says: this project's own.
 use Rattle.std.specs.Prelude.{◌≡◌, ℕ, ◌≤◌, List, codes}
 use Rattle.gc_texts.specs.Procedures.{IsNumber}
 use Rattle.gc_fates.specs.Shares.{IsShare}
 use Rattle.gc_fates.specs.Spaced.{first_word, other_words, IsBlank}
 use Rattle.gc_fates.specs.declared.chance.Chance.{Chance}
-use Rattle.gc_fates.specs.declared.saying.Ill.{Ill}
-use Rattle.gc_fates.specs.declared.saying.Ill.TheVariants.{NoWord, Form, Again}
-use Rattle.gc_fates.specs.declared.saying.Saying.{Saying}
-use Rattle.gc_fates.specs.declared.saying.Shape.{Shape}
-use Rattle.gc_fates.specs.declared.saying.Shape.TheVariants.{Share, Lasting, Span, Times}
-use Rattle.gc_fates.specs.declared.saying.Word.{Word}
-use Rattle.gc_fates.specs.declared.saying.Word.TheVariants.{Delay, Lose, Repeat, Hold, Close, Refuse, Restart, Kill}
+use Rattle.gc_fates.specs.declared.rule.RuleFault.{RuleFault}
+use Rattle.gc_fates.specs.declared.rule.RuleFault.TheVariants.{NoWord, Form, Again}
+use Rattle.gc_fates.specs.declared.rule.Rule.{Rule}
+use Rattle.gc_fates.specs.declared.rule.Shape.{Shape}
+use Rattle.gc_fates.specs.declared.rule.Shape.TheVariants.{Share, Lasting, Span, Times}
+use Rattle.gc_fates.specs.declared.rule.Word.{Word}
+use Rattle.gc_fates.specs.declared.rule.Word.TheVariants.{Delay, Lose, Repeat, Hold, Close, Refuse, Restart, Kill}
 
 -- a word as it is written
 abbrev pub name_of : Word → List ℕ
@@ -23,7 +23,7 @@ name_of Refuse = codes "refuse"
 name_of Restart = codes "restart"
 name_of Kill = codes "kill"
 
--- the shape of what follows a word
+-- the form of what follows a word
 abbrev pub shape_of : Word → Shape
 shape_of Delay = Span
 shape_of Lose = Share
@@ -45,21 +45,21 @@ place_of Refuse = 5
 place_of Restart = 6
 place_of Kill = 7
 
--- `P`: a percentage, and no number is drawn
+-- `P`: a percentage; no number is drawn
 pub record IsPercentage (text : List ℕ) (chance : Chance) : Type 0 where
   pub share : IsShare (first_word text) chance.share
   pub least : chance.least ≡ 0
   pub most : chance.most ≡ 0
   pub nothing_more : IsBlank (other_words text)
 
--- `P MS`: a percentage, and a time of at most a day
+-- `P MS`: a percentage, and a time of at most a day, which is the only number to draw
 pub record IsLasting (text : List ℕ) (chance : Chance) : Type 0 where
   pub share : IsShare (first_word text) chance.share
   pub millis : IsNumber (first_word (other_words text)) chance.least 86400000
   pub same : chance.most ≡ chance.least
   pub nothing_more : IsBlank (other_words (other_words text))
 
--- `FROM TO`: two times of at most a day, the first at most the second; it applies to each line
+-- `FROM TO`: the range of times to draw from, each at most a day, the first at most the second; it applies to each line
 pub record IsSpan (text : List ℕ) (chance : Chance) : Type 0 where
   pub always : chance.share ≡ 100000
   pub least : IsNumber (first_word text) chance.least 86400000
@@ -67,27 +67,27 @@ pub record IsSpan (text : List ℕ) (chance : Chance) : Type 0 where
   pub ordered : chance.least ≤ chance.most
   pub nothing_more : IsBlank (other_words (other_words text))
 
--- `N`: how many times, at most 1000
+-- `N`: how many times, at most 1000, which is the only number to draw
 pub record AreTimes (text : List ℕ) (chance : Chance) : Type 0 where
   pub always : chance.share ≡ 100000
   pub times : IsNumber (first_word text) chance.least 1000
   pub same : chance.most ≡ chance.least
   pub nothing_more : IsBlank (other_words text)
 
--- the text that follows a word of this shape says this
+-- the text has this shape, and gives this chance
 abbrev pub IsChance : Shape → List ℕ → Chance → Type 0
 IsChance Share text chance = IsPercentage text chance
 IsChance Lasting text chance = IsLasting text chance
 IsChance Span text chance = IsSpan text chance
 IsChance Times text chance = AreTimes text chance
 
--- the text says this: a word, and what follows it
-pub record IsSaid (text : List ℕ) (saying : Saying) : Type 0 where
-  pub word : name_of saying.word ≡ first_word text
-  pub chance : IsChance (shape_of saying.word) (other_words text) saying.chance
+-- the text is this rule: a word, and the chance after it
+pub record IsRule (text : List ℕ) (rule : Rule) : Type 0 where
+  pub word : name_of rule.word ≡ first_word text
+  pub chance : IsChance (shape_of rule.word) (other_words text) rule.chance
 
--- why a text says nothing: its first word is none of the words, or what follows the word hasn't its form
-abbrev pub IsIllSaid : List ℕ → Ill → Type 0
-IsIllSaid text NoWord = (word : Word) → name_of word ≡ first_word text → ⊥
-IsIllSaid text (Form word) = (name_of word ≡ first_word text) × ((chance : Chance) → IsChance (shape_of word) (other_words text) chance → ⊥)
-IsIllSaid text (Again word) = ⊥
+-- why a text is no rule: its first word is none of the words, or what follows the word hasn't the word's form
+abbrev pub IsNoRule : List ℕ → RuleFault → Type 0
+IsNoRule text NoWord = (word : Word) → name_of word ≡ first_word text → ⊥
+IsNoRule text (Form word) = (name_of word ≡ first_word text) × ((chance : Chance) → IsChance (shape_of word) (other_words text) chance → ⊥)
+IsNoRule text (Again word) = ⊥

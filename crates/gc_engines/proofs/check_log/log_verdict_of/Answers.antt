@@ -1,13 +1,13 @@
 use Rattle.std.proofs.Common.{◌≡◌, ◌≤◌, List, ℕ, length, subst, sym, ◌∙◌}
 use Rattle.gc_texts.specs.Logs.{IsLogLine}
 use Rattle.gc_engines.specs.LogChecking.{reads}
-use Rattle.gc_engines.proofs.check_log.said_of.Goals as goal
+use Rattle.gc_engines.proofs.check_log.log_verdict_of.Goals as goal
 
 pub returns-in-Some : goal.returns-in-Some
 returns-in-Some c = λ rest keeps.
     let whole : rest ≡ c.args.kept.now.bytes.items = keeps.whole c.if-kept.false in
     let same : c.deref.result.now ≡ rest = c.deref.ensures.0 ∙ sym whole in
     let read = subst (λ (l : List ℕ). IsLogLine l c.in-Some.line.moment.now c.in-Some.line.mark c.in-Some.line.bytes.items) same c.in-Some.ensures in
-    let said = c.log_line_verdict.ensures.said in
-    reads c.in-Some.line.moment.now said.0 c.in-Some.line.bytes.items c.in-Some.line.mark
-    (subst (λ (l : List ℕ). length l ≤ 2100) same c.deref.ensures.1) c.log_line_verdict.ensures.room read said.1 said.2
+    let verdict = c.log_line_verdict.ensures.verdict in
+    reads c.in-Some.line.moment.now verdict.0 c.in-Some.line.bytes.items c.in-Some.line.mark
+    (subst (λ (l : List ℕ). length l ≤ 2100) same c.deref.ensures.1) c.log_line_verdict.ensures.room read verdict.1 verdict.2

@@ -3,8 +3,8 @@ use Rattle.std.specs.Fmt.{decimal}
 use Rattle.std.specs.Prelude.{codes}
 use Rattle.gc_rows.specs.JsonLines.{number_member, members_text, name_members}
 use Rattle.gc_rows.specs.Rows.{procedure_of}
-use Rattle.gc_rows.proofs.JsonLines.{what_text}
-use Rattle.gc_rows.proofs.json_line.append_what.Goals as goal
+use Rattle.gc_rows.proofs.JsonLines.{command_text}
+use Rattle.gc_rows.proofs.json_line.append_command.Goals as goal
 
 pub returns-clause-text : goal.returns-clause-text
 returns-clause-text g c =
@@ -16,4 +16,4 @@ returns-clause-text g c =
     let first : c.append_number.new.line.items ≡ old ++ number_member (codes "target") target = search rules in
     let last : c.append_number-2.new.line.items ≡ c.append_target_name.new.line.items ++ number_member (codes "procedure") procedure = search rules in
     last ∙ ap (λ l. l ++ number_member (codes "procedure") procedure) (c.append_target_name.ensures.text ∙ ap (λ l. l ++ members_text name) first)
-    ∙ what_text old target procedure name
+    ∙ command_text old target procedure name

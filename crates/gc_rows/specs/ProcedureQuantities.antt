@@ -13,45 +13,45 @@ use Rattle.gc_rows.specs.Rows.{row_fields}
 use Rattle.gc_texts.specs.declared.wish.Wish.{Wish}
 use Rattle.gc_rows.specs.declared.when.When.{When}
 
--- the angles that an instrument measures
+-- the names of the two measured angles
 abbrev pub angles : List (List ℕ)
 angles = codes "hz_rad" ∷ codes "v_rad" ∷ []
 
--- the angles, and after them the slope distance
+-- the names of the two measured angles and the slope distance
 abbrev pub measured : List (List ℕ)
 measured = angles ++ codes "distance_m" ∷ []
 
--- a version's three numbers
+-- the names of a version's three numbers
 abbrev pub versions : List (List ℕ)
 versions = codes "release" ∷ codes "version" ∷ codes "subversion" ∷ []
 
--- the names of the quantities that the procedure with this number returns, in their order on the line; none if it isn't among
--- these
-abbrev pub quantities_told : ℕ → List (List ℕ)
-quantities_told rpc =
+-- the names of the quantities that the procedure with this number returns, in their order on the line; none for a number that
+-- isn't listed here
+abbrev pub quantities_returned : ℕ → List (List ℕ)
+quantities_returned rpc =
     -- COM_GetDoublePrecision
     if rpc == 108 then codes "places" ∷ []
     -- COM_GetSWVersion, CSV_GetSWVersion
-    else (if (rpc == 110) || (rpc == 5034) then versions
+    else if (rpc == 110) || (rpc == 5034) then versions
     -- CSV_GetInstrumentNo, CSV_GetInstrumentName
-    else (if rpc == 5003 then codes "serial" ∷ []
-    else (if rpc == 5004 then codes "instrument" ∷ []
+    else if rpc == 5003 then codes "serial" ∷ []
+    else if rpc == 5004 then codes "instrument" ∷ []
     -- CSV_GetDateTime
-    else (if rpc == 5008 then codes "year" ∷ codes "month" ∷ codes "day" ∷ codes "hour" ∷ codes "minute" ∷ codes "second" ∷ []
+    else if rpc == 5008 then codes "year" ∷ codes "month" ∷ codes "day" ∷ codes "hour" ∷ codes "minute" ∷ codes "second" ∷ []
     -- CSV_GetIntTemp
-    else (if rpc == 5011 then codes "temperature_c" ∷ []
+    else if rpc == 5011 then codes "temperature_c" ∷ []
     -- TMC_GetStation, TMC_GetHeight, TMC_GetFace
-    else (if rpc == 2009 then codes "easting_m" ∷ codes "northing_m" ∷ codes "height_m" ∷ codes "instrument_height_m" ∷ []
-    else (if rpc == 2011 then codes "reflector_height_m" ∷ []
-    else (if rpc == 2026 then codes "face" ∷ []
+    else if rpc == 2009 then codes "easting_m" ∷ codes "northing_m" ∷ codes "height_m" ∷ codes "instrument_height_m" ∷ []
+    else if rpc == 2011 then codes "reflector_height_m" ∷ []
+    else if rpc == 2026 then codes "face" ∷ []
     -- TMC_GetAngle
-    else (if rpc == 2107 then angles
+    else if rpc == 2107 then angles
     -- TMC_GetSimpleMea, TMC_QuickDist
-    else (if (rpc == 2108) || (rpc == 2117) then measured
+    else if (rpc == 2108) || (rpc == 2117) then measured
     -- BAP_GetPrismType, BAP_MeasDistanceAngle
-    else (if rpc == 17009 then codes "prism_type" ∷ []
-    else (if rpc == 17017 then measured ++ codes "mode" ∷ []
-    else []))))))))))))
+    else if rpc == 17009 then codes "prism_type" ∷ []
+    else if rpc == 17017 then measured ++ codes "mode" ∷ []
+    else []
 
 -- the names of the columns from number `column` on, one for each of these values
 abbrev pub names_from : ℕ → List Value → List (List ℕ)
@@ -61,7 +61,7 @@ names_from column (v ∷ vs) = quantity_name column ∷ names_from (column + 1) 
 -- the values of an answer are under the names of the quantities that its procedure returns, in that order
 abbrev pub QuantitiesHaveTheirNames : Type 0
 QuantitiesHaveTheirNames =
-    (call : Call) (answer : Answer) → IsAnswerOf call answer → names_from (column_of call answer) (answer_fields answer).values ≡ quantities_told (call_fields call).number
+    (call : Call) (answer : Answer) → IsAnswerOf call answer → names_from (column_of call answer) (answer_fields answer).values ≡ quantities_returned (call_fields call).number
 
 -- however a command ended, its row has a field for each name of the header, and no other
 pub record RowsFillTheirColumns : Type 0 where

@@ -1,0 +1,162 @@
+-- The verdicts on the lines of a log, written piece by piece. `rest` is the bytes since the last line feed, and `p` and `q` are pieces
+-- that come behind it. `WritesVerdicts`: the verdicts on the lines that end in a piece went out. `WritesVerdictsInPart`: only a front
+-- of them did. `KeepsLine`: what is kept of the bytes since the last line feed.
+use Rattle.std.proofs.Common.{◌≡◌, ℕ, ◌+◌, ◌*◌, ◌<◌, ◌≤◌, get_or, Bool, true, false, cond, List, [], ◌∷◌, ◌++◌, length, take, drop, Option, refl, sym, ap, subst, ◌∙◌, arith, append_assoc, append-nil, length-append}
+use Rattle.std.specs.Io.KnownBytes.{Appends, Consumes}
+use Rattle.std.proofs.lemmas.List.{take_more, take-append-drop}
+use Rattle.gc_lines.specs.Answering.{all_of}
+use Rattle.gc_lines.specs.Frames.{is_line_feed, pieces_behind, rest_behind}
+use Rattle.gc_lines.specs.Ports.{TakesFront}
+use Rattle.gc_lines.proofs.Cutting.{pieces-append, rest-append}
+use Rattle.gc_lines.proofs.InOrder.{all_of-append}
+use Rattle.gc_lines.proofs.Known.{Appends-append, Appends-is, Consumes-append}
+use Rattle.gc_engines.specs.LogChecking.{IsLogVerdict, AreLogVerdicts, KeepsLine, WritesVerdicts, WritesVerdictsInPart}
+use Rattle.gc_engines.specs.declared.check_log.PartialLine.{PartialLine}
+
+-- where the texts `ts` are the verdicts on the lines `ls`, and `us` those on `ms`, `ts ++ us` are those on `ls ++ ms`
+log_verdicts_append : (ls ms ts us : List (List ℕ)) → AreLogVerdicts ls ts → AreLogVerdicts ms us → AreLogVerdicts (ls ++ ms) (ts ++ us)
+log_verdicts_append [] ms [] us h k = k
+log_verdicts_append [] ms (t ∷ ts) us h k = absurd h
+log_verdicts_append (l ∷ ls) ms [] us h k = absurd h
+log_verdicts_append (l ∷ ls) ms (t ∷ ts) us h k = (h.0, log_verdicts_append ls ms ts us h.1 k)
+
+-- where `WritesVerdicts` is true of p, and then of q behind it, it is true of `p ++ q`
+pub verdicts_then : (rest p q : List ℕ) (a b c : Option (List ℕ)) (n m k : ℕ) → WritesVerdicts rest p a b n m → WritesVerdicts (rest_behind rest p) q b c m k → WritesVerdicts rest (p ++ q) a c n k
+verdicts_then rest p q a b c n m k one next = record {
+  texts = one.texts ++ next.texts;
+  are = subst (λ ls. AreLogVerdicts ls (one.texts ++ next.texts)) (sym (pieces-append rest p q)) (log_verdicts_append _ _ _ _ one.are next.are);
+  took = Appends-is a c (all_of one.texts ++ all_of next.texts) (all_of (one.texts ++ next.texts)) (sym (all_of-append one.texts next.texts)) (Appends-append a b c _ _ one.took next.took);
+  counts = omega (arith, one.counts, next.counts, length-append one.texts next.texts);
+}
+
+-- where `WritesVerdicts` is true of p, and then `WritesVerdictsInPart` of q behind it, `WritesVerdictsInPart` is true of `p ++ q`
+pub part_then : (rest p q : List ℕ) (a b c : Option (List ℕ)) (n m k bytes : ℕ) → WritesVerdicts rest p a b n m
+    → WritesVerdictsInPart (rest_behind rest p) q b c m k bytes → WritesVerdictsInPart rest (p ++ q) a c n k bytes
+part_then rest p q a b c n m k bytes one next = record {
+  seen = pieces_behind rest p ++ next.seen;
+  later = next.later;
+  order = pieces-append rest p q ∙ ap (λ ls. pieces_behind rest p ++ ls) next.order ∙ sym (append_assoc (pieces_behind rest p) next.seen next.later);
+  whole = one.texts ++ next.whole;
+  line = next.line;
+  are = subst (AreLogVerdicts (pieces_behind rest p ++ next.seen)) (sym (append_assoc one.texts next.whole (next.line ∷ []))) (log_verdicts_append _ _ _ _ one.are next.are);
+  counts = omega (arith, one.counts, next.counts, length-append one.texts next.whole);
+  not_all = next.not_all;
+  took = Appends-is a c _ _
+      (sym (append_assoc (all_of one.texts) (all_of next.whole) (take bytes next.line))
+      ∙ ap (λ l. l ++ take bytes next.line) (sym (all_of-append one.texts next.whole))) (Appends-append a b c _ _ one.took next.took);
+}
+
+-- where `WritesVerdictsInPart` is true of p, it is true of `p ++ q`: what comes after a failed write changes nothing
+pub part_before : (rest p q : List ℕ) (a b : Option (List ℕ)) (n k bytes : ℕ) → WritesVerdictsInPart rest p a b n k bytes → WritesVerdictsInPart rest (p ++ q) a b n k bytes
+part_before rest p q a b n k bytes one = record {
+  seen = one.seen;
+  later = one.later ++ pieces_behind (rest_behind rest p) q;
+  order = pieces-append rest p q ∙ ap (λ ls. ls ++ pieces_behind (rest_behind rest p) q) one.order ∙ append_assoc one.seen one.later _;
+  whole = one.whole;
+  line = one.line;
+  are = one.are;
+  counts = one.counts;
+  not_all = one.not_all;
+  took = one.took;
+}
+
+-- a line feed ends the line that came so far, and leaves nothing
+pieces_one : (rest : List ℕ) (b : ℕ) (feed : Bool) → feed ≡ true → (cond feed (rest ∷ []) [] ≡ rest ∷ []) × (cond feed [] (rest ++ b ∷ []) ≡ [])
+pieces_one rest b true feeds = (refl, refl)
+pieces_one rest b false feeds = let bad : false ≡ true = feeds in cc
+
+-- where a line feed came, and the verdict on the line that it ends went out, `WritesVerdicts` is true of this one byte, and nothing
+-- is kept of the next line
+pub byte_verdict : (rest : List ℕ) (b : ℕ) (a c : Option (List ℕ)) (n m : ℕ) (kept : PartialLine) (text : List ℕ) → is_line_feed b ≡ true → KeepsLine kept []
+    → IsLogVerdict rest text → Appends a c text → m ≡ n + 1
+    → KeepsLine kept (rest_behind rest (b ∷ [])) × WritesVerdicts rest (b ∷ []) a c n m
+byte_verdict rest b a c n m kept text feeds keeps verdict took more =
+    let both = pieces_one rest b (is_line_feed b) feeds in (
+      subst (KeepsLine kept) (sym both.1) keeps,
+      record {
+        texts = text ∷ [];
+        are = subst (λ ls. AreLogVerdicts ls (text ∷ [])) (sym both.0) (verdict, tt);
+        took = Appends-is a c text _ (sym (append-nil text)) took;
+        counts = omega (arith, more);
+      },
+    )
+
+-- where a line feed came, and only a front of the verdict on the line that it ends went out, `WritesVerdictsInPart` is true of this
+-- one byte
+pub byte_part : (rest : List ℕ) (b : ℕ) (a c : Option (List ℕ)) (n bytes : ℕ) (text : List ℕ) → is_line_feed b ≡ true → IsLogVerdict rest text
+    → TakesFront a c bytes text → WritesVerdictsInPart rest (b ∷ []) a c n n bytes
+byte_part rest b a c n bytes text feeds verdict took = record {
+  seen = rest ∷ [];
+  later = [];
+  order = (pieces_one rest b (is_line_feed b) feeds).0;
+  whole = [];
+  line = text;
+  are = (verdict, tt);
+  counts = omega arith;
+  not_all = took.0;
+  took = took.1;
+}
+
+-- the first i + 1 bytes of a piece are the first i and the next, and behind them stands the rest
+pub piece_more : (bs : List ℕ) (i : ℕ) → i < length bs → (take (i + 1) bs ≡ take i bs ++ get_or bs i 0 ∷ []) × (bs ≡ (take i bs ++ get_or bs i 0 ∷ []) ++ drop (i + 1) bs)
+piece_more bs i within =
+    let more = take_more bs i 0 within in
+    (more, sym (take-append-drop (i + 1) bs) ∙ ap (λ l. l ++ drop (i + 1) bs) more)
+
+-- one turn of the loop over the bytes `bs` of a piece, at byte i: `kept` is what is kept of the incomplete line before it, and
+-- `next` after it
+module _ (kept next : PartialLine) (rest bs : List ℕ) (i : ℕ) (within : i < length bs) (a b c : Option (List ℕ)) (n m k : ℕ) where
+  -- where `WritesVerdicts` is true of the first i bytes of a piece, and of the next byte, it is true of the first i + 1
+  pub loop_on : KeepsLine kept (rest_behind rest (take i bs)) × WritesVerdicts rest (take i bs) a b n m
+      → ((r : List ℕ) → KeepsLine kept r → KeepsLine next (rest_behind r (get_or bs i 0 ∷ [])) × WritesVerdicts r (get_or bs i 0 ∷ []) b c m k)
+      → KeepsLine next (rest_behind rest (take (i + 1) bs)) × WritesVerdicts rest (take (i + 1) bs) a c n k
+  loop_on so byte =
+      let it = byte (rest_behind rest (take i bs)) so.0 in
+      let more = (piece_more bs i within).0 in (
+        subst (λ l. KeepsLine next l) (sym (ap (rest_behind rest) more ∙ rest-append rest (take i bs) (get_or bs i 0 ∷ []))) it.0,
+        subst (λ l. WritesVerdicts rest l a c n k) (sym more) (verdicts_then rest (take i bs) (get_or bs i 0 ∷ []) a b c n m k so.1 it.1),
+      )
+
+  -- where `WritesVerdicts` is true of the first i bytes of a piece, and the sink failed at the next byte, `WritesVerdictsInPart` is
+  -- true of the piece
+  pub loop_fails : (bytes : ℕ) → KeepsLine kept (rest_behind rest (take i bs)) × WritesVerdicts rest (take i bs) a b n m
+      → ((r : List ℕ) → KeepsLine kept r → WritesVerdictsInPart r (get_or bs i 0 ∷ []) b c m k bytes) → WritesVerdictsInPart rest bs a c n k bytes
+  loop_fails bytes so byte =
+      subst (λ l. WritesVerdictsInPart rest l a c n k bytes) (sym (piece_more bs i within).1)
+      (part_before rest (take i bs ++ get_or bs i 0 ∷ []) (drop (i + 1) bs) a c n k bytes
+      (part_then rest (take i bs) (get_or bs i 0 ∷ []) a b c n m k bytes so.1 (byte (rest_behind rest (take i bs)) so.0)))
+
+-- how far a check has come, by the bytes that were given so far: `kept` is what is kept of the incomplete line, and the verdicts on
+-- the `count` whole lines went out
+pub record VerdictsSoFar (source_old source_new sink_old sink_new : Option (List ℕ)) (kept : PartialLine) (reads count : ℕ) : Type 0 where
+  pub given : List ℕ
+  pub gave : Consumes source_old source_new given
+  pub few : length given ≤ 256 * reads
+  pub keeps : KeepsLine kept (rest_behind [] given)
+  pub written : WritesVerdicts [] given sink_old sink_new 0 count
+
+-- one more read of a check: the source gave `piece` (`a'` and `a''` are what it had before and then), and the sink had taken
+-- `b'`
+module _ (a a' a'' b b' b'' : Option (List ℕ)) (kept next : PartialLine) (reads n m : ℕ) (piece : List ℕ) (so : VerdictsSoFar a a' b b' kept reads n) (gave : Consumes a' a'' piece) where
+  -- `VerdictsSoFar` stays true when one more piece was read and the verdicts on its lines went out
+  pub so_far_more : length piece ≤ 256 → ((r : List ℕ) → KeepsLine kept r → KeepsLine next (rest_behind r piece) × WritesVerdicts r piece b' b'' n m) → VerdictsSoFar a a'' b b'' next (reads + 1) m
+  so_far_more short piece_written =
+      let it = piece_written (rest_behind [] so.given) so.keeps in
+      record {
+        given = so.given ++ piece;
+        gave = Consumes-append a a' a'' so.given piece so.gave gave;
+        few = omega (arith, so.few, short, length-append so.given piece);
+        keeps = subst (λ l. KeepsLine next l) (sym (rest-append [] so.given piece)) it.0;
+        written = verdicts_then [] so.given piece b b' b'' 0 n m so.written it.1;
+      }
+
+  -- one more piece was read, and the sink failed: it took a part of the verdicts on the lines of all bytes so far
+  pub so_far_part : (bytes : ℕ) → length piece ≤ 256 → ((r : List ℕ) → KeepsLine kept r → WritesVerdictsInPart r piece b' b'' n m bytes)
+      → (given : List ℕ) × Consumes a a'' given × (length given ≤ 256 * (reads + 1)) × WritesVerdictsInPart [] given b b'' 0 m bytes
+  so_far_part bytes short piece_written =
+      let it = piece_written (rest_behind [] so.given) so.keeps in (
+        so.given ++ piece,
+        Consumes-append a a' a'' so.given piece so.gave gave,
+        omega (arith, so.few, short, length-append so.given piece),
+        part_then [] so.given piece b b' b'' 0 n m bytes so.written it,
+      )

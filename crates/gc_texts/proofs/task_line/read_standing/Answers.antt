@@ -1,5 +1,0 @@
-use Rattle.gc_texts.proofs.TaskForms.{stands_so}
-use Rattle.gc_texts.proofs.task_line.read_standing.Goals as goal
-
-pub returns-in-Some : goal.returns-in-Some
-returns-in-Some c = stands_so c.args.line.now c.in-Some.rest.now c.read_near.result c.in-Some.ensures c.read_near.ensures
