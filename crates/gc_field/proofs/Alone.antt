@@ -62,13 +62,13 @@ module _ (s : State) (line : List ℕ) where
   first_id (x ∷ rest) = x.line.id
 
   -- the line wasn't made on executing the second request
-  unmade : kept_line (kept_of s) (Some 1) ≡ Some line → WasMadeOn WINDOW ends s (two_at_once line) 1 (Table NullProc) line → ⊥
+  unmade : kept_line (kept_of s) (Some 1) ≡ Some line → WasMadeOn WINDOW ends (ids_open s) (two_at_once line) 1 (Table NullProc) line → ⊥
   unmade k h =
       let here = only h.front h.later h.split in
-      let reaches = subst (λ front. (wire_behind WINDOW ends s front).up ≡ record { number = 1; line = record { id = h.id; call = Table NullProc } } ∷ h.rest) here h.reaches in
+      let reaches = subst (λ front. (wire_behind WINDOW ends (ids_open s) front).up ≡ record { number = 1; line = record { id = h.id; call = Table NullProc } } ∷ h.rest) here h.reaches in
       let id : 1 ≡ h.id = ap first_id reaches in
       let executed : (ends.handed s h.id (Table NullProc)).executed ≡ true =
-      subst (λ front. (ends.handed (wire_behind WINDOW ends s front).state h.id (Table NullProc)).executed ≡ true) here h.executed in
+      subst (λ front. (ends.handed (wire_behind WINDOW ends (ids_open s) front).state h.id (Table NullProc)).executed ≡ true) here h.executed in
       let never : false ≡ true =
       sym (ap (λ (h : Handed State). h.executed) (handed_is k)) ∙ subst (λ i. (ends.handed s i (Table NullProc)).executed ≡ true) (sym id) executed in
       cc

@@ -32,24 +32,16 @@ among_late [] ps n x got late = absurd (none_lost x (λ e. let other : Lost ≡ 
 -- where `a` is what request n asks for, there is a request n that asks for it
 pub asked_at : (rs : List Sent) (n : ℕ) (a : Wanted Asked) → slice_get (map asked rs) n ≡ Some a → (r : Sent) × (slice_get rs n ≡ Some r) × (asked r ≡ a)
 asked_at [] n a e = cc
-asked_at (r ∷ rs) zero a e = (r, refl, same (asked r) a e) where
-  same : (x y : Wanted Asked) → Some x ≡ Some y → x ≡ y
-  same x y e = cc
+asked_at (r ∷ rs) zero a e = (r, refl, some_is (asked r) a e)
 asked_at (r ∷ rs) (suc n) a e = asked_at rs n a e
 
--- an element that is at place n after the first k is at place k + n of the whole list
-pub get_behind : {A : Type 0} (k n j : ℕ) (xs : List A) (x : A) → j ≡ k + n → slice_get (drop k xs) n ≡ Some x → slice_get xs j ≡ Some x
-get_behind zero n j xs x e got = let same : n ≡ j = omega (arith, e) in subst (λ i. slice_get xs i ≡ Some x) same got
-get_behind (suc k) n j [] x e got = absurd (none_is_not x got)
-get_behind (suc k) n zero (y ∷ xs) x e got = absurd (omega (arith, e))
-get_behind (suc k) n (suc j) (y ∷ xs) x e got = get_behind k n j xs x (omega (arith, e)) got
+-- as `get_drop`, for a place j that equals k + n
+get_at_sum : {A : Type 0} (k n j : ℕ) (xs : List A) (x : A) → j ≡ k + n → slice_get (drop k xs) n ≡ Some x → slice_get xs j ≡ Some x
+get_at_sum zero n j xs x e got = let same : n ≡ j = omega (arith, e) in subst (λ i. slice_get xs i ≡ Some x) same got
+get_at_sum (suc k) n j [] x e got = absurd (none_is_not x got)
+get_at_sum (suc k) n zero (y ∷ xs) x e got = absurd (omega (arith, e))
+get_at_sum (suc k) n (suc j) (y ∷ xs) x e got = get_at_sum k n j xs x (omega (arith, e)) got
 
 -- an element that is at place n after the first k is at place k + n
 pub get_drop : {A : Type 0} (k n : ℕ) (xs : List A) (x : A) → slice_get (drop k xs) n ≡ Some x → slice_get xs (k + n) ≡ Some x
-get_drop k n xs x got = get_behind k n (k + n) xs x refl got
-
--- mapping and dropping the first k elements may be done in either order
-pub map_drop : {A B : Type 0} (f : A → B) (k : ℕ) (xs : List A) → map f (drop k xs) ≡ drop k (map f xs)
-map_drop f zero xs = refl
-map_drop f (suc k) [] = refl
-map_drop f (suc k) (x ∷ xs) = map_drop f k xs
+get_drop k n xs x got = get_at_sum k n (k + n) xs x refl got

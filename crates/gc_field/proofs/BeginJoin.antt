@@ -17,7 +17,7 @@ use Rattle.gc_world.specs.Order.{Each}
 use Rattle.gc_field.specs.World.{Ends, Request, without, doubled}
 use Rattle.gc_world.proofs.Options.{some_is, none_is_not}
 use Rattle.gc_world.proofs.Rows.{each_append, each_without, each_doubled}
-use Rattle.gc_field.specs.Begin.{Aged, AreLines, AreTurns, Model, Turn, Asks, Comes, Foreign, Reaches, Up_lose, Up_repeat, Down_lose, Down_repeat, Anew, Changes, UnderWay, begins, leaves, ids_under_way, asks, comes, reaches, turns, turned}
+use Rattle.gc_field.specs.Begin.{InFlight, IsWellFormed, AreTurns, Model, Turn, Asks, Comes, Foreign, Reaches, Up_lose, Up_repeat, Down_lose, Down_repeat, Anew, Changes, UnderWay, begins, leaves, ids_under_way, asks, comes, reaches, turns, turned}
 use Rattle.gc_field.specs.Begun.{HasBegunCleanly, eighth}
 use Rattle.gc_field.specs.Instrument.{IsAnInstrument}
 use Rattle.gc_field.proofs.BeginIds as ids
@@ -58,11 +58,11 @@ abbrev pub IsSmall : List ℕ → Type 0
 IsSmall word = Each (λ i. i < 8) word
 
 -- the id of a request in flight, and whether it is old
-abbrev mark_up : Aged Request → Sent
+abbrev mark_up : InFlight Request → Sent
 mark_up x = record { id = x.line.id; old = x.old }
 
 -- the id of a reply in flight, and whether it is old
-abbrev mark_down : Aged (List ℕ) → Sent
+abbrev mark_down : InFlight (List ℕ) → Sent
 mark_down x = record { id = id_or (rule.heard x.line); old = x.old }
 
 -- the ids of the word are below 8
@@ -93,7 +93,7 @@ none_left (asked ∷ rest) = refl
 -- One state shows another.
 
 -- a request's id is below 8, and if the request is of this synchronization, it is a null procedure
-abbrev IsKnown : Aged Request → Type 0
+abbrev IsKnown : InFlight Request → Type 0
 IsKnown x = (x.line.id < 8) × (x.old ≡ false → x.line.call ≡ (Table NullProc))
 
 module _ {State : Type 0} (ends : Ends State) (Good : State → Type 0) (kept : State → Option KeptReply) (is : IsAnInstrument ends Good kept) where
@@ -111,7 +111,7 @@ module _ {State : Type 0} (ends : Ends State) (Good : State → Type 0) (kept : 
   shows_asks : (s : Model State) (p : ids.Model) (left : List ℕ) → s.left ≡ left → Shows s p → Shows (asks s left) (ids.asks p left)
   shows_asks s p [] e g = g
   shows_asks s p (asked ∷ rest) e g =
-      let new : Aged Request = record { old = false; line = record { id = asked; call = Table NullProc } } in
+      let new : InFlight Request = record { old = false; line = record { id = asked; call = Table NullProc } } in
       record {
         up = ap (λ l. l ++ mark_up new ∷ []) g.up ∙ sym (map-append mark_up s.up (new ∷ []));
         down = g.down;
@@ -123,7 +123,7 @@ module _ {State : Type 0} (ends : Ends State) (Good : State → Type 0) (kept : 
       }
 
   -- `Shows` is preserved if a reply comes
-  shows_comes : (s : Model State) (p : ids.Model) (q : List (Aged (List ℕ))) → s.down ≡ q → Shows s p → Shows (comes s q) (ids.comes p (map mark_down q))
+  shows_comes : (s : Model State) (p : ids.Model) (q : List (InFlight (List ℕ))) → s.down ≡ q → Shows s p → Shows (comes s q) (ids.comes p (map mark_down q))
   shows_comes s p [] e g = g
   shows_comes s p (x ∷ rest) e g = record {
     up = g.up;
@@ -153,22 +153,23 @@ module _ {State : Type 0} (ends : Ends State) (Good : State → Type 0) (kept : 
   kept_behind k id line r (inr some) e = ap (λ (x : KeptReply). Some x.id) (some_is (record { id = id; line = line }) r (sym some ∙ e))
 
   -- a request that is no call of the table is old
-  old_raw : (x : Aged Request) → IsKnown x → is_of_table x.line.call ≡ false → x.old ≡ true
+  old_raw : (x : InFlight Request) → IsKnown x → is_of_table x.line.call ≡ false → x.old ≡ true
   old_raw x known raw = by_case x.old refl where
+    -- the lemma above, by whether the request is old (`b`)
     by_case : (b : Bool) → x.old ≡ b → b ≡ true
     by_case true e = refl
     by_case false e = absurd (true_is_not (sym (ap is_of_table (known.1 e)) ∙ raw))
 
   -- if a request reaches the instrument, and `p` shows it, the state of the ids that comes of it shows what the instrument
   -- makes of it
-  shows_reached : (s : Model State) (p q : ids.Model) (x : Aged Request) (rest : List (Aged Request)) → s.up ≡ x ∷ rest → Shows s p → q.up ≡ map mark_up rest
+  shows_reached : (s : Model State) (p q : ids.Model) (x : InFlight Request) (rest : List (InFlight Request)) → s.up ≡ x ∷ rest → Shows s p → q.up ≡ map mark_up rest
       → q.down ≡ p.down ++ mark_up x ∷ [] → q.left ≡ p.left
       → ((k : KeptReply) → kept (ends.handed s.state x.line.id x.line.call).state ≡ Some k → q.kept ≡ Some k.id) → Shows (reaches ends s (x ∷ rest)) q
   shows_reached s p q x rest e g up down left keeps =
       let known = subst (Each IsKnown) e g.known in
       let small : x.line.id < 8 = known.0.0 in
       let hd : Handed State = ends.handed s.state x.line.id x.line.call in
-      let reply : Aged (List ℕ) = record { old = x.old; line = hd.reply } in
+      let reply : InFlight (List ℕ) = record { old = x.old; line = hd.reply } in
       record {
         up = up;
         down =
@@ -183,7 +184,7 @@ module _ {State : Type 0} (ends : Ends State) (Good : State → Type 0) (kept : 
       }
 
   -- if a request reaches the instrument, it reaches it over ids, too; or it is left out there
-  shows_reaches : (s : Model State) (p : ids.Model) (q : List (Aged Request)) → s.up ≡ q → Shows s p
+  shows_reaches : (s : Model State) (p : ids.Model) (q : List (InFlight Request)) → s.up ≡ q → Shows s p
       → Shows (reaches ends s q) (ids.reaches p true (map mark_up q)) ⊎ Shows (reaches ends s q) (ids.passes p (map mark_up q))
   shows_reaches s p [] e g = inl g
   shows_reaches s p (x ∷ rest) e g =
@@ -196,11 +197,12 @@ module _ {State : Type 0} (ends : Ends State) (Good : State → Type 0) (kept : 
       ]
 
   -- `Shows` is preserved if the requests in flight change alike in both
-  shows_up : (s : Model State) (p : ids.Model) (up : List (Aged Request)) (ups : List Sent) → ups ≡ map mark_up up → Each IsKnown up → Shows s p → Shows (record s { up = up }) (record p { up = ups })
+  shows_up : (s : Model State) (p : ids.Model) (up : List (InFlight Request)) (ups : List Sent) → ups ≡ map mark_up up → Each IsKnown up → Shows s p
+      → Shows (record s { up = up }) (record p { up = ups })
   shows_up s p up ups e known g = record { up = e; down = g.down; left = g.left; keeps = g.keeps; good = g.good; known = known; small = g.small }
 
   -- `Shows` is preserved if the replies in flight change alike in both
-  shows_down : (s : Model State) (p : ids.Model) (down : List (Aged (List ℕ))) (downs : List Sent) → downs ≡ map mark_down down → Shows s p
+  shows_down : (s : Model State) (p : ids.Model) (down : List (InFlight (List ℕ))) (downs : List Sent) → downs ≡ map mark_down down → Shows s p
       → Shows (record s { down = down }) (record p { down = downs })
   shows_down s p down downs e g = record { up = g.up; down = e; left = g.left; keeps = g.keeps; good = g.good; known = g.known; small = g.small }
 
@@ -286,7 +288,7 @@ module _ {State : Type 0} (ends : Ends State) (Good : State → Type 0) (kept : 
   known_old (x ∷ xs) h = ((h.0, (λ o. absurd (true_is_not o))), known_old xs h.1)
 
   -- `Shows` holds at the start of a synchronization
-  shows_begins : (u : UnderWay State) → AreLines Good u → Shows (begins u) (begun_anew the_word (marks u))
+  shows_begins : (u : UnderWay State) → IsWellFormed Good u → Shows (begins u) (begun_anew the_word (marks u))
   shows_begins u h = record {
     up = up_marks u.up;
     down = down_marks u.down;
@@ -332,19 +334,21 @@ module _ {State : Type 0} (ends : Ends State) (Good : State → Type 0) (kept : 
       (λ x. record { id = id_or (rule.heard x); old = true }) down) ++ up) (filter_map rule.heard down ++ ups) s
       (λ w t g. marked_lines down w up ups e t g) h)
     where
+      -- it is the same whether the first line's id, if it has one, is put before the ids of both queues or of the replies alone
       split : (o : Option ℕ) (word : List ℕ) → IsSubsequence word (cons_option o (filter_map rule.heard down ++ ups)) → IsSubsequence word (cons_option o (filter_map rule.heard down) ++ ups)
       split None word h = h
       split (Some id) word h = h
 
   -- the other way: a word that is in the ids that replies have, and then of requests, is in their ids with 8 for a reply
   -- without one
-  lines_marked : (down : List (Aged (List ℕ))) (word up ups : List ℕ) → up ≡ ups
+  lines_marked : (down : List (InFlight (List ℕ))) (word up ups : List ℕ) → up ≡ ups
       → IsSubsequence word (filter_map rule.heard (map (λ x. x.line) down) ++ up) → IsSubsequence word (ids_of (map mark_down down) ++ ups)
   lines_marked [] word up ups e h = subst (IsSubsequence word) e h
   lines_marked (x ∷ down) word up ups e h =
       to_lines (rule.heard x.line) word (ids_of (map mark_down down) ++ ups)
       (filter_map rule.heard (map (λ x. x.line) down) ++ up) (λ w g. lines_marked down w up ups e g) (split (rule.heard x.line) word h)
     where
+      -- it is the same whether the first line's id, if it has one, is put before the ids of the replies alone or of both queues
       split : (o : Option ℕ) (word : List ℕ) → IsSubsequence word (cons_option o
           (filter_map rule.heard (map (λ x. x.line) down)) ++ up) → IsSubsequence word (cons_option o (filter_map rule.heard (map (λ x. x.line) down) ++ up))
       split None word h = h
@@ -355,7 +359,7 @@ module _ {State : Type 0} (ends : Ends State) (Good : State → Type 0) (kept : 
   absent_marks u word s none h = none (marked_lines u.down word (ids_of (marks u).up) (map (λ x. x.id) u.up) (ids_up u.up) s h)
 
   -- the ids of the requests that a synchronization leaves are those of their marks
-  up_left : (xs : List (Aged Request)) → map (λ x. x.id) (map (λ x. x.line) xs) ≡ ids_of (map mark_up xs)
+  up_left : (xs : List (InFlight Request)) → map (λ x. x.id) (map (λ x. x.line) xs) ≡ ids_of (map mark_up xs)
   up_left [] = refl
   up_left (x ∷ xs) = ap (λ l. x.line.id ∷ l) (up_left xs)
 
@@ -378,12 +382,12 @@ module _ {State : Type 0} (ends : Ends State) (Good : State → Type 0) (kept : 
   request_is x e f = ap₂ (λ (i : ℕ) (c : Asked). record { id = i; call = c }) e f
 
   -- the requests in flight are copies of the eighth null procedure, if their marks say so
-  clean_up : (xs : List (Aged Request)) → Each IsKnown xs → Each (λ x. (x.old ≡ false) × (x.id ≡ 7)) (map mark_up xs) → Each (λ x. (x.old ≡ false) × (x.line ≡ eighth)) xs
+  clean_up : (xs : List (InFlight Request)) → Each IsKnown xs → Each (λ x. (x.old ≡ false) × (x.id ≡ 7)) (map mark_up xs) → Each (λ x. (x.old ≡ false) × (x.line ≡ eighth)) xs
   clean_up [] k h = tt
   clean_up (x ∷ xs) k h = ((h.0.0, request_is x.line h.0.1 (k.0.1 h.0.0)), clean_up xs k.1 h.1)
 
   -- the replies in flight are replies to the eighth null procedure, if their marks say so
-  clean_down : (xs : List (Aged (List ℕ))) → Each (λ x. (x.old ≡ false) × (x.id ≡ 7)) (map mark_down xs) → Each (λ x. (x.old ≡ false) × (rule.heard x.line ≡ Some 7)) xs
+  clean_down : (xs : List (InFlight (List ℕ))) → Each (λ x. (x.old ≡ false) × (x.id ≡ 7)) (map mark_down xs) → Each (λ x. (x.old ≡ false) × (rule.heard x.line ≡ Some 7)) xs
   clean_down [] h = tt
   clean_down (x ∷ xs) h = ((h.0.0, heard_seven (rule.heard x.line) h.0.1), clean_down xs h.1)
 
@@ -396,7 +400,7 @@ module _ {State : Type 0} (ends : Ends State) (Good : State → Type 0) (kept : 
   }
 
   -- a synchronization that is done ended cleanly, unless the ids in flight at its start contain the word
-  pub begins_cleanly : (u : UnderWay State) (ts : List (Turn State)) → AreLines Good u → AreTurns ends Good kept ts (begins u)
+  pub begins_cleanly : (u : UnderWay State) (ts : List (Turn State)) → IsWellFormed Good u → AreTurns ends Good kept ts (begins u)
       → (IsSubsequence the_word (ids_under_way u) → ⊥) → (turned ends ts (begins u)).left ≡ []
       → HasBegunCleanly kept (turned ends ts (begins u))
   begins_cleanly u ts lines possible none done =
@@ -404,21 +408,21 @@ module _ {State : Type 0} (ends : Ends State) (Good : State → Type 0) (kept : 
       clean (turned ends ts (begins u)) (moved r.0 (begun_anew the_word (marks u))) r.1
       (the_word_begins_cleanly (begun_anew the_word (marks u)) r.0 (begins_anew (marks u) (absent_marks u the_word word_small none)) (r.1.left ∙ done))
 
-  -- what a synchronization leaves, killed or not, is `AreLines`: ids below 8, and an instrument in a good state
-  pub left_lines : (u : UnderWay State) (ts : List (Turn State)) → AreLines Good u → AreTurns ends Good kept ts (begins u) → AreLines Good (leaves (turned ends ts (begins u)))
+  -- what a synchronization leaves, killed or not, is `IsWellFormed`: ids below 8, and an instrument in a good state
+  pub left_lines : (u : UnderWay State) (ts : List (Turn State)) → IsWellFormed Good u → AreTurns ends Good kept ts (begins u) → IsWellFormed Good (leaves (turned ends ts (begins u)))
   left_lines u ts lines possible =
       let r = shown ts (begins u) (begun_anew the_word (marks u)) possible (shows_begins u lines) in
       record { ids = each_to_map (λ x. x.id < 8) (λ x. x.line) (turned ends ts (begins u)).up (only (turned ends ts (begins u)).up r.1.known); good = r.1.good }
     where
       -- requests that are `IsKnown` have ids below 8
-      only : (xs : List (Aged Request)) → Each IsKnown xs → Each (λ x. x.line.id < 8) xs
+      only : (xs : List (InFlight Request)) → Each IsKnown xs → Each (λ x. x.line.id < 8) xs
       only [] h = tt
       only (x ∷ xs) h = (h.0.0, only xs h.1)
 
   -- if the ids in flight don't contain the front a, b, `more` of the word, those that a synchronization leaves, killed or not,
   -- don't contain that front with the next id, c
   pub left_absent : (u : UnderWay State) (ts : List (Turn State)) (a b : ℕ) (more : List ℕ) (c : ℕ) (tail : List ℕ) → the_word ≡ a ∷ b ∷ (more ++ c ∷ tail)
-      → AreLines Good u → AreTurns ends Good kept ts (begins u)
+      → IsWellFormed Good u → AreTurns ends Good kept ts (begins u)
       → (IsSubsequence (a ∷ b ∷ more) (ids_under_way u) → ⊥) → IsSubsequence (a ∷ b ∷ (more ++ c ∷ [])) (ids_under_way (leaves (turned ends ts (begins u)))) → ⊥
   left_absent u ts a b more c tail e lines possible none h =
       let r = shown ts (begins u) (begun_anew the_word (marks u)) possible (shows_begins u lines) in

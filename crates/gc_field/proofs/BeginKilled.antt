@@ -9,7 +9,7 @@ use Rattle.gc_field.proofs.BeginIds.{Sent, Model, Move, heard, moved, aged, begu
 use Rattle.gc_world.specs.Order.{Each}
 use Rattle.gc_field.specs.World.{without, doubled}
 use Rattle.gc_field.proofs.BeginLists.{each_both, each_back, pairs_front, pairs_back, goes_over}
-use Rattle.gc_field.proofs.BeginWords.{Has, stands_front, stands_each, never, word_differs}
+use Rattle.gc_field.proofs.BeginWords.{HasNoMoreWords, subword_front, subword_each, never, word_differs}
 use Rattle.gc_field.proofs.BeginMoves.{Lasts, holds_moved}
 use Rattle.gc_field.proofs.BeginLines.{IsLine, IsOld, IsOwn, IsBefore, HasNone, KeepsTheId, AreOwn, old_if, olds, olds_all, olds_push, has_without, has_doubled, line_without, line_doubled, line_asked, line_came}
 use Rattle.gc_field.proofs.BeginSound.{sound_at_start}
@@ -20,7 +20,7 @@ use Rattle.gc_world.proofs.Rows.{each_more, each_append, each_without, each_doub
 -- only old replies have answered yet, with the ids `done`: each word that is in the old ids now was in `first`, and so was
 -- `done` with that word after it
 pub record IsHearing (first done : List ℕ) (line : List Sent) : Type 0 where
-  pub from : Has (olds line) first
+  pub from : HasNoMoreWords (olds line) first
   pub heard : (word : List ℕ) → AllDiffer (done ++ word) → IsSubsequence word (olds line) → IsSubsequence (done ++ word) first
 
 -- this is the first id that is left
@@ -47,7 +47,7 @@ pub record IsTrying (z : ℕ) (word first left : List ℕ) (line : List Sent) : 
 -- Old lines are lost or repeated.
 
 -- `IsHearing` is preserved if the old lines change, and their ids contain no more words
-hearing_has : (first done : List ℕ) (line other : List Sent) → Has (olds other) (olds line) → IsHearing first done line → IsHearing first done other
+hearing_has : (first done : List ℕ) (line other : List Sent) → HasNoMoreWords (olds other) (olds line) → IsHearing first done line → IsHearing first done other
 hearing_has first done line other has h =
     record {
       from = λ word d s. h.from word d (has word d s);
@@ -102,9 +102,9 @@ module _ (z : ℕ) (word first : List ℕ) where
 
   -- if a word v is in the ids of old lines, `id` and then v are in those of a line with that id, if it is old, and of those
   -- lines after it
-  old_stands : (b : Bool) (i id : ℕ) (ids v : List ℕ) → b ≡ true → i ≡ id → IsSubsequence v ids → IsSubsequence (id ∷ v) (old_if b i ids)
-  old_stands true i id ids v o e s = inl (sym e, s)
-  old_stands false i id ids v o e s = absurd (never o)
+  old_contains : (b : Bool) (i id : ℕ) (ids v : List ℕ) → b ≡ true → i ≡ id → IsSubsequence v ids → IsSubsequence (id ∷ v) (old_if b i ids)
+  old_contains true i id ids v o e s = inl (sym e, s)
+  old_contains false i id ids v o e s = absurd (never o)
 
   -- `IsHearing` is preserved if an old reply answers
   old_answers : (id : ℕ) (done : List ℕ) (x : Sent) (rest : List Sent) → IsOld x → x.id ≡ id → IsHearing first done (x ∷ rest) → IsHearing first (done ++ id ∷ []) rest
@@ -112,7 +112,7 @@ module _ (z : ℕ) (word first : List ℕ) where
       record {
         from = λ v d s. h.from v d (has_without zero (x ∷ rest) v d s);
         heard = λ v d s. subst (λ l. IsSubsequence l first) (sym (goes_over done id v))
-            (h.heard (id ∷ v) (subst AllDiffer (goes_over done id v) d) (old_stands x.old x.id id (olds rest) v o e s));
+            (h.heard (id ∷ v) (subst AllDiffer (goes_over done id v) d) (old_contains x.old x.id id (olds rest) v o e s));
       }
 
   -- if an own reply answers, the synchronization is `IsOver`
@@ -169,7 +169,7 @@ fronts (d ∷ done) left (a ∷ front) c tail e =
 
 -- ids that don't have the last id c of a word don't contain the word
 own_has_no : (front : List ℕ) (c : ℕ) (ids : List ℕ) → Each (λ i. c ≡ i → ⊥) ids → IsSubsequence (front ++ c ∷ []) ids → ⊥
-own_has_no front c ids h s = (each_back (λ i. c ≡ i → ⊥) front (c ∷ []) (stands_each (λ i. c ≡ i → ⊥) (front ++ c ∷ []) ids h s)).0 refl
+own_has_no front c ids h s = (each_back (λ i. c ≡ i → ⊥) front (c ∷ []) (subword_each (λ i. c ≡ i → ⊥) (front ++ c ∷ []) ids h s)).0 refl
 
 -- what holds of the id of each request or reply holds of each of their ids
 each_id : (P : ℕ → Type 0) (xs : List Sent) → Each (λ x. P x.id) xs → Each P (ids_of xs)
@@ -180,6 +180,7 @@ each_id P (x ∷ xs) h = (h.0, each_id P xs h.1)
 in_old : (xs : List Sent) (front : List ℕ) (c : ℕ) → Pairs IsBefore xs → Each (λ x. IsOwn x → c ≡ x.id → ⊥) xs → IsSubsequence (front ++ c ∷ []) (ids_of xs) → IsSubsequence (front ++ c ∷ []) (olds xs)
 in_old [] front c before none s = s
 in_old (x ∷ xs) front c before none s = chosen x.old refl (λ f. in_old xs f c before.1 none.1) front s where
+  -- the lemma above, by whether the first line is old (`b`)
   chosen : (b : Bool) → x.old ≡ b → ((f : List ℕ) → IsSubsequence (f ++ c ∷ []) (ids_of xs) → IsSubsequence (f ++ c ∷ []) (olds xs)) → (front : List ℕ)
       → IsSubsequence (front ++ c ∷ []) (x.id ∷ ids_of xs) → IsSubsequence (front ++ c ∷ []) (old_if b x.id (olds xs))
   chosen true o f [] (inl s) = inl (s.0, tt)
@@ -211,7 +212,7 @@ not_three p left a b c ab ac bc (inr x) (inl y) (inr z) = ac (same_asked left a 
 over_short : (p : ℕ) (left word : List ℕ) (line : List Sent) (a b c : ℕ) → AllDiffer (a ∷ b ∷ c ∷ word)
     → Each (λ x. IsOwn x × IsNear p left x.id) line → IsSubsequence (a ∷ b ∷ c ∷ word) (ids_of line) → ⊥
 over_short p left word line a b c d h s =
-    let near = stands_each (IsNear p left) (a ∷ b ∷ c ∷ word) (ids_of line)
+    let near = subword_each (IsNear p left) (a ∷ b ∷ c ∷ word) (ids_of line)
     (each_id (IsNear p left) line (each_more (λ x. IsOwn x × IsNear p left x.id) (λ x. IsNear p left x.id) (λ x g. g.1) line h)) s in
     not_three p left a b c d.0.0 d.0.1.0 d.1.0.0 near.0 near.1.0 near.1.1.0
 
@@ -223,13 +224,14 @@ no_longer z word first left line a b more c tail e d none h s =
     elim h.phase [
       | inl g ↦ (
           elim (fronts h.done left (a ∷ b ∷ more) c tail (sym h.split ∙ e)) [
-            | inl f ↦ none (stands_front (a ∷ b ∷ more) f.0 first (subst
+            | inl f ↦ none (subword_front (a ∷ b ∷ more) f.0 first (subst
                 (λ l. IsSubsequence l first) (append-nil h.done ∙ f.1) (g.heard [] (subst AllDiffer (sym (append-nil h.done)) done_differs) tt)))
-            | inr f ↦ none (stands_front (a ∷ b ∷ more) (c ∷ []) first (g.from front front_differs (in_old line (a ∷ b ∷ more) c h.sound.ordered (own_none f.0 f.1 f.2) s)))
+            | inr f ↦ none (subword_front (a ∷ b ∷ more) (c ∷ []) first (g.from front front_differs (in_old line (a ∷ b ∷ more) c h.sound.ordered (own_none f.0 f.1 f.2) s)))
           ])
       | inr g ↦ third more front_differs s g.0 g.1
     ]
   where
+    -- the front of the word, with c
     front : List ℕ
     front = a ∷ b ∷ (more ++ c ∷ [])
 
@@ -299,7 +301,7 @@ pub behind_one : (s : Model) (ms : List Move) (a b : ℕ) (more : List ℕ) (c :
 behind_one s ms a b more c tail e none h =
     let anew : Model = begun_anew the_word s in
     let end : Model = moved ms anew in
-    let begins : Begins the_word anew = begins_anew s (λ g. none (stands_front (a ∷ b ∷ more) (c ∷ tail) (under_way s) (subst (λ w. IsSubsequence w (under_way s)) e g))) in
+    let begins : Begins the_word anew = begins_anew s (λ g. none (subword_front (a ∷ b ∷ more) (c ∷ tail) (under_way s) (subst (λ w. IsSubsequence w (under_way s)) e g))) in
     let trying = holds_moved (IsTrying 7 the_word (under_way anew)) (trying_lasts 7 the_word (under_way anew)) ms anew (trying_at_start anew begins) in
     no_longer 7 the_word (under_way anew) end.left (end.down ++ end.up) a b more c tail e word_differs
     (λ g. none (subst (λ ids. IsSubsequence (a ∷ b ∷ more) ids) (ids_anew s) g)) trying

@@ -8,7 +8,7 @@ use Rattle.gc_field.proofs.BeginIds.{Sent, heard, Pairs, AllDiffer, ids_of, last
 use Rattle.gc_world.specs.Order.{Each}
 use Rattle.gc_field.specs.World.{without, doubled}
 use Rattle.gc_field.proofs.BeginLists.{pairs_without, pairs_doubled, pairs_push, pairs_of_each}
-use Rattle.gc_field.proofs.BeginWords.{Has, has_behind, has_twice, stands_more, never, not_over}
+use Rattle.gc_field.proofs.BeginWords.{HasNoMoreWords, has_behind, has_twice, subword_more, never, cons_not_nil}
 use Rattle.gc_field.proofs.Once.{true_is_not}
 use Rattle.gc_world.proofs.Rows.{each_more, each_append, each_without, each_doubled}
 
@@ -68,7 +68,7 @@ none_if false i ids e f = f
 
 -- if there are no old ids, the front line is own, and those after it have no old ids
 own_if : (b : Bool) (i : ℕ) (ids : List ℕ) → old_if b i ids ≡ [] → (b ≡ false) × (ids ≡ [])
-own_if true i ids e = absurd (not_over i ids e)
+own_if true i ids e = absurd (cons_not_nil i ids e)
 own_if false i ids e = (refl, e)
 
 -- own lines have no old ids
@@ -97,29 +97,29 @@ pub olds_push : (i : ℕ) (xs : List Sent) → olds (xs ++ record { id = i; old 
 olds_push i [] = refl
 olds_push i (x ∷ xs) = ap (λ l. old_if x.old x.id l) (olds_push i xs)
 
--- `Has` is preserved if the same line, old or own, is put before both
-has_if : (b : Bool) (i : ℕ) (ids others : List ℕ) → Has ids others → Has (old_if b i ids) (old_if b i others)
+-- `HasNoMoreWords` is preserved if the same line, old or own, is put before both
+has_if : (b : Bool) (i : ℕ) (ids others : List ℕ) → HasNoMoreWords ids others → HasNoMoreWords (old_if b i ids) (old_if b i others)
 has_if true i ids others h = has_behind i ids others h
 has_if false i ids others h = h
 
 -- without its front line, old or own, the line has no more words in its old ids
-has_less_if : (b : Bool) (i : ℕ) (ids : List ℕ) → Has ids (old_if b i ids)
-has_less_if true i ids = λ word d h. stands_more word ids i h
+has_less_if : (b : Bool) (i : ℕ) (ids : List ℕ) → HasNoMoreWords ids (old_if b i ids)
+has_less_if true i ids = λ word d h. subword_more word ids i h
 has_less_if false i ids = λ word d h. h
 
 -- if the front line, old or own, comes twice, no more words without an id twice are in the old ids
-has_twice_if : (b : Bool) (i : ℕ) (ids : List ℕ) → Has (old_if b i (old_if b i ids)) (old_if b i ids)
+has_twice_if : (b : Bool) (i : ℕ) (ids : List ℕ) → HasNoMoreWords (old_if b i (old_if b i ids)) (old_if b i ids)
 has_twice_if true i ids = has_twice i ids
 has_twice_if false i ids = λ word d h. h
 
 -- if a line is lost, no more words without an id twice are in the old ids
-pub has_without : (k : ℕ) (line : List Sent) → Has (olds (without k line)) (olds line)
+pub has_without : (k : ℕ) (line : List Sent) → HasNoMoreWords (olds (without k line)) (olds line)
 has_without k [] = λ word d h. h
 has_without zero (x ∷ xs) = has_less_if x.old x.id (olds xs)
 has_without (suc k) (x ∷ xs) = has_if x.old x.id (olds (without k xs)) (olds xs) (has_without k xs)
 
 -- if a line comes twice, no more words without an id twice are in the old ids
-pub has_doubled : (k : ℕ) (line : List Sent) → Has (olds (doubled k line)) (olds line)
+pub has_doubled : (k : ℕ) (line : List Sent) → HasNoMoreWords (olds (doubled k line)) (olds line)
 has_doubled k [] = λ word d h. h
 has_doubled zero (x ∷ xs) = has_twice_if x.old x.id (olds xs)
 has_doubled (suc k) (x ∷ xs) = has_if x.old x.id (olds (doubled k xs)) (olds xs) (has_doubled k xs)
@@ -180,12 +180,13 @@ line_asked z asked later line h =
 -- where `asked` and then the word aren't in the old ids, the front line isn't old with the id `asked` while the word is in the
 -- old ids after it
 no_old : (b : Bool) (i asked : ℕ) (ids word : List ℕ) → b ≡ true → i ≡ asked → (IsSubsequence (asked ∷ word) (old_if b i ids) → old_if b i ids ≡ []) → IsSubsequence word ids → ⊥
-no_old true i asked ids word o e f s = not_over i ids (f (inl (sym e, s)))
+no_old true i asked ids word o e f s = cons_not_nil i ids (f (inl (sym e, s)))
 no_old false i asked ids word o e f s = never o
 
 -- if one id is left, a reply with that id is of this synchronization
 pub is_own : (z asked : ℕ) (x : Sent) (rest : List Sent) → IsLine z (asked ∷ []) (x ∷ rest) → x.id ≡ asked → IsOwn x
 is_own z asked x rest h e = chosen x.old refl where
+  -- the lemma above, by whether the reply is old (`b`)
   chosen : (b : Bool) → x.old ≡ b → x.old ≡ false
   chosen true o = absurd (no_old x.old x.id asked (olds rest) [] o e h.clear tt)
   chosen false o = o
@@ -207,6 +208,7 @@ own_answered z asked (i ∷ later) x rest h e = (
 -- once a reply answered, the ids that are left then are in the old ids only if there is no old line
 clear_answered : (z asked : ℕ) (later : List ℕ) (x : Sent) (rest : List Sent) → IsLine z (asked ∷ later) (x ∷ rest) → x.id ≡ asked → IsSubsequence later (olds rest) → olds rest ≡ []
 clear_answered z asked later x rest h e s = chosen x.old refl where
+  -- the lemma above, by whether the reply is old (`b`)
   chosen : (b : Bool) → x.old ≡ b → olds rest ≡ []
   chosen true o = absurd (no_old x.old x.id asked (olds rest) later o e h.clear s)
   chosen false o = olds_none rest (each_more (IsBefore x) IsOwn (λ y f. f o) rest h.ordered.0)
@@ -226,6 +228,7 @@ line_answered z asked later x rest h e =
 pub line_came : (z : ℕ) (left : List ℕ) (x : Sent) (rest : List Sent) → IsLine z left (x ∷ rest) → IsLine z (heard left x.id) rest
 line_came z [] x rest h = line_without z [] zero (x ∷ rest) h
 line_came z (asked ∷ later) x rest h = chosen (nat_eq x.id asked) refl where
+  -- the lemma above, by whether the reply has the id that is asked for (`b`)
   chosen : (b : Bool) → nat_eq x.id asked ≡ b → IsLine z (left_by_one b asked later) rest
   chosen true e = line_answered z asked later x rest h (eqb-true x.id asked e)
   chosen false e = line_without z (asked ∷ later) zero (x ∷ rest) h

@@ -1,5 +1,5 @@
--- A fact of the whole line, replies first, that is preserved by the four things that can happen to the line is preserved by each move of
--- a synchronization.
+-- A fact of the whole line, replies first, that is preserved by the four things that can happen to the line is preserved by each
+-- move of a synchronization.
 use Rattle.std.proofs.Common.{◌≡◌, ℕ, zero, inl, inr, Bool, true, false, List, [], ◌∷◌, ◌++◌, refl, sym, subst, append_assoc}
 use Rattle.gc_field.proofs.BeginIds.{Sent, Model, Move, Ask, Reach, Pass, Come, Up_lose, Up_repeat, Down_lose, Down_repeat, Anew, heard, asks, reaches, passes, comes, moves, moved}
 use Rattle.gc_field.specs.World.{without, doubled}

@@ -51,6 +51,7 @@ keeps_doubled z (asked ∷ later) k down kept h = each_doubled (KeepsIf asked ke
 keeps_nothing : (z : ℕ) (left : List ℕ) (down : List Sent) → KeptIdFits z left down None
 keeps_nothing z [] down = tt
 keeps_nothing z (asked ∷ later) down = every down where
+  -- `KeepsIf` holds of each reply if nothing is retained
   every : (xs : List Sent) → Each (KeepsIf asked None) xs
   every [] = tt
   every (x ∷ xs) = ((λ o e. tt), every xs)
@@ -80,6 +81,7 @@ keeps_heard : (z : ℕ) (left : List ℕ) (x : Sent) (rest up : List Sent) (kept
     → KeptIdFits z (heard left x.id) rest kept
 keeps_heard z [] x rest up kept h k = k
 keeps_heard z (asked ∷ later) x rest up kept h k = chosen (nat_eq x.id asked) refl where
+  -- the lemma above, by whether the reply has the id that is asked for (`b`)
   chosen : (b : Bool) → nat_eq x.id asked ≡ b → KeptIdFits z (left_by_one b asked later) rest kept
   chosen true e = keeps_answered z asked later x rest up kept h (eqb-true x.id asked e) k
   chosen false e = k.1
@@ -114,6 +116,7 @@ keeps_old z (asked ∷ later) down x kept old h = each_append (KeepsIf asked kep
 keeps_passes : (z : ℕ) (s : Model) (up : List Sent) → s.up ≡ up → IsSound z s → KeptIdFits z (passes s up).left (passes s up).down (passes s up).kept
 keeps_passes z s [] e h = h.keeps
 keeps_passes z s (x ∷ rest) e h = by_case x.old refl where
+  -- the lemma above, by whether the request is old
   by_case : (old : Bool) → x.old ≡ old → KeptIdFits z s.left (s.down ++ x ∷ []) (kept_past old x.id s.kept)
   by_case true old = keeps_old z s.left s.down x s.kept old h.keeps
   by_case false own = keeps_replied z s.left s.down x (keeps_reached z s.left s.down x rest (subst (λ q. IsLine z s.left (s.down ++ q)) e h.line))

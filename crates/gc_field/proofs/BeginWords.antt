@@ -13,49 +13,49 @@ pub never : false ≡ true → ⊥
 never e = cc
 
 -- a list with an element isn't empty
-pub not_over : (i : ℕ) (ids : List ℕ) → i ∷ ids ≡ [] → ⊥
-not_over i ids e = cc
+pub cons_not_nil : {A : Type 0} (x : A) (xs : List A) → x ∷ xs ≡ [] → ⊥
+cons_not_nil x xs e = cc
 
 -- Fewer ids, and repeats.
 
 -- a word that is in ids is in them with one more id before it
-pub stands_more : (word ids : List ℕ) (i : ℕ) → IsSubsequence word ids → IsSubsequence word (i ∷ ids)
-stands_more [] ids i h = tt
-stands_more (w ∷ word) ids i h = inr h
+pub subword_more : (word ids : List ℕ) (i : ℕ) → IsSubsequence word ids → IsSubsequence word (i ∷ ids)
+subword_more [] ids i h = tt
+subword_more (w ∷ word) ids i h = inr h
 
 -- if a word is in ids, the word without its first id is in them, too
-pub stands_behind : (w : ℕ) (word ids : List ℕ) → IsSubsequence (w ∷ word) ids → IsSubsequence word ids
-stands_behind w word [] h = absurd h
-stands_behind w word (i ∷ ids) (inl h) = stands_more word ids i h.1
-stands_behind w word (i ∷ ids) (inr h) = stands_more word ids i (stands_behind w word ids h)
+pub subword_tail : (w : ℕ) (word ids : List ℕ) → IsSubsequence (w ∷ word) ids → IsSubsequence word ids
+subword_tail w word [] h = absurd h
+subword_tail w word (i ∷ ids) (inl h) = subword_more word ids i h.1
+subword_tail w word (i ∷ ids) (inr h) = subword_more word ids i (subword_tail w word ids h)
 
 -- the front of a word is in the ids that the word is in
-pub stands_front : (word more ids : List ℕ) → IsSubsequence (word ++ more) ids → IsSubsequence word ids
-stands_front [] more ids h = tt
-stands_front (w ∷ word) more [] h = absurd h
-stands_front (w ∷ word) more (i ∷ ids) (inl h) = inl (h.0, stands_front word more ids h.1)
-stands_front (w ∷ word) more (i ∷ ids) (inr h) = inr (stands_front (w ∷ word) more ids h)
+pub subword_front : (word more ids : List ℕ) → IsSubsequence (word ++ more) ids → IsSubsequence word ids
+subword_front [] more ids h = tt
+subword_front (w ∷ word) more [] h = absurd h
+subword_front (w ∷ word) more (i ∷ ids) (inl h) = inl (h.0, subword_front word more ids h.1)
+subword_front (w ∷ word) more (i ∷ ids) (inr h) = inr (subword_front (w ∷ word) more ids h)
 
 -- what holds of each of these ids holds of each id of a word that is in them
-pub stands_each : (P : ℕ → Type 0) (word ids : List ℕ) → Each P ids → IsSubsequence word ids → Each P word
-stands_each P [] ids h s = tt
-stands_each P (w ∷ word) [] h s = absurd s
-stands_each P (w ∷ word) (i ∷ ids) h (inl s) = (subst P (sym s.0) h.0, stands_each P word ids h.1 s.1)
-stands_each P (w ∷ word) (i ∷ ids) h (inr s) = stands_each P (w ∷ word) ids h.1 s
+pub subword_each : (P : ℕ → Type 0) (word ids : List ℕ) → Each P ids → IsSubsequence word ids → Each P word
+subword_each P [] ids h s = tt
+subword_each P (w ∷ word) [] h s = absurd s
+subword_each P (w ∷ word) (i ∷ ids) h (inl s) = (subst P (sym s.0) h.0, subword_each P word ids h.1 s.1)
+subword_each P (w ∷ word) (i ∷ ids) h (inr s) = subword_each P (w ∷ word) ids h.1 s
 
--- each word without an id twice that is in the first ids is in the second ones
-abbrev pub Has : List ℕ → List ℕ → Type 0
-Has ids others = (word : List ℕ) → AllDiffer word → IsSubsequence word ids → IsSubsequence word others
+-- the first ids contain no more words than the second ones: each word without an id twice that is in the first is in the second
+abbrev pub HasNoMoreWords : List ℕ → List ℕ → Type 0
+HasNoMoreWords ids others = (word : List ℕ) → AllDiffer word → IsSubsequence word ids → IsSubsequence word others
 
--- `Has` is preserved if the same id is put before both lists
-pub has_behind : (i : ℕ) (ids others : List ℕ) → Has ids others → Has (i ∷ ids) (i ∷ others)
+-- `HasNoMoreWords` is preserved if the same id is put before both lists
+pub has_behind : (i : ℕ) (ids others : List ℕ) → HasNoMoreWords ids others → HasNoMoreWords (i ∷ ids) (i ∷ others)
 has_behind i ids others f [] d h = tt
 has_behind i ids others f (w ∷ word) d (inl h) = inl (h.0, f word d.1 h.1)
 has_behind i ids others f (w ∷ word) d (inr h) = inr (f (w ∷ word) d h)
 
--- repeating the first of some ids adds no word without an id twice: `Has` of the ids with i twice before it and those with i
--- once
-pub has_twice : (i : ℕ) (ids : List ℕ) → Has (i ∷ i ∷ ids) (i ∷ ids)
+-- repeating the first of some ids adds no word without an id twice: `HasNoMoreWords` of the ids with i twice before it and those
+-- with i once
+pub has_twice : (i : ℕ) (ids : List ℕ) → HasNoMoreWords (i ∷ i ∷ ids) (i ∷ ids)
 has_twice i ids [] d h = tt
 has_twice i ids (w ∷ []) d (inl h) = inl (h.0, tt)
 has_twice i ids (w ∷ v ∷ word) d (inl h) =
@@ -114,7 +114,7 @@ hears word (i ∷ ids) = hears (heard word i) ids
 hears_next : (i w : ℕ) (ids word : List ℕ) (b : Bool) → nat_eq i w ≡ b → ((v : List ℕ) → IsSubsequence v ids → hears v ids ≡ [])
     → IsSubsequence (w ∷ word) (i ∷ ids) → hears (left_by_one b w word) ids ≡ []
 hears_next i w ids word true e f (inl h) = f word h.1
-hears_next i w ids word true e f (inr h) = f word (stands_behind w word ids h)
+hears_next i w ids word true e f (inr h) = f word (subword_tail w word ids h)
 hears_next i w ids word false e f (inl h) = absurd (never (sym e ∙ eq-eqb i w (sym h.0)))
 hears_next i w ids word false e f (inr h) = f (w ∷ word) h
 
@@ -127,14 +127,14 @@ comes_to_end (i ∷ ids) (w ∷ word) h = hears_next i w ids word (nat_eq i w) r
 
 -- eight ids upward, from any id on, don't contain 6 5 4, as computing the eight cases shows
 three_upward : (i : ℕ) → i < 8 → IsSubsequence (6 ∷ 5 ∷ 4 ∷ []) (upward i 8) → ⊥
-three_upward zero low h = not_over _ _ (comes_to_end (upward 0 8) (6 ∷ 5 ∷ 4 ∷ []) h)
-three_upward (suc zero) low h = not_over _ _ (comes_to_end (upward 1 8) (6 ∷ 5 ∷ 4 ∷ []) h)
-three_upward (suc (suc zero)) low h = not_over _ _ (comes_to_end (upward 2 8) (6 ∷ 5 ∷ 4 ∷ []) h)
-three_upward (suc (suc (suc zero))) low h = not_over _ _ (comes_to_end (upward 3 8) (6 ∷ 5 ∷ 4 ∷ []) h)
-three_upward (suc (suc (suc (suc zero)))) low h = not_over _ _ (comes_to_end (upward 4 8) (6 ∷ 5 ∷ 4 ∷ []) h)
-three_upward (suc (suc (suc (suc (suc zero))))) low h = not_over _ _ (comes_to_end (upward 5 8) (6 ∷ 5 ∷ 4 ∷ []) h)
-three_upward (suc (suc (suc (suc (suc (suc zero)))))) low h = not_over _ _ (comes_to_end (upward 6 8) (6 ∷ 5 ∷ 4 ∷ []) h)
-three_upward (suc (suc (suc (suc (suc (suc (suc zero))))))) low h = not_over _ _ (comes_to_end (upward 7 8) (6 ∷ 5 ∷ 4 ∷ []) h)
+three_upward zero low h = cons_not_nil _ _ (comes_to_end (upward 0 8) (6 ∷ 5 ∷ 4 ∷ []) h)
+three_upward (suc zero) low h = cons_not_nil _ _ (comes_to_end (upward 1 8) (6 ∷ 5 ∷ 4 ∷ []) h)
+three_upward (suc (suc zero)) low h = cons_not_nil _ _ (comes_to_end (upward 2 8) (6 ∷ 5 ∷ 4 ∷ []) h)
+three_upward (suc (suc (suc zero))) low h = cons_not_nil _ _ (comes_to_end (upward 3 8) (6 ∷ 5 ∷ 4 ∷ []) h)
+three_upward (suc (suc (suc (suc zero)))) low h = cons_not_nil _ _ (comes_to_end (upward 4 8) (6 ∷ 5 ∷ 4 ∷ []) h)
+three_upward (suc (suc (suc (suc (suc zero))))) low h = cons_not_nil _ _ (comes_to_end (upward 5 8) (6 ∷ 5 ∷ 4 ∷ []) h)
+three_upward (suc (suc (suc (suc (suc (suc zero)))))) low h = cons_not_nil _ _ (comes_to_end (upward 6 8) (6 ∷ 5 ∷ 4 ∷ []) h)
+three_upward (suc (suc (suc (suc (suc (suc (suc zero))))))) low h = cons_not_nil _ _ (comes_to_end (upward 7 8) (6 ∷ 5 ∷ 4 ∷ []) h)
 three_upward (suc (suc (suc (suc (suc (suc (suc (suc i)))))))) low h = absurd (omega (arith, low))
 
 -- Numbers that never fall, within eight consecutive ones: modulo 8 they contain no word, in which no id is twice, but those
@@ -145,7 +145,7 @@ abbrev pub ids_at : List ℕ → List ℕ
 ids_at ns = map (λ n. n % 8) ns
 
 -- the empty word is in all ids
-has_nothing : (others : List ℕ) → Has [] others
+has_nothing : (others : List ℕ) → HasNoMoreWords [] others
 has_nothing others [] d h = tt
 has_nothing others (w ∷ word) d h = absurd h
 
@@ -156,7 +156,7 @@ each_below a b ns e h = subst (λ c. Each (λ m. m < c) ns) e h
 -- each word without an id twice that is in the ids of the numbers `ns`, which never fall from a on and are below a + k, is in
 -- the k ids upward from a
 abbrev InRow : ℕ → ℕ → List ℕ → Type 0
-InRow a k ns = Rising (a + 1) ns → Each (λ m. m < a + k) ns → Has (ids_at ns) (upward a k)
+InRow a k ns = Rising (a + 1) ns → Each (λ m. m < a + k) ns → HasNoMoreWords (ids_at ns) (upward a k)
 
 -- `InRow` is preserved if one number more, m, is put before it: either m is a (`b`), or all of the numbers are above a
 row_first : (a k m : ℕ) (ns : List ℕ) (b : Bool) → nat_eq m a ≡ b → InRow (a + 1) k (m ∷ ns) → InRow a (suc k) ns → InRow a (suc k) (m ∷ ns)
@@ -169,7 +169,7 @@ row_first a k m ns true e above more h low = λ word d s.
 row_first a k m ns false e above more h low = λ word d s.
     let other : m ≡ a → ⊥ = eqb-false m a e in
     let over : a + 1 + 1 ≤ m + 1 = omega (arith, h.0, other) in
-    stands_more word (upward (a + 1) k) (a % 8) (above (over, h.1) (each_below (a + suc k) (a + 1 + k) (m ∷ ns) (omega arith) low) word d s)
+    subword_more word (upward (a + 1) k) (a % 8) (above (over, h.1) (each_below (a + suc k) (a + 1 + k) (m ∷ ns) (omega arith) low) word d s)
 
 -- `InRow` of all numbers from a + 1 on, within k, gives `InRow` of those from a on, within k + 1
 row_more : (a k : ℕ) → ((ns : List ℕ) → InRow (a + 1) k ns) → (ns : List ℕ) → InRow a (suc k) ns
@@ -198,4 +198,4 @@ three_within low ns some h below s =
 -- numbers that never fall, within seven from `low` on, as a run that measures has in flight: modulo 8 they don't contain the
 -- word
 pub none_within : (low : ℕ) (ns : List ℕ) → 0 < low → Rising low ns → Each (λ n. n < low + 7) ns → IsSubsequence the_word (map (λ n. n % 8) ns) → ⊥
-none_within low ns some h below s = three_within low ns some h below (stands_front (6 ∷ 5 ∷ 4 ∷ []) (3 ∷ 2 ∷ 1 ∷ 0 ∷ 7 ∷ []) (map (λ n. n % 8) ns) s)
+none_within low ns some h below s = three_within low ns some h below (subword_front (6 ∷ 5 ∷ 4 ∷ []) (3 ∷ 2 ∷ 1 ∷ 0 ∷ 7 ∷ []) (map (λ n. n % 8) ns) s)

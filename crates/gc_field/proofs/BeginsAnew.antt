@@ -13,19 +13,19 @@ use Rattle.gc_station.specs.Parts.{Part, parts_of}
 use Rattle.gc_station.specs.Model.{Runs, after_all, opening}
 use Rattle.gc_links.specs.Acts.{Told}
 use Rattle.gc_field.specs.Begin.{begins}
-use Rattle.gc_field.specs.BeginsAnew.{IsAnsweredAnew, acts, anew, answer, commands, first, from, given_up, left, moves, moves_anew, plan, replies, runs, scope, seventh, turns}
+use Rattle.gc_field.specs.BeginsAnew.{IsAnsweredAnew, acts, acts_anew, answer, commands, first_reply, from, given_up, left, moves, moves_anew, plan, replies, runs, scope, seventh_reply, turns}
 use Rattle.gc_field.specs.Begun.{WasMadeOn}
-use Rattle.gc_field.specs.CountingChain.{before, null_replies, counting}
+use Rattle.gc_field.specs.CountingChain.{at_start, null_replies, counting}
 use Rattle.gc_field.specs.Field.{seen}
 use Rattle.gc_field.specs.Shown.{AreShownAs, shown}
-use Rattle.gc_field.specs.Witness.{at, begun_with, eight}
+use Rattle.gc_field.specs.Witness.{at, begun_with, eight_answered}
 use Rattle.gc_field.proofs.CountingChain.{counted, opens_counting}
 use Rattle.gc_field.proofs.Witness.{asked_each, one_part, part_of, run_on, units}
 
 -- what the turns of the second synchronization show to the station
 abbrev all_turns : List part.Turn
 all_turns =
-    part.Asks ∷ part.Hears first ∷ part.Hears seventh ∷ part.Asks ∷ part.Hears seventh ∷ part.Hears (codes "%R1P,0,5:0,38") ∷ asked_each (drop 1 replies)
+    part.Asks ∷ part.Hears first_reply ∷ part.Hears seventh_reply ∷ part.Asks ∷ part.Hears seventh_reply ∷ part.Hears (codes "%R1P,0,5:0,38") ∷ asked_each (drop 1 replies)
 
 -- the parts of the run: until the station resynchronizes, from there on, and the empty one after the end
 abbrev parts : List Part
@@ -39,7 +39,7 @@ unfolding is_elsewhere header_at reply_at digits
 parts_are = refl
 
 -- what the line does while the station begins at first shows these turns
-shown_are : shown counting eight (begins before) ≡ asked_each null_replies
+shown_are : shown counting eight_answered (begins at_start) ≡ asked_each null_replies
 unfolding is_elsewhere header_at reply_at digits
 shown_are = refl
 
@@ -56,10 +56,10 @@ given_up_runs =
     (tt, (refl, (tt, (refl, (tt, (refl, (tt, (refl, (tt, (refl, (tt, (refl, (tt, (refl, (tt, (tt, tt))))))))))))))))
 
 -- the acts from there on, if the station resynchronizes, are a run
-anew_runs : Runs plan commands (after_all plan commands (opening plan scope) given_up) anew
+anew_runs : Runs plan commands (after_all plan commands (opening plan scope) given_up) acts_anew
 unfolding is_elsewhere header_at reply_at digits
 anew_runs =
-    run_on plan commands (after_all plan commands (opening plan scope) given_up) (take 9 anew) (drop 9 anew)
+    run_on plan commands (after_all plan commands (opening plan scope) given_up) (take 9 acts_anew) (drop 9 acts_anew)
     (tt, (refl, (tt, (tt, (tt, (refl, (tt, (tt, (tt, tt)))))))))
     (refl, (tt, (tt, (refl, (tt, (tt, (refl, (tt, (tt, (refl, (tt, (tt, (refl, (tt, (tt, (refl, (tt, (tt, (refl, (tt, (tt, (refl, tt))))))))))))))))))))))
 
@@ -78,13 +78,13 @@ pub answered_anew : IsAnsweredAnew
 unfolding is_elsewhere header_at reply_at digits
 answered_anew =
     record {
-      is = counted.is;
+      instrument = counted.instrument;
       field =
           record {
-            runs = run_on plan commands (opening plan scope) given_up anew given_up_runs anew_runs;
+            runs = run_on plan commands (opening plan scope) given_up acts_anew given_up_runs anew_runs;
             lines = record { ids = tt; good = tt };
             none = λ h. h;
-            shown = subst (AreShownAs counting before runs) (sym parts_are) (shown_are, refl, (shown_anew, refl, (refl, refl, tt)));
+            shown = subst (AreShownAs counting at_start runs) (sym parts_are) (shown_are, refl, (shown_anew, refl, (refl, refl, tt)));
             possible = ((units 24, units 23), ((units 27, (tt, (tt, (tt, (tt, ((8, [], refl), tt)))))), ((tt, refl), tt)));
           };
       over = refl;

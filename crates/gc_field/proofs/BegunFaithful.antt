@@ -6,7 +6,7 @@ use Rattle.gc_catalogue.specs.declared.asked.Asked.{Asked}
 use Rattle.gc_catalogue.specs.declared.asked.Asked.TheVariants.{Table}
 use Rattle.gc_catalogue.specs.declared.call.Call.TheVariants.{NullProc}
 use Rattle.gc_catalogue.specs.Asked.{asked_line, is_of_table}
-use Rattle.gc_client.specs.OneForOne.{Wanted, Course, Step, Send, Hear, Expire, Restart, begun, course, goes, of_settled, of_pending, sent_on, settled_on}
+use Rattle.gc_client.specs.OneForOne.{Wanted, Course, Step, Send, Hear, Expire, Restart, begun, course, course_after, of_settled, of_pending, sent_on, settled_on}
 use Rattle.gc_client.specs.Rule.{ById, Sending, Settled, Settlement, expires, fresh, heard, hears, restarts, sends}
 use Rattle.gc_client.proofs.OneForOne.{one_for_one}
 use Rattle.gc_instrument.specs.State.{KeptReply}
@@ -56,7 +56,7 @@ behind_settled before old x y s h = record { sent = h.sent; settled = ap (λ l. 
 
 -- `Behind` is preserved by a step
 behind_step : (width : ℕ) (before : List (Wanted Asked)) (old : List (Settlement Asked)) (x y : Course Asked) (step : Step Asked) → Behind before old x y
-    → Behind before old (goes width x step) (goes width y step)
+    → Behind before old (course_after width x step) (course_after width y step)
 behind_step width before old x y (Send target call deadline) h =
     subst (λ c. Behind before old (sent_on x target call (sends width c target call deadline)) (sent_on y target call (sends width y.client target call deadline))) (sym h.client)
     (behind_send before old x y target call (sends width y.client target call deadline) h)
@@ -73,18 +73,18 @@ behind_all : (width : ℕ) (before : List (Wanted Asked)) (old : List (Settlemen
 behind_all width before old [] x y h = h
 behind_all width before old (step ∷ steps) x y h = behind_all width before old steps _ _ (behind_step width before old x y step h)
 
--- the course of a new client that has sent and settled the eight null procedures
-abbrev begun_course : Course Asked
-begun_course = record { sent = map of_sent nulls; settlements = nulls_settled; client = fresh }
+-- a course in which the eight null procedures were sent and settled, and whose client is new
+abbrev course_after_nulls : Course Asked
+course_after_nulls = record { sent = map of_sent nulls; settlements = nulls_settled; client = fresh }
 
--- `begun_course` is the course `begun` of a new client, with the null procedures before it
-begun_behind : Behind (map of_sent nulls) nulls_settled begun_course begun
+-- `course_after_nulls` is the course `begun` of a new client, with the null procedures before it
+begun_behind : Behind (map of_sent nulls) nulls_settled course_after_nulls begun
 begun_behind = record { sent = refl; settled = refl; client = refl }
 
 -- Numbers.
 
 module _ {Line : Type 0} where
-  -- these lines, each with the number of the eighth null procedure
+  -- these lines, each with the number of the eighth null procedure, 7
   abbrev pub of_last : List Line → List (Numbered Line)
   of_last xs = map (λ x. record { number = 7; line = x }) xs
 
@@ -97,6 +97,10 @@ module _ {Line : Type 0} where
   pub each_last : (P : Numbered Line → Type 0) (Q : Line → Type 0) → ((x : Line) → Q x → P (record { number = 7; line = x })) → (xs : List Line) → Each Q xs → Each P (of_last xs)
   each_last P Q f [] h = tt
   each_last P Q f (x ∷ xs) h = (f x h.0, each_last P Q f xs h.1)
+
+-- an empty list has nothing at any place
+pub none_at : (j n : ℕ) → slice_get [] j ≡ Some n → ⊥
+none_at j n e = cc
 
 -- the numbers of two lists of lines that all have number 7 never fall
 rising_both : {A B : Type 0} (xs : List A) (ys : List B) → Rising 8 (numbers (of_last xs) ++ numbers (of_last ys))
@@ -112,8 +116,8 @@ module _ {State : Type 0} (ends : Ends State) (Good : State → Type 0) (kept : 
   pub sent_is : (u : UnderWay State) (ms : List (Move State)) → ArePossible ends Good kept (by_ids width ends) ms (ids_begun u)
       → map of_sent (behind width ends u ms).wire.sent ≡ map of_sent nulls ++ (course width begun (seen ms)).sent
   sent_is u ms p =
-      let one = same_all width ends keeper.hears Good kept ms begun_course (ids_begun u) p (record { sent = refl; settled = refl; client = refl }) in
-      sym one.sent ∙ (behind_all width (map of_sent nulls) nulls_settled (seen ms) begun_course begun begun_behind).sent
+      let one = same_all width ends keeper.hears Good kept ms course_after_nulls (ids_begun u) p (record { sent = refl; settled = refl; client = refl }) in
+      sym one.sent ∙ (behind_all width (map of_sent nulls) nulls_settled (seen ms) course_after_nulls begun begun_behind).sent
 
   module _ (u : UnderWay State) (clean : IsClean Good kept u) where
     -- after a clean synchronization the world of the client that is given numbers is `Sound`
@@ -138,10 +142,6 @@ module _ {State : Type 0} (ends : Ends State) (Good : State → Type 0) (kept : 
     pub both_begun : Both width narrow ends Good ex kept (ids_begun u) (numbers_begun u)
     both_begun = record { agree = record { wire = refl; client = record { window = refl; next = refl } }; sound = sound_begun }
 
-    -- an empty list has nothing at any place
-    never : (j n : ℕ) → slice_get [] j ≡ Some n → ⊥
-    never j n e = cc
-
     -- the eighth null procedure is among the requests of a synchronization, with the number 7
     line_is : (x : Request) → x ≡ eighth → IsOf written nulls (record { number = 7; line = x })
     line_is x e = record {
@@ -153,18 +153,18 @@ module _ {State : Type 0} (ends : Ends State) (Good : State → Type 0) (kept : 
     }
 
     module _ (knows : Asked → Bool) (is : IsAnInstrumentFor ends Good kept knows) (E : ℕ → Type 0) (early : (n : ℕ) → n < 8 → E n) (Plain : Type 0) (M : ℕ → Asked → List ℕ → Type 0) where
-      -- what is vouched for right after a synchronization: all of it is excepted
-      abbrev First : ℕ → List ℕ → Type 0
-      First n line = Vouched width narrow knows ends Good kept is 8 E Plain M nulls [] [] 7 n line
+      -- right after a synchronization the line is vouched for as the reply to request n, or request n is excepted (E)
+      abbrev IsVouchedAtStart : ℕ → List ℕ → Type 0
+      IsVouchedAtStart n line = Vouched width narrow knows ends Good kept is 8 E Plain M nulls [] [] 7 n line
 
-      -- each line of the eighth null procedure is
-      first_is : (line : List ℕ) → First 7 line
-      first_is line = (inl (omega arith), inl (early 7 (omega arith)))
+      -- each line that replies to the eighth null procedure is `IsVouchedAtStart`: that request is excepted
+      last_null_vouched : (line : List ℕ) → IsVouchedAtStart 7 line
+      last_null_vouched line = (inl (omega arith), inl (early 7 (omega arith)))
 
       -- after a clean synchronization, what the instrument retains, if anything, is the reply to the eighth null procedure
-      kept_begun : (k : Option KeptReply) → kept u.state ≡ k → KeptIs First 0 8 7 k
+      kept_begun : (k : Option KeptReply) → kept u.state ≡ k → KeptIs IsVouchedAtStart 0 8 7 k
       kept_begun None e = tt
-      kept_begun (Some k) e = record { number = 7; recent = omega arith; before = omega arith; behind = omega arith; id = clean.keeps k e; line = first_is k.line }
+      kept_begun (Some k) e = record { number = 7; recent = omega arith; before = omega arith; behind = omega arith; id = clean.keeps k e; line = last_null_vouched k.line }
 
       -- after a clean synchronization the invariant `AllVouched` of `Vouched` holds of the world of the client that is given numbers:
       -- each reply in flight was made for its request
@@ -183,11 +183,11 @@ module _ {State : Type 0} (ends : Ends State) (Good : State → Type 0) (kept : 
             holds = kept_begun (kept u.state) refl;
             lines = each_last (IsOf written nulls) (λ x. x ≡ eighth) line_is u.up clean.up;
             near = near;
-            coming = each_last (λ x. First x.number x.line) (λ line. heard line ≡ Some 7) (λ x e. first_is x) u.down clean.down;
+            coming = each_last (λ x. IsVouchedAtStart x.number x.line) (λ line. heard line ≡ Some 7) (λ x e. last_null_vouched x) u.down clean.down;
             answers = (tt, (tt, (tt, (tt, (tt, (tt, (tt, (tt, tt))))))));
-            order = record { order = λ i j m n lt a b. absurd (never j n b); below = tt };
+            order = record { order = λ i j m n lt a b. absurd (none_at j n b); below = tt };
             once = λ keeps k. record {
-              once = λ i j m n lt run a b. absurd (never j n b);
+              once = λ i j m n lt run a b. absurd (none_at j n b);
               below = tt;
               last = inr (record { idle = λ none. inl refl; same = clean.keeps });
             };
@@ -212,15 +212,15 @@ module _ {State : Type 0} (ends : Ends State) (Good : State → Type 0) (kept : 
           reply = ap (λ t. (ends.handed t x.line.id x.line.call).reply) (sym stands);
         }
 
-    -- nothing need be known of any request
+    -- `AreOn` holds of any moves with `AnyLine`, which every line meets
     any_on : (ms : List (Move State)) (b : World (ByNumber Asked) State) → AreOn width ends AnyLine ms b
     any_on ms b front later e x rest q exe = tt
 
     -- if all requests are known, each settlement of a client's request is its own
-    plain : (knows : Asked → Bool) → IsAnInstrumentFor ends Good kept knows → knows (Table NullProc) ≡ true → (ms : List (Move State)) → ArePossible ends Good kept (by_ids width ends) ms (ids_begun u)
-        → AsksOnly knows ms
+    own_if_all_known : (knows : Asked → Bool) → IsAnInstrumentFor ends Good kept knows → knows (Table NullProc) ≡ true → (ms : List (Move State))
+        → ArePossible ends Good kept (by_ids width ends) ms (ids_begun u) → AsksOnly knows ms
         → IsVouchedFor ends Good kept (λ n. n < 8) (λ n call line. WasMadeOn width ends u ms n call line) (moved ends (by_numbers width) ms (numbers_begun u)).wire
-    plain knows is null ms p asks =
+    own_if_all_known knows is null ms p asks =
         let M : ℕ → Asked → List ℕ → Type 0 = λ n call line. WasMadeOn width ends u ms n call line in
         let E : ℕ → Type 0 = λ n. n < 8 in
         let start = true_begun knows is E (λ n l. l) (Unit {0}) M (inl (tt, omega arith, (null, (null, (null, (null, (null, (null, (null, (null, tt)))))))))) in
@@ -248,7 +248,7 @@ module _ {State : Type 0} (ends : Ends State) (Good : State → Type 0) (kept : 
         let same : a.wire ≡ b.wire = both.agree.wire in
         let size : length b.wire.sent ≡ m = sym (ap (λ (w : Wire State). length w.sent) same) ∙ h.number in
         let none = true_of_none h.front before in
-        let near = near_the_table width narrow ends Good kept keeper 8 m b none (omega arith) size (subst (λ (w : Wire State). IsBehindTheTable w) same h.is) in
+        let near = near_the_table width narrow ends Good kept keeper 8 m b none (omega arith) size (subst (λ (w : Wire State). IsBehindTheTable w) same h.behind_table) in
         let one = renewed width narrow ends Good kept keeper 8 M m b both.sound none size near in
         let on = are_on_later width ends M h.front rest (numbers_begun u) (subst (λ l. AreOn width ends M l (numbers_begun u)) h.split (made_here ms p)) in
         let last = whole_all width narrow is_of_table ends Good ex kept keeper 8 (AllBut m) ⊥ M rest a b both
@@ -262,8 +262,8 @@ module _ {State : Type 0} (ends : Ends State) (Good : State → Type 0) (kept : 
     safe_own : (ms : List (Move State)) → ArePossible ends Good kept (by_ids width ends) ms (ids_begun u) → (m : ℕ) (s : Settlement Asked) → 8 ≤ m → IsSafe width ends u Good kept ms m
         → slice_get (moved ends (by_numbers width) ms (numbers_begun u)).wire.settled m ≡ Some s
         → IsOwn ends Good (λ n call line. WasMadeOn width ends u ms n call line) (moved ends (by_numbers width) ms (numbers_begun u)).wire m s
-    safe_own ms p m s ge (inl table) e = (plain is_of_table keeper refl ms p table).own m s (λ l. omega (arith, l, ge)) e
-    safe_own ms p m s ge (inr (inl alike)) e = (plain all_known (alike_is ends Good kept keeper alike) refl ms p (asks_all ms)).own m s (λ l. omega (arith, l, ge)) e
+    safe_own ms p m s ge (inl table) e = (own_if_all_known is_of_table keeper refl ms p table).own m s (λ l. omega (arith, l, ge)) e
+    safe_own ms p m s ge (inr (inl alike)) e = (own_if_all_known all_known (alike_is ends Good kept keeper alike) refl ms p (asks_all ms)).own m s (λ l. omega (arith, l, ge)) e
     safe_own ms p m s ge (inr (inr went)) e = (behind_own ms p m went).own m s (λ other. other refl) e
 
     -- moves after a clean synchronization are faithful
@@ -273,10 +273,10 @@ module _ {State : Type 0} (ends : Ends State) (Good : State → Type 0) (kept : 
         let b = moved ends (by_numbers width) ms (numbers_begun u) in
         let both = both_all width narrow ends Good ex kept ms (ids_begun u) (numbers_begun u) p both_begun in
         let same : a.wire ≡ b.wire = both.agree.wire in
-        let one = same_all width ends keeper.hears Good kept ms begun_course (ids_begun u) p (record { sent = refl; settled = refl; client = refl }) in
-        let x = course width begun_course (seen ms) in
+        let one = same_all width ends keeper.hears Good kept ms course_after_nulls (ids_begun u) p (record { sent = refl; settled = refl; client = refl }) in
+        let x = course width course_after_nulls (seen ms) in
         let y = course width begun (seen ms) in
-        let from = behind_all width (map of_sent nulls) nulls_settled (seen ms) begun_course begun begun_behind in
+        let from = behind_all width (map of_sent nulls) nulls_settled (seen ms) course_after_nulls begun begun_behind in
         let settlements : a.wire.settled ≡ nulls_settled ++ y.settlements = sym one.settled ∙ from.settled in
         let stands : y.client ≡ a.client = sym from.client ∙ one.client in
         let parts : map of_settled a.wire.settled ++ map of_pending a.client.waiting ≡ map of_sent a.wire.sent =

@@ -6,13 +6,13 @@ use Rattle.gc_client.specs.Rule.{heard}
 use Rattle.gc_instrument.specs.State.{KeptReply}
 use Rattle.gc_world.specs.Order.{Each}
 use Rattle.gc_field.specs.World.{Ends, Request}
-use Rattle.gc_field.specs.Begin.{Aged, AreLines, AreTurns, Model, UnderWay, begins, ids_under_way, leaves}
+use Rattle.gc_field.specs.Begin.{InFlight, IsWellFormed, AreTurns, Model, UnderWay, begins, ids_under_way, leaves}
 use Rattle.gc_field.specs.Beginnings.{AreFewKilled, AreOwn, AreRuns, ArePossibleIf, IsOwnIf, IsRow, Run, killed_if, left_by_run, left_if, on_line, after_turns}
 use Rattle.gc_field.specs.Begun.{HasBegunCleanly, IsClean, behind, eighth}
 use Rattle.gc_field.specs.Instrument.{IsAnInstrument}
 use Rattle.gc_field.proofs.BeginJoin.{begins_cleanly, left_absent, left_lines}
 use Rattle.gc_field.proofs.BeginLists.{goes_over}
-use Rattle.gc_field.proofs.BeginWords.{stands_front}
+use Rattle.gc_field.proofs.BeginWords.{subword_front}
 use Rattle.gc_field.proofs.BegunFaithful.{faithful}
 use Rattle.gc_field.proofs.BegunRows.{rows_have_not_three, runs_leave_rows, runs_leave_good}
 
@@ -31,16 +31,16 @@ short_row u h = record { more = 4 ∷ []; tail = 3 ∷ 2 ∷ 1 ∷ 0 ∷ 7 ∷ [
 
 -- the ids of what is `IsShort` don't contain the word
 pub short_word : {State : Type 0} (n : ℕ) (u : UnderWay State) → IsShort n u → IsSubsequence the_word (ids_under_way u) → ⊥
-short_word n u h s = h.none (stands_front (6 ∷ 5 ∷ h.more) h.tail (ids_under_way u) (subst (λ w. IsSubsequence w (ids_under_way u)) h.split s))
+short_word n u h s = h.none (subword_front (6 ∷ 5 ∷ h.more) h.tail (ids_under_way u) (subst (λ w. IsSubsequence w (ids_under_way u)) h.split s))
 
 module _ {State : Type 0} (ends : Ends State) (Good : State → Type 0) (kept : State → Option KeptReply) (is : IsAnInstrument ends Good kept) (width : ℕ) (narrow : width ≤ 7) where
   -- the requests that a clean synchronization leaves are copies of the eighth null procedure
-  clean_up : (xs : List (Aged Request)) → Each (λ x. (x.old ≡ false) × (x.line ≡ eighth)) xs → Each (λ x. x ≡ eighth) (map (λ x. x.line) xs)
+  clean_up : (xs : List (InFlight Request)) → Each (λ x. (x.old ≡ false) × (x.line ≡ eighth)) xs → Each (λ x. x ≡ eighth) (map (λ x. x.line) xs)
   clean_up [] h = tt
   clean_up (x ∷ xs) h = (h.0.1, clean_up xs h.1)
 
   -- the replies that a clean synchronization leaves are replies to the eighth null procedure
-  clean_down : (xs : List (Aged (List ℕ))) → Each (λ x. (x.old ≡ false) × (heard x.line ≡ Some 7)) xs → Each (λ line. heard line ≡ Some 7) (map (λ x. x.line) xs)
+  clean_down : (xs : List (InFlight (List ℕ))) → Each (λ x. (x.old ≡ false) × (heard x.line ≡ Some 7)) xs → Each (λ line. heard line ≡ Some 7) (map (λ x. x.line) xs)
   clean_down [] h = tt
   clean_down (x ∷ xs) h = (h.0.1, clean_down xs h.1)
 
@@ -50,8 +50,8 @@ module _ {State : Type 0} (ends : Ends State) (Good : State → Type 0) (kept : 
 
   -- where what is in flight is `IsShort` for n killed runs, and one more run is killed while it synchronizes, what that run
   -- leaves is `IsShort` for n + 1
-  short_killed : (n : ℕ) (u : UnderWay State) (r : Run State) → AreLines Good u → AreTurns ends Good kept r.turns (begins u) → n + 1 ≤ 5 → (tail : List ℕ)
-      → (h : IsShort n u) → h.tail ≡ tail → IsShort (n + 1) (leaves (after_turns width ends u r))
+  short_killed : (n : ℕ) (u : UnderWay State) (r : Run State) → IsWellFormed Good u → AreTurns ends Good kept r.turns (begins u) → n + 1 ≤ 5 → (tail : List ℕ)
+      → (h : IsShort n u) → h.tail ≡ tail → IsShort (n + 1) (leaves (after_turns ends u r))
   short_killed n u r lines turns few [] h e = absurd (let size = h.few in let none : length h.tail ≡ 0 = ap length e in omega (arith, size, none, few))
   short_killed n u r lines turns few (c ∷ tail) h e =
       let split : the_word ≡ 6 ∷ 5 ∷ (h.more ++ c ∷ tail) = h.split ∙ ap (λ l. 6 ∷ 5 ∷ (h.more ++ l)) e in
@@ -66,16 +66,16 @@ module _ {State : Type 0} (ends : Ends State) (Good : State → Type 0) (kept : 
   -- what a run comes to, by the ids that are left of its word. If no id is left, it has synchronized cleanly, is faithful, and
   -- the count n of runs killed in a row starts again at 0. If ids are left, it was killed while it synchronized, and n is one
   -- more
-  pub record Goes (n : ℕ) (u : UnderWay State) (r : Run State) (left : List ℕ) : Type 0 where
-    pub own : IsOwnIf width ends Good kept left (after_turns width ends u r) r.moves
-    pub lines : AreLines Good (left_if width ends left (after_turns width ends u r) r.moves)
-    pub short : IsShort (killed_if width ends left n) (left_if width ends left (after_turns width ends u r) r.moves)
+  pub record RunResult (n : ℕ) (u : UnderWay State) (r : Run State) (left : List ℕ) : Type 0 where
+    pub own : IsOwnIf width ends Good kept left (after_turns ends u r) r.moves
+    pub lines : IsWellFormed Good (left_if width ends left (after_turns ends u r) r.moves)
+    pub short : IsShort (killed_if left n) (left_if width ends left (after_turns ends u r) r.moves)
 
-  -- each run comes to what `Goes` says
-  pub goes : (n : ℕ) (u : UnderWay State) (r : Run State) (left : List ℕ) → (after_turns width ends u r).left ≡ left → AreLines Good u → IsShort n u → AreTurns ends Good kept r.turns (begins u)
-      → ArePossibleIf width ends Good kept left (after_turns width ends u r) r.moves → killed_if width ends left n ≤ 5 → Goes n u r left
-  goes n u r [] e lines short turns p few =
-      let s = after_turns width ends u r in
+  -- each possible run has its `RunResult`, as long as at most five in a row are killed
+  pub run_result : (n : ℕ) (u : UnderWay State) (r : Run State) (left : List ℕ) → (after_turns ends u r).left ≡ left → IsWellFormed Good u → IsShort n u → AreTurns ends Good kept r.turns (begins u)
+      → ArePossibleIf width ends Good kept left (after_turns ends u r) r.moves → killed_if left n ≤ 5 → RunResult n u r left
+  run_result n u r [] e lines short turns p few =
+      let s = after_turns ends u r in
       let clean = begins_cleanly ends Good kept is u r.turns lines turns (short_word n u short) e in
       let good = (left_lines ends Good kept is u r.turns lines turns).good in
       let after = runs_leave_good ends Good kept is width narrow (leaves s) (clean_lines s good clean) r.moves p in
@@ -84,20 +84,21 @@ module _ {State : Type 0} (ends : Ends State) (Good : State → Type 0) (kept : 
         lines = record { ids = after.1; good = after.0 };
         short = short_row (on_line (behind width ends (leaves s) r.moves).wire) (runs_leave_rows ends Good kept is width narrow (leaves s) (clean_lines s good clean) r.moves p);
       }
-  goes n u r (asked ∷ rest) e lines short turns p few = record {
+  run_result n u r (asked ∷ rest) e lines short turns p few = record {
     own = tt;
     lines = left_lines ends Good kept is u r.turns lines turns;
     short = short_killed n u r lines turns few short.tail short refl;
   }
 
   -- runs one after the other have synchronized cleanly, and are faithful, as long as few are killed
-  all_own : (rs : List (Run State)) (n : ℕ) (u : UnderWay State) → AreLines Good u → IsShort n u → AreRuns width ends Good kept u rs → AreFewKilled width ends n u rs → AreOwn width ends Good kept u rs
+  all_own : (rs : List (Run State)) (n : ℕ) (u : UnderWay State) → IsWellFormed Good u → IsShort n u → AreRuns width ends Good kept u rs
+      → AreFewKilled width ends n u rs → AreOwn width ends Good kept u rs
   all_own [] n u lines short runs few = tt
   all_own (r ∷ rs) n u lines short runs few =
-      let one = goes n u r (after_turns width ends u r).left refl lines short runs.0.0 runs.0.1 few.0 in
-      (one.own, all_own rs (killed_if width ends (after_turns width ends u r).left n) (left_by_run width ends u r) one.lines one.short runs.1 few.1)
+      let one = run_result n u r (after_turns ends u r).left refl lines short runs.0.0 runs.0.1 few.0 in
+      (one.own, all_own rs (killed_if (after_turns ends u r).left n) (left_by_run width ends u r) one.lines one.short runs.1 few.1)
 
   -- runs one after the other are their own, after an `IsRow`, as long as few are killed while they synchronize
-  pub runs_are_their_own : (u : UnderWay State) → AreLines Good u → IsRow u → (rs : List (Run State)) → AreRuns width ends Good kept u rs
+  pub runs_are_their_own : (u : UnderWay State) → IsWellFormed Good u → IsRow u → (rs : List (Run State)) → AreRuns width ends Good kept u rs
       → AreFewKilled width ends 0 u rs → AreOwn width ends Good kept u rs
   runs_are_their_own u lines row rs runs few = all_own rs 0 u lines (short_row u row) runs few

@@ -1,6 +1,6 @@
 -- What is executed between two moves of a stretch, and what it makes of the instrument. A *stretch* is a run once it has
 -- synchronized: what is in flight then, and its moves. `Did` says of two wires, an earlier and a later one, what was executed
--- between them; `Goes` says it, too, and that the later wire is in order (`Refines`) as the earlier one was.
+-- between them; `Goes` says it, too, and that the later wire is `IsConsistent` as the earlier one was.
 use Rattle.std.proofs.Common.{◌≡◌, ℕ, ◌+◌, ◌≤◌, Bool, true, false, cond, List, [], ◌∷◌, ◌++◌, length, Option, Some, None, refl, sym, ◌∙◌, ap, subst, arith, append_assoc, append-nil, ltb}
 use Rattle.std.specs.Prelude.{slice_get}
 use Rattle.std.proofs.lemmas.List.{length-append}
@@ -134,18 +134,18 @@ module _ {State : Type 0} (ends : Ends State) where
 
   -- each request in flight is one that was sent, with its call; and no start had more executions before it than there are in
   -- all
-  pub record Refines (w : Wire State) : Type 0 where
+  pub record IsConsistent (w : Wire State) : Type 0 where
     pub known : Each (IsKnown w.sent) w.up
     pub begun : Each (λ s. s ≤ length w.executed) w.starts
 
-  -- what happened between two wires, and that the second one still `Refines`
+  -- what happened between two wires, and that the second one is `IsConsistent`, too
   record Goes (v w : Wire State) (quiet still : Type 0) : Type 0 where
     did : Did v w quiet still
-    stands : Refines w
+    stands : IsConsistent w
 
   -- if the lines in flight alone changed, `Goes` holds: nothing was executed
   goes_same : (v w : Wire State) (quiet still : Type 0) → w.executed ≡ v.executed → w.sent ≡ v.sent → w.starts ≡ v.starts → w.state ≡ v.state
-      → Each (IsKnown v.sent) w.up → Refines v → Goes v w quiet still
+      → Each (IsKnown v.sent) w.up → IsConsistent v → Goes v w quiet still
   goes_same v w quiet still executed sent starts state known k = record {
     did = did_same v w quiet still executed sent starts state;
     stands = record {
@@ -155,7 +155,7 @@ module _ {State : Type 0} (ends : Ends State) where
   }
 
   -- the front request reaches the instrument
-  module _ (v : Wire State) (x : Numbered Request) (rest : List (Numbered Request)) (quiet still : Type 0) (q : v.up ≡ x ∷ rest) (k : Refines v) where
+  module _ (v : Wire State) (x : Numbered Request) (rest : List (Numbered Request)) (quiet still : Type 0) (q : v.up ≡ x ∷ rest) (k : IsConsistent v) where
     -- the front request, and those after it, were sent
     known_here : IsKnown v.sent x × Each (IsKnown v.sent) rest
     known_here = subst (λ l. Each (IsKnown v.sent) l) q k.known
@@ -194,27 +194,27 @@ module _ {State : Type 0} (ends : Ends State) where
         reached_by hd hd.executed refl (λ e. made_one ends v.state x.line.id x.line.call e) (λ e. made_again ends v.state x.line.id x.line.call e)
 
   -- if the front request reaches the instrument, if one is in flight, `Goes` holds
-  goes_up : (v : Wire State) (quiet still : Type 0) (q : List (Numbered Request)) → v.up ≡ q → Refines v → Goes v (up_delivered ends v q) quiet still
+  goes_up : (v : Wire State) (quiet still : Type 0) (q : List (Numbered Request)) → v.up ≡ q → IsConsistent v → Goes v (up_delivered ends v q) quiet still
   goes_up v quiet still [] e k = goes_same v _ quiet still refl refl refl refl k.known k
   goes_up v quiet still (x ∷ rest) e k = reached v x rest quiet still e k
 
   -- if the requests in flight change, or stay, `Goes` holds
-  goes_with_up : (v : Wire State) (quiet still : Type 0) (up : List (Numbered Request)) (b : Bool) → Each (IsKnown v.sent) up → Refines v → Goes v (with_up v up b) quiet still
+  goes_with_up : (v : Wire State) (quiet still : Type 0) (up : List (Numbered Request)) (b : Bool) → Each (IsKnown v.sent) up → IsConsistent v → Goes v (with_up v up b) quiet still
   goes_with_up v quiet still up true known k = goes_same v _ quiet still refl refl refl refl known k
   goes_with_up v quiet still up false known k = goes_same v _ quiet still refl refl refl refl k.known k
 
   -- if the replies in flight change, or stay, `Goes` holds
-  goes_with_down : (v : Wire State) (quiet still : Type 0) (down : List (Numbered (List ℕ))) (b : Bool) → Refines v → Goes v (with_down v down b) quiet still
+  goes_with_down : (v : Wire State) (quiet still : Type 0) (down : List (Numbered (List ℕ))) (b : Bool) → IsConsistent v → Goes v (with_down v down b) quiet still
   goes_with_down v quiet still down true k = goes_same v _ quiet still refl refl refl refl k.known k
   goes_with_down v quiet still down false k = goes_same v _ quiet still refl refl refl refl k.known k
 
   -- if the front reply comes, `Goes` holds
-  goes_down : (w : World (ById Asked) State) (quiet still : Type 0) (q : List (Numbered (List ℕ))) → Refines w.wire → Goes w.wire (down_delivered (by_ids 7 ends) w q).wire quiet still
+  goes_down : (w : World (ById Asked) State) (quiet still : Type 0) (q : List (Numbered (List ℕ))) → IsConsistent w.wire → Goes w.wire (down_delivered (by_ids 7 ends) w q).wire quiet still
   goes_down w quiet still [] k = goes_same w.wire _ quiet still refl refl refl refl k.known k
   goes_down w quiet still (x ∷ rest) k = goes_same w.wire _ quiet still refl refl refl refl k.known k
 
   -- if a request is sent, or refused, `Goes` holds
-  goes_sent : (w : World (ById Asked) State) (quiet still : Type 0) (target : ℕ) (call : Asked) (o : Option (Sending (ById Asked))) → Refines w.wire
+  goes_sent : (w : World (ById Asked) State) (quiet still : Type 0) (target : ℕ) (call : Asked) (o : Option (Sending (ById Asked))) → IsConsistent w.wire
       → Goes w.wire (requested w target call o).wire quiet still
   goes_sent w quiet still target call None k = goes_same w.wire _ quiet still refl refl refl refl k.known k
   goes_sent w quiet still target call (Some x) k =
@@ -229,7 +229,7 @@ module _ {State : Type 0} (ends : Ends State) where
       }
 
   -- if a step of the line happens, `Goes` holds
-  goes_line : (w : World (ById Asked) State) (quiet still : Type 0) (step : Step) → IsOfLine step → Refines w.wire → Goes w.wire (happens ends (by_ids 7 ends) w step).wire quiet still
+  goes_line : (w : World (ById Asked) State) (quiet still : Type 0) (step : Step) → IsOfLine step → IsConsistent w.wire → Goes w.wire (happens ends (by_ids 7 ends) w step).wire quiet still
   goes_line w quiet still (Send target call deadline) p k = absurd p
   goes_line w quiet still Up_deliver p k = goes_up w.wire quiet still w.wire.up refl k
   goes_line w quiet still (Up_lose i) p k = goes_with_up w.wire quiet still (without i w.wire.up) (ltb i (length w.wire.up)) (each_without _ i w.wire.up k.known) k
@@ -267,14 +267,14 @@ module _ {State : Type 0} (ends : Ends State) where
   }
 
   -- if the instrument starts, `Goes` holds: the stretch is neither quiet nor still
-  goes_anew : (v : Wire State) → Refines v → Goes v (started ends v true) ⊥ ⊥
+  goes_anew : (v : Wire State) → IsConsistent v → Goes v (started ends v true) ⊥ ⊥
   goes_anew v k = record {
     did = did_none v (started ends v true) ⊥ ⊥ [] refl (sym (append-nil v.sent)) (λ e. absurd e) (λ e. absurd e);
     stands = record { known = k.known; begun = each_append (λ s. s ≤ length v.executed) v.starts (length v.executed ∷ []) k.begun (omega arith, tt) };
   }
 
   -- if the instrument's state changes by itself, `Goes` holds: the stretch isn't still
-  goes_changed : (v : Wire State) (quiet : Type 0) (state : State) → Refines v → Goes v (record v { state = state }) quiet ⊥
+  goes_changed : (v : Wire State) (quiet : Type 0) (state : State) → IsConsistent v → Goes v (record v { state = state }) quiet ⊥
   goes_changed v quiet state k = record {
     did = did_none v (record v { state = state }) quiet ⊥ [] refl (sym (append-nil v.sent)) (λ q. refl) (λ e. absurd e);
     stands = record { known = k.known; begun = k.begun };
@@ -282,7 +282,7 @@ module _ {State : Type 0} (ends : Ends State) where
 
   module _ (Good : State → Type 0) (kept : State → Option KeptReply) where
     -- `Goes` holds over any possible moves, quiet if the instrument doesn't start, and still if it isn't disturbed
-    goes_all : (ms : List (Move State)) (w : World (ById Asked) State) → ArePossible ends Good kept (by_ids 7 ends) ms w → Refines w.wire
+    goes_all : (ms : List (Move State)) (w : World (ById Asked) State) → ArePossible ends Good kept (by_ids 7 ends) ms w → IsConsistent w.wire
         → Goes w.wire (moved ends (by_ids 7 ends) ms w).wire (HasNoStartBetween ms) (IsUndisturbed ms)
     goes_all [] w p k = goes_same w.wire w.wire (Unit {0}) (Unit {0}) refl refl refl refl k.known k
     goes_all (Sends target call deadline ∷ ms) w p k =
@@ -308,17 +308,17 @@ module _ {State : Type 0} (ends : Ends State) where
     known_last : (x : Request) → x ≡ eighth → IsKnown nulls (record { number = 7; line = x })
     known_last x e = (record { target = 0; call = Table NullProc; line = asked_line (Some 7) (Table NullProc) }, refl, sym (ap (λ (r : Request). r.call) e))
 
-    -- after a clean synchronization the wire `Refines`
-    stands_begun : (u : UnderWay State) → IsClean Good kept u → Refines (ids_begun u).wire
-    stands_begun u clean = record { known = each_last (IsKnown nulls) (λ x. x ≡ eighth) known_last u.up clean.up; begun = tt }
+    -- after a clean synchronization the wire is `IsConsistent`
+    consistent_begun : (u : UnderWay State) → IsClean Good kept u → IsConsistent (ids_begun u).wire
+    consistent_begun u clean = record { known = each_last (IsKnown nulls) (λ x. x ≡ eighth) known_last u.up clean.up; begun = tt }
 
-    -- after a clean synchronization, and moves, the wire `Refines`
-    pub stands_all : (ms : List (Move State)) (u : UnderWay State) → IsClean Good kept u → ArePossible ends Good kept (by_ids 7 ends) ms (ids_begun u)
-        → Refines (moved ends (by_ids 7 ends) ms (ids_begun u)).wire
-    stands_all ms u clean p = (goes_all ms (ids_begun u) p (stands_begun u clean)).stands
+    -- after a clean synchronization, and moves, the wire is `IsConsistent`
+    pub consistent_all : (ms : List (Move State)) (u : UnderWay State) → IsClean Good kept u → ArePossible ends Good kept (by_ids 7 ends) ms (ids_begun u)
+        → IsConsistent (moved ends (by_ids 7 ends) ms (ids_begun u)).wire
+    consistent_all ms u clean p = (goes_all ms (ids_begun u) p (consistent_begun u clean)).stands
 
     -- `Did` holds over any possible moves, quiet if the instrument doesn't start, and still if it isn't disturbed
-    pub did_all : (ms : List (Move State)) (w : World (ById Asked) State) → ArePossible ends Good kept (by_ids 7 ends) ms w → Refines w.wire
+    pub did_all : (ms : List (Move State)) (w : World (ById Asked) State) → ArePossible ends Good kept (by_ids 7 ends) ms w → IsConsistent w.wire
         → Did w.wire (moved ends (by_ids 7 ends) ms w).wire (HasNoStartBetween ms) (IsUndisturbed ms)
     did_all ms w p k = (goes_all ms w p k).did
 

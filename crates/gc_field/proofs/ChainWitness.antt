@@ -11,7 +11,7 @@ use Rattle.gc_texts.specs.declared.tasks.Task.{Task}
 use Rattle.gc_station.specs.Links.{AreChained}
 use Rattle.gc_world.proofs.Options.{some_is}
 use Rattle.gc_field.specs.Plain.{plain_task}
-use Rattle.gc_field.specs.ChainWitness.{IsPointedInField, acts, before, commands, measures, moves, runs, scope}
+use Rattle.gc_field.specs.ChainWitness.{IsPointedInField, acts, at_start, commands, measures, moves, runs, scope}
 use Rattle.gc_field.specs.Pointing.{AreStill, turns_telescope}
 use Rattle.gc_field.proofs.Witness.{asked_each, fits, one_part, opens, run_on, units}
 use Rattle.gc_station.specs.Parts.{parts_of}
@@ -20,7 +20,7 @@ use Rattle.gc_field.specs.Field.{seen}
 use Rattle.gc_field.specs.Shown.{AreShownAs, shown}
 use Rattle.gc_field.specs.Simulator.{ends}
 use Rattle.gc_field.specs.Begin.{begins}
-use Rattle.gc_field.specs.Witness.{eight, plan, replies}
+use Rattle.gc_field.specs.Witness.{eight_answered, plan, replies}
 
 -- each command is chained to the one before it
 pub all_chained : AreChained commands 0 2
@@ -43,7 +43,7 @@ unfolding is_elsewhere header_at reply_at digits rounded
 parts_are = refl
 
 -- what the line does while the station synchronizes shows the null procedures and these replies
-shown_are : shown ends eight (begins before) ≡ asked_each replies
+shown_are : shown ends eight_answered (begins at_start) ≡ asked_each replies
 unfolding is_elsewhere header_at reply_at handed exec digits rounded
 shown_are = refl
 
@@ -59,7 +59,7 @@ chain =
                 (tt, (refl, (tt, (tt, (refl, (tt, (tt, (refl, (tt, (tt, (refl, tt)))))))))));
             lines = record { ids = tt; good = fits };
             none = λ h. h;
-            shown = subst (AreShownAs ends before runs) (sym parts_are) (shown_are, refl, (refl, refl, tt));
+            shown = subst (AreShownAs ends at_start runs) (sym parts_are) (shown_are, refl, (refl, refl, tt));
             possible = ((units 24, (tt, (tt, (tt, (tt, (tt, ((8, [], refl), (tt, (tt, (tt, (tt, ((9, [], refl), (tt, (tt, (tt, (tt, ((10, [], refl), tt))))))))))))))))), ((tt, refl), tt));
           };
       records = refl;

@@ -4,7 +4,6 @@
 -- then on the line. The *marks* of a part say for which command each of its requests is, in order.
 use Rattle.std.proofs.Common.{◌≡◌, ◌⊎◌, inl, inr, ℕ, zero, suc, ◌+◌, ◌-◌, ◌<◌, ◌≤◌, Bool, true, false, drop, length-drop, List, [], ◌∷◌, ◌++◌, length, map, Option, Some, refl, sym, ◌∙◌, ap, subst, arith, ltb}
 use Rattle.std.specs.Prelude.{slice_get}
-use Rattle.std.specs.List.{AllByRecursion}
 use Rattle.std.proofs.lemmas.Bool.{ltb-true, ltb-false}
 use Rattle.std.proofs.lemmas.List.{length-map}
 use Rattle.gc_catalogue.specs.declared.asked.Asked.{Asked}
@@ -19,13 +18,13 @@ use Rattle.gc_station.specs.declared.plan.Plan.{Plan}
 use Rattle.gc_links.specs.Acts.{Act}
 use Rattle.gc_station.specs.Answers.{answer_of}
 use Rattle.gc_station.specs.Parts as part
-use Rattle.gc_station.specs.Parts.{Part, AreOf, mark_of}
+use Rattle.gc_station.specs.Parts.{Part, MarksAsk, mark_of}
 use Rattle.gc_station.specs.Records.{Record}
 use Rattle.gc_station.specs.Runs.{state_after}
 use Rattle.gc_station.specs.Scopes.{Scope}
 use Rattle.gc_station.specs.Model.{Runs, opening}
 use Rattle.gc_station.proofs.Booking.{of_length}
-use Rattle.gc_station.proofs.Lists.{all_at, get_more}
+use Rattle.gc_station.proofs.Lists.{all_at, get_more, all_on, cons_head, cons_tail}
 use Rattle.gc_station.proofs.OnePart.{runs_front}
 use Rattle.gc_world.specs.Clients.{by_ids}
 use Rattle.gc_field.specs.World.{Ends, Up_deliver}
@@ -48,17 +47,9 @@ use Rattle.gc_field.proofs.Possible.{possible_front}
 use Rattle.gc_field.proofs.Among.{get_drop}
 use Rattle.gc_field.proofs.Joining.{AllFit, Fits, all_fitting, run_faithful, safe_at, safe_in}
 use Rattle.gc_field.proofs.Ordered.{executed_behind}
-use Rattle.gc_field.proofs.PartFronts.{IsFront, front_parts, front_last, AreWhole, LastIsMarked, marked, last_marked, whole_parts}
+use Rattle.gc_field.proofs.PartFronts.{IsFront, front_parts, front_last, AreWhole, LastIsMarked, last_marked, whole_parts}
 
 -- The stretches of a front.
-
--- the first elements of equal lists are equal
-cons_head : {A : Type 0} (x y : A) (xs ys : List A) → x ∷ xs ≡ y ∷ ys → x ≡ y
-cons_head x y xs ys e = cc
-
--- the rests of equal lists, after their first elements, are equal
-cons_tail : {A : Type 0} (x y : A) (xs ys : List A) → x ∷ xs ≡ y ∷ ys → xs ≡ ys
-cons_tail x y xs ys e = cc
 
 -- these moves are cut after those whose steps a client sees as `xs`
 record SplitSeen {State : Type 0} (ms : List (Move State)) (xs : List (step.Step Asked)) : Type 0 where
@@ -130,11 +121,11 @@ module _ {State : Type 0} (ends : Ends State) (Good : State → Type 0) (kept : 
 
   -- `Cut` of one part: the first run is cut after the moves that show the part's steps
   cut_one : (p : Part) (u : UnderWay State) (r : Run State) (rs : List (Run State)) → shown ends r.turns (begins u) ≡ p.turns → SplitSeen r.moves p.steps → AreTurns ends Good kept r.turns (begins u)
-      → ArePossibleIf 7 ends Good kept (stood_by 7 ends u r).left (stood_by 7 ends u r) r.moves → Cut (p ∷ []) u (r ∷ rs)
+      → ArePossibleIf 7 ends Good kept (stood_by ends u r).left (stood_by ends u r) r.moves → Cut (p ∷ []) u (r ∷ rs)
   cut_one p u r rs e x turns possible = record {
     runs = record { turns = r.turns; moves = x.front } ∷ [];
     shown = (e, x.steps, tt);
-    possible = ((turns, possible_cut (stood_by 7 ends u r).left (stood_by 7 ends u r) r.moves x.front x.later x.order possible), tt);
+    possible = ((turns, possible_cut (stood_by ends u r).left (stood_by ends u r) r.moves x.front x.later x.order possible), tt);
     last = λ i t v size a b. first_cut (record { from = from_of u r; moves = r.moves }) (stretches ends (left_by_run 7 ends u r) rs) x.front x.later x.order i t v (omega (arith, size)) a b;
   }
 
@@ -157,7 +148,7 @@ module _ {State : Type 0} (ends : Ends State) (Good : State → Type 0) (kept : 
 
   -- `Cut` is preserved if the run of a part is put before it
   cut_more : (p next : Part) (ps : List Part) (u : UnderWay State) (r : Run State) (rs : List (Run State)) → shown ends r.turns (begins u) ≡ p.turns → seen r.moves ≡ p.steps
-      → AreTurns ends Good kept r.turns (begins u) × ArePossibleIf 7 ends Good kept (stood_by 7 ends u r).left (stood_by 7 ends u r) r.moves
+      → AreTurns ends Good kept r.turns (begins u) × ArePossibleIf 7 ends Good kept (stood_by ends u r).left (stood_by ends u r) r.moves
       → Cut (next ∷ ps) (left_by_run 7 ends u r) rs → Cut (p ∷ next ∷ ps) u (r ∷ rs)
   cut_more p next ps u r rs e f good c = record {
     runs = r ∷ c.runs;
@@ -185,12 +176,7 @@ module _ {State : Type 0} (ends : Ends State) (Good : State → Type 0) (kept : 
 
 -- What is at a place.
 
--- where P implies Q, and all elements have P, all have Q
-pub all_so : {A : Type 0} (P Q : A → Type 0) → ((x : A) → P x → Q x) → (xs : List A) → AllByRecursion P xs → AllByRecursion Q xs
-all_so P Q f [] h = tt
-all_so P Q f (x ∷ xs) h = (f x h.0, all_so P Q f xs h.1)
-
--- what is at a place of the first of two lists in a row, if that has so many, is there in it
+-- an element of two lists in a row, at a place below the length of the first, is at that place of the first
 in_front_at : {A : Type 0} (xs ys : List A) (i : ℕ) (x : A) → i < length xs → slice_get (xs ++ ys) i ≡ Some x → slice_get xs i ≡ Some x
 in_front_at [] ys i x less e = absurd (omega (arith, less))
 in_front_at (y ∷ xs) ys zero x less e = e
@@ -207,11 +193,12 @@ fit_at ends Good kept is (q ∷ ps) (t ∷ ss) (suc i) p s h e f = fit_at ends G
 
 -- the requests of the stretch at a place are those of its part
 pub sent_at : {State : Type 0} (ends : Ends State) (commands : List Task) (ps : List Part) (ss : List (Stretch State)) (i : ℕ) (p : Part) (s : Stretch State)
-    → AreSentAs ends commands ps ss → slice_get ps i ≡ Some p → slice_get ss i ≡ Some s → AreOf commands p.marks (map asked (own_sent ends s))
+    → AreSentAs ends commands ps ss → slice_get ps i ≡ Some p → slice_get ss i ≡ Some s → MarksAsk commands p.marks (map asked (own_sent ends s))
 sent_at ends commands [] ss i p s h e f = absurd (none_is_not p e)
 sent_at ends commands (q ∷ ps) [] i p s h e f = absurd h
 sent_at ends commands (q ∷ ps) (t ∷ ss) zero p s h e f =
-    subst (λ (x : Part). AreOf commands x.marks (map asked (own_sent ends s))) (some_is q p e) (subst (λ (x : Stretch _). AreOf commands q.marks (map asked (own_sent ends x))) (some_is t s f) h.0)
+    subst (λ (x : Part). MarksAsk commands x.marks (map asked (own_sent ends s))) (some_is q p e)
+    (subst (λ (x : Stretch _). MarksAsk commands q.marks (map asked (own_sent ends x))) (some_is t s f) h.0)
 sent_at ends commands (q ∷ ps) (t ∷ ss) (suc i) p s h e f = sent_at ends commands ps ss i p s h.1 e f
 
 -- Pairs of numbers: a cycle and a place in it, or a part of the run and a request in it.
@@ -224,6 +211,7 @@ not_itself c p (inr l) = let less : p < p = l.1 in omega (arith, less)
 -- of two numbers one is smaller, or they are the same
 one_of : (x y : ℕ) → (x < y) ⊎ ((x ≡ y) ⊎ (y < x))
 one_of x y = by_test (ltb x y) (ltb y x) refl refl where
+  -- the lemma above, by whether x is below y (`b`), and y below x (`c`)
   by_test : (b c : Bool) → ltb x y ≡ b → ltb y x ≡ c → (x < y) ⊎ ((x ≡ y) ⊎ (y < x))
   by_test true c e f = inl (ltb-true x y e)
   by_test false true e f = inr (inr (ltb-true y x f))
@@ -258,8 +246,8 @@ within c p d q e r (inr a) (inr b) same = (b.0, a.1, b.1)
 
 module _ {State : Type 0} (ends : Ends State) (Good : State → Type 0) (kept : State → Option KeptReply) (is : IsAnInstrument ends Good kept)
     (stay : ChainsStay) (go_on : MarksGoOn) (records_stay : RecordsStay) (plan : Plan) (commands : List Task) (scope : Scope) where
-  -- where request m of part i is for the command of record r, which is of a cycle, and r has an answer that is its own, that answer is the one to
-  -- this request
+  -- where request m of part i is for the command of record r, which is of a cycle, and r has an answer that is its own, that answer
+  -- is the one to this request
   own_place : (acts : List Act) → Runs plan commands (opening plan scope) acts
       → (i m : ℕ) (part : Part) (expected : Expected) (r : Record) (ss : List (Stretch State)) (line : List ℕ) → slice_get (parts plan commands scope acts) i ≡ Some part
       → slice_get part.marks m ≡ Some (Some (mark_of expected r)) → 0 < r.cycle → (u : IsItsOwn ends Good kept commands (parts plan commands scope acts) ss r line)
@@ -394,6 +382,6 @@ module _ {State : Type 0} (ends : Ends State) (Good : State → Type 0) (kept : 
   pub chains_executed : (acts : List Act) (u : UnderWay State) (rs : List (Run State)) → IsInField ends Good kept plan commands scope acts u rs
       → AreExecutedInChain ends Good kept plan commands scope acts u rs
   chains_executed acts u rs h =
-      all_so (IsOwnAnswer ends Good kept commands (parts plan commands scope acts) (stretches ends u rs)) (IsExecutedInChain ends Good kept plan commands scope acts u rs)
-      (λ b own line a answered many low less chained. chained_to acts u rs h b line (own line answered) a many low less chained)
-      (state_after plan commands scope acts).records (run_faithful ends Good kept is plan commands scope acts u rs h).own
+      all_on (IsOwnAnswer ends Good kept commands (parts plan commands scope acts) (stretches ends u rs)) (IsExecutedInChain ends Good kept plan commands scope acts u rs)
+      (state_after plan commands scope acts).records
+      (λ b own line a answered many low less chained. chained_to acts u rs h b line (own line answered) a many low less chained) (run_faithful ends Good kept is plan commands scope acts u rs h).own

@@ -14,7 +14,7 @@ use Rattle.gc_texts.specs.declared.tasks.Task.{Task}
 use Rattle.gc_world.proofs.Options.{some_is}
 use Rattle.gc_field.specs.ChainWitness.{commands, points, reads_all, scope}
 use Rattle.gc_field.specs.Chains.{HasEffect}
-use Rattle.gc_field.specs.CountingChain.{Counter, IsCountedInField, acts, bare, before, null_replies, counted_or, counting, counts, first, kept_by, moves, runs, stretch, third}
+use Rattle.gc_field.specs.CountingChain.{Counter, IsCountedInField, acts, bare, at_start, null_replies, counted_or, counting, counts, first_reply, kept_by, moves, runs, stretch, third_reply}
 use Rattle.gc_field.specs.Instrument.{IsAnInstrument, KeepsItsReply, AnyState, all_known}
 use Rattle.gc_field.specs.Begun.{WasMadeOn}
 use Rattle.gc_field.specs.Needed.{Keeper, held, kept, value}
@@ -25,7 +25,7 @@ use Rattle.gc_station.specs.Model.{Runs, opening}
 use Rattle.gc_field.specs.Field.{seen}
 use Rattle.gc_field.specs.Shown.{AreShownAs, shown}
 use Rattle.gc_field.specs.Begin.{begins}
-use Rattle.gc_field.specs.Witness.{begun_with, eight, plan, plan_of}
+use Rattle.gc_field.specs.Witness.{begun_with, eight_answered, plan, plan_of}
 use Rattle.gc_field.proofs.Witness.{asked_each, one_part, run_on, units}
 use Rattle.gc_field.proofs.Once.{true_is_not}
 
@@ -65,8 +65,8 @@ unchanged s id (Some n) e = refl
 unchanged s id None e = absurd (true_is_not e)
 
 -- `counting` is an instrument
-is : IsAnInstrument counting AnyState kept_by
-is =
+counting_is : IsAnInstrument counting AnyState kept_by
+counting_is =
     record {
       hears = λ line. refl;
       replies = λ s id call good small. reads s id (held s.keeps id) small;
@@ -103,12 +103,12 @@ opens_counting width tasks reads =
     (tt, (refl, (tt, (refl, (tt, (tt, (refl, (tt, (tt, (refl, (tt, (tt, (refl, (tt, (tt, (refl, (tt, (tt, (refl, (tt, (tt, (refl, (tt, (tt, (refl, (tt, (tt, tt)))))))))))))))))))))))))))
 
 -- the first answer was made on executing the first command's request
-first_made : WasMadeOn WINDOW counting stretch.from moves 8 points first
+first_made : WasMadeOn WINDOW counting stretch.from moves 8 points first_reply
 unfolding is_elsewhere header_at reply_at digits
 first_made = record { front = take 3 moves; later = drop 4 moves; split = refl; id = 0; rest = []; reaches = refl; executed = refl; reply = refl }
 
 -- the third answer was made on executing the third command's request
-third_made : WasMadeOn WINDOW counting stretch.from moves 10 reads_all third
+third_made : WasMadeOn WINDOW counting stretch.from moves 10 reads_all third_reply
 unfolding is_elsewhere header_at reply_at digits
 third_made = record { front = take 13 moves; later = drop 14 moves; split = refl; id = 2; rest = []; reaches = refl; executed = refl; reply = refl }
 
@@ -118,7 +118,7 @@ unfolding is_elsewhere header_at reply_at digits
 parts_are = refl
 
 -- what the line does while the station synchronizes shows these turns
-shown_are : shown counting eight (begins before) ≡ asked_each null_replies
+shown_are : shown counting eight_answered (begins at_start) ≡ asked_each null_replies
 unfolding is_elsewhere header_at reply_at digits
 shown_are = refl
 
@@ -127,7 +127,7 @@ pub counted : IsCountedInField
 unfolding is_elsewhere header_at reply_at digits
 counted =
     record {
-      is = is;
+      instrument = counting_is;
       keeps = keeps_its;
       effect = effect;
       field =
@@ -137,7 +137,7 @@ counted =
                 (tt, (refl, (tt, (tt, (refl, (tt, (tt, (refl, (tt, (tt, (refl, tt)))))))))));
             lines = record { ids = tt; good = tt };
             none = λ h. h;
-            shown = subst (AreShownAs counting before runs) (sym parts_are) (shown_are, refl, (refl, refl, tt));
+            shown = subst (AreShownAs counting at_start runs) (sym parts_are) (shown_are, refl, (refl, refl, tt));
             possible = ((units 24, (tt, (tt, (tt, (tt, (tt, ((8, [], refl), (tt, (tt, (tt, (tt, ((9, [], refl), (tt, (tt, (tt, (tt, ((10, [], refl), tt))))))))))))))))), ((tt, refl), tt));
           };
       records = refl;

@@ -22,8 +22,8 @@ use Rattle.gc_field.proofs.Witness.{asked_each, one_part, run_on, units}
 use Rattle.gc_field.proofs.Once.{true_is_not}
 
 -- `drifting` is an instrument
-is : IsAnInstrument drifting AnyState nothing
-is =
+drifting_is : IsAnInstrument drifting AnyState nothing
+drifting_is =
     record {
       hears = λ line. refl;
       replies = λ s id call good small. ap id_in (reply_back (record { rc_com = 0; id = Some id; rc = 0; params = decimal s }) (record { rc_com = lit< tt; id = small; rc = lit< tt }));
@@ -55,7 +55,7 @@ module _ (raw : RawCall) where
   unfolding is_elsewhere header_at reply_at digits
   answered =
       record {
-        is = is;
+        instrument = drifting_is;
         field =
             record {
               runs =

@@ -31,7 +31,7 @@ module _ {State : Type 0} (ends : Ends State) (same_heard : (line : List ℕ) �
 
   -- the reply to each request that is executed at one of these moves was made on executing it, by `WasMadeOn`
   made_here : (state : State) → Good state → (ms : List (Move State)) → ArePossible ends Good kept (by_ids width ends) ms (ids_open state)
-      → AreOn width ends (λ n call line. WasMadeOn width ends state ms n call line) ms (numbers_open state)
+      → AreOn width ends (λ n call line. WasMadeOn width ends (ids_open state) ms n call line) ms (numbers_open state)
   made_here state good ms p front later e x rest q exe =
       let p' = possible_front width ends Good kept front (OnLine Up_deliver ∷ later) (ids_open state) (subst (λ l. ArePossible ends Good kept (by_ids width ends) l (ids_open state)) e p) in
       let same : (moved ends (by_ids width ends) front (ids_open state)).wire ≡ (moved ends (by_numbers width) front (numbers_open state)).wire =
@@ -64,7 +64,7 @@ module _ {State : Type 0} (ends : Ends State) (same_heard : (line : List ℕ) �
       ∙ one_for_one width (seen ms)
       ∙ one.sent in
       let pairs = settled.one_for_one a.wire.settled a.client.waiting a.wire.sent parts in
-      let M : ℕ → Asked → List ℕ → Type 0 = λ n call line. WasMadeOn width ends state ms n call line in
+      let M : ℕ → Asked → List ℕ → Type 0 = λ n call line. WasMadeOn width ends (ids_open state) ms n call line in
       let all = subst (λ (w : Wire State). IsVouchedFor ends Good kept (λ n. n < 1) M w) (sym same)
       (vouched_at width narrow is_of_table ends Good ex kept keeper (λ n. n < 1) (omega arith) M ms state good p table l (made_here state good ms p)) in
       let own : (m : ℕ) (s : Settlement Asked) → 0 < m → slice_get a.wire.settled m ≡ Some s → IsOwn ends Good M a.wire m s = λ m s gt e. all.own m s (λ l. omega (arith, l, gt)) e in

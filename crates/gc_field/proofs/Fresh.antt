@@ -12,7 +12,7 @@ use Rattle.gc_world.proofs.Sound.{Sound}
 use Rattle.gc_field.specs.Begun.{IsBehindTheTable, IsByReply}
 use Rattle.gc_field.specs.Field.{Move, Sends, Tells, Comes, Foreign, OnLine, Anew, Changes, Joins, AsksOnly, moves, moved}
 use Rattle.gc_field.specs.Instrument.{IsAnInstrument, all_known}
-use Rattle.gc_field.proofs.Answered.{AllSo, IsSo, all_so_get}
+use Rattle.gc_field.proofs.Answered.{HoldsOfAll, HoldsOfOutcome, all_so_get}
 use Rattle.gc_field.proofs.BeginLists.{each_both}
 use Rattle.gc_field.proofs.Once.{known_not}
 use Rattle.gc_field.proofs.KeptReplies.{IsDealt, KeptIs}
@@ -36,16 +36,16 @@ pub numbers_append : {State : Type 0} (width : ℕ) (ends : Ends State) (front l
 numbers_append width ends [] later b = refl
 numbers_append width ends (m ∷ front) later b = numbers_append width ends front later (moves ends (by_numbers width) b m)
 
--- `IsSo` of one property gives `IsSo` of another, if the one gives the other of this number
-so_at : (P Q : ℕ → List ℕ → Type 0) (n : ℕ) (o : Outcome) → ((line : List ℕ) → P n line → Q n line) → IsSo P n o → IsSo Q n o
+-- `HoldsOfOutcome` of one property gives `HoldsOfOutcome` of another, if the one gives the other of this number
+so_at : (P Q : ℕ → List ℕ → Type 0) (n : ℕ) (o : Outcome) → ((line : List ℕ) → P n line → Q n line) → HoldsOfOutcome P n o → HoldsOfOutcome Q n o
 so_at P Q n (Answered line) f h = f line h
 so_at P Q n Late f h = (h.0, f h.0 h.1)
 so_at P Q n Lost f h = tt
 
--- `AllSo` of one property gives `AllSo` of another, if the one gives the other of each number below `top`, and no settlement
--- has another number
+-- `HoldsOfAll` of one property gives `HoldsOfAll` of another, if the one gives the other for each number below `top`, and all
+-- settlements have such numbers
 all_so_below : (P Q : ℕ → List ℕ → Type 0) (top : ℕ) → ((n : ℕ) (line : List ℕ) → n < top → P n line → Q n line) → (n : ℕ) (ss : List (Settlement Asked)) → n + length ss ≤ top
-    → AllSo P n ss → AllSo Q n ss
+    → HoldsOfAll P n ss → HoldsOfAll Q n ss
 all_so_below P Q top f n [] low h = tt
 all_so_below P Q top f n (s ∷ ss) low h =
     (so_at P Q n s.outcome (λ line p. f n line (omega (arith, low)) p) h.0, all_so_below P Q top f (n + 1) ss (omega (arith, low)) h.1)
@@ -78,8 +78,8 @@ module _ {State : Type 0} (width : ℕ) (narrow : width ≤ 7) (ends : Ends Stat
   abbrev pub TrueOfOne : (ℕ → Asked → List ℕ → Type 0) → ℕ → World (ByNumber Asked) State → Type 0
   TrueOfOne M m w = AllVouched width narrow is_of_table ends Good kept keeper low (AllBut m) ⊥ M w
 
-  -- before request m is sent, nothing is of it: so `AllVouched` holds with all requests excepted but m, if m is near the last call of
-  -- the table
+  -- before request m is sent, nothing is of it: so `AllVouched` holds with all requests excepted but m, if m is near the last
+  -- call of the table
   pub renewed : (M : ℕ → Asked → List ℕ → Type 0) (m : ℕ) (w : World (ByNumber Asked) State) → Sound width ends Good w → (t : TrueOfNone w) → length w.wire.sent ≡ m → m ≤ t.table + 7
       → TrueOfOne M m w
   renewed M m w s t size near =
@@ -109,13 +109,14 @@ module _ {State : Type 0} (width : ℕ) (narrow : width ≤ 7) (ends : Ends Stat
       -- a request is another one than m, or near the last call of the table
       is_near : (n : ℕ) → m ≤ t.table + 7 → AllBut m n ⊎ (n ≤ t.table + 7)
       is_near n near = by_case (ltb n m) (ltb m n) refl refl where
+        -- the lemma above, by whether n is below m (`a`), and m below n (`b`)
         by_case : (a b : Bool) → ltb n m ≡ a → ltb m n ≡ b → AllBut m n ⊎ (n ≤ t.table + 7)
         by_case true b e f = let l : n < m = ltb-true n m e in inl (λ same. omega (arith, same, l))
         by_case false true e f = let l : m < n = ltb-true m n f in inl (λ same. omega (arith, same, l))
         by_case false false e f = let l : n ≤ m = ltb-false m n f in inr (omega (arith, l, near))
 
   -- a settlement by a reply is of a request that the instrument was handed
-  dealt_of : (P : ℕ → List ℕ → Type 0) (D : Type 0) (n : ℕ) (o : Outcome) → ((line : List ℕ) → P n line → D) → IsByReply o → IsSo P n o → D
+  dealt_of : (P : ℕ → List ℕ → Type 0) (D : Type 0) (n : ℕ) (o : Outcome) → ((line : List ℕ) → P n line → D) → IsByReply o → HoldsOfOutcome P n o → D
   dealt_of P D n (Answered line) f by h = f line h
   dealt_of P D n Late f by h = f h.0 h.1
   dealt_of P D n Lost f by h = absurd by
@@ -128,7 +129,7 @@ module _ {State : Type 0} (width : ℕ) (narrow : width ≤ 7) (ends : Ends Stat
         | inr e ↦ (
             let P : ℕ → List ℕ → Type 0 = λ n line. Vouched width narrow is_of_table ends Good kept keeper low EachOne ⊥ AnyLine w.wire.sent w.wire.executed w.wire.made t.table n line in
             let i : 0 + is.0 ≡ is.0 = omega arith in
-            let so : IsSo P is.0 e.1.outcome = subst (λ k. IsSo P k e.1.outcome) i (all_so_get P 0 w.wire.settled is.0 e.1 t.answers e.4) in
+            let so : HoldsOfOutcome P is.0 e.1.outcome = subst (λ k. HoldsOfOutcome P k e.1.outcome) i (all_so_get P 0 w.wire.settled is.0 e.1 t.answers e.4) in
             let dealt : IsDealt is_of_table w.wire.sent t.table is.0 = dealt_of P (IsDealt is_of_table w.wire.sent t.table is.0) is.0 e.1.outcome (λ line p. p.0) e.5 so in
             elim dealt [
               | inl le ↦ omega (arith, le, size, is.2)

@@ -34,6 +34,7 @@ use Rattle.gc_catalogue.proofs.Joining.{params_of-cons}
 use Rattle.gc_catalogue.proofs.Table.{number_fits}
 use Rattle.gc_instrument.specs.Laws.{HasNoRequest}
 use Rattle.gc_field.specs.Fronts.{request_bytes, IsWholeOrNothing}
+use Rattle.gc_station.proofs.Lists.{all_append, all_drop, all_on}
 
 -- Bytes above the sign that begins a request.
 
@@ -41,27 +42,11 @@ use Rattle.gc_field.specs.Fronts.{request_bytes, IsWholeOrNothing}
 abbrev pub AreAbove : List ℕ → Type 0
 AreAbove bytes = AllByRecursion (λ b. 37 < b) bytes
 
--- if each byte of two lists has a property, so has each byte of the joined list
-pub joined : (P : ℕ → Type 0) (xs ys : List ℕ) → AllByRecursion P xs → AllByRecursion P ys → AllByRecursion P (xs ++ ys)
-joined P [] ys h k = k
-joined P (x ∷ xs) ys h k = (h.0, joined P xs ys h.1 k)
-
--- what holds of all bytes holds of those after the first k
-dropped : (P : ℕ → Type 0) (k : ℕ) (xs : List ℕ) → AllByRecursion P xs → AllByRecursion P (drop k xs)
-dropped P zero xs h = h
-dropped P (suc k) [] h = tt
-dropped P (suc k) (x ∷ xs) h = dropped P k xs h.1
-
 -- what holds of all bytes holds of the first k
 pub taken : (P : ℕ → Type 0) (k : ℕ) (xs : List ℕ) → AllByRecursion P xs → AllByRecursion P (take k xs)
 taken P zero xs h = tt
 taken P (suc k) [] h = tt
 taken P (suc k) (x ∷ xs) h = (h.0, taken P k xs h.1)
-
--- where P implies Q for any byte, and each byte of a list has P, each has Q
-weaker : (P Q : ℕ → Type 0) (f : (b : ℕ) → P b → Q b) (xs : List ℕ) → AllByRecursion P xs → AllByRecursion Q xs
-weaker P Q f [] h = tt
-weaker P Q f (x ∷ xs) h = (f x h.0, weaker P Q f xs h.1)
 
 -- bytes that are digits, by `AreDigits`, are above the sign with which each request begins
 above_digits : (ds : List ℕ) → AreDigits ds → AreAbove ds
@@ -84,14 +69,14 @@ above_whole n = above_digits (whole_text n) (writes_whole n).digits
 
 -- the text of a whole number, with its minus, is above `%`
 above_signed : (z : ℤ) → AreAbove (signed_text z)
-above_signed z = joined (λ b. 37 < b) (minus_text z) (whole_text (unsigned_abs z)) (above_minus z) (above_whole (unsigned_abs z))
+above_signed z = all_append (λ b. 37 < b) (minus_text z) (whole_text (unsigned_abs z)) (above_minus z) (above_whole (unsigned_abs z))
 
 -- the text of a decimal, with its minus, is above `%`
 above_written : (m : ℤ) (s : ℕ) → AreAbove (written m s)
 above_written m s =
     let n = unsigned_abs m in
-    joined (λ b. 37 < b) (minus_text m) (whole_text (n / 10 ^ s) ++ (46 ∷ behind_text s (n % 10 ^ s))) (above_minus m)
-    (joined (λ b. 37 < b) (whole_text (n / 10 ^ s)) (46 ∷ behind_text s (n % 10 ^ s)) (above_whole (n / 10 ^ s)) (lit< tt, above_digits (behind_text s (n % 10 ^ s)) (is_fraction_text n s).digits))
+    all_append (λ b. 37 < b) (minus_text m) (whole_text (n / 10 ^ s) ++ (46 ∷ behind_text s (n % 10 ^ s))) (above_minus m)
+    (all_append (λ b. 37 < b) (whole_text (n / 10 ^ s)) (46 ∷ behind_text s (n % 10 ^ s)) (above_whole (n / 10 ^ s)) (lit< tt, above_digits (behind_text s (n % 10 ^ s)) (is_fraction_text n s).digits))
 
 -- a hexadecimal digit is above the sign
 above_digit : (d : ℕ) → d < 16 → 37 < slice_index lower_digits d
@@ -139,12 +124,12 @@ above_value (value.Text bytes) h g = absurd g
 -- the texts of values after commas are above the sign, if none of them is a text
 above_behind : (vs : List Value) → AreValues vs → AllByRecursion IsNoText vs → AreAbove (behind_commas vs)
 above_behind [] h g = tt
-above_behind (v ∷ vs) h g = joined (λ b. 37 < b) (44 ∷ text v) (behind_commas vs) (lit< tt, above_value v h.0 g.0) (above_behind vs h.1 g.1)
+above_behind (v ∷ vs) h g = all_append (λ b. 37 < b) (44 ∷ text v) (behind_commas vs) (lit< tt, above_value v h.0 g.0) (above_behind vs h.1 g.1)
 
 -- the texts of parameters are above the sign, if none of them is a text
 above_params : (vs : List Value) → AreValues vs → AllByRecursion IsNoText vs → AreAbove (params_of vs)
 above_params [] h g = tt
-above_params (v ∷ vs) h g = rw (params_of-cons v vs) (joined (λ b. 37 < b) (text v) (behind_commas vs) (above_value v h.0 g.0) (above_behind vs h.1 g.1))
+above_params (v ∷ vs) h g = rw (params_of-cons v vs) (all_append (λ b. 37 < b) (text v) (behind_commas vs) (above_value v h.0 g.0) (above_behind vs h.1 g.1))
 
 -- the text of an id is above the sign with which each request begins
 pub above_id : (id : Option ℕ) → AreAbove (id_text id)
@@ -167,9 +152,9 @@ above_body id call h =
           lit< tt,
           (
             lit< tt,
-            joined (λ b. 37 < b) (decimal n) (id_text (Some id) ++ 58 ∷ params_of (call_fields call).values)
+            all_append (λ b. 37 < b) (decimal n) (id_text (Some id) ++ 58 ∷ params_of (call_fields call).values)
                 (above_decimal_digits (decimal n) (decimal_is_IsNumeral n (let small = number_fits call in omega (arith, small))).0.1)
-                (joined (λ b. 37 < b) (id_text (Some id)) (58 ∷ params_of (call_fields call).values) (above_id (Some id)) (lit< tt, above_params (call_fields call).values h (no_text call))),
+                (all_append (λ b. 37 < b) (id_text (Some id)) (58 ∷ params_of (call_fields call).values) (above_id (Some id)) (lit< tt, above_params (call_fields call).values h (no_text call))),
           ),
         ),
       ),
@@ -184,6 +169,7 @@ lines_in frames = filter_map line_in frames
 -- a frame's line has the frame's bytes before the CR
 frame_line : (bytes line : List ℕ) → line_in (frame_of bytes) ≡ Some line → line ≡ take (length bytes - 1) bytes
 frame_line bytes line e = chosen (ends_in_return bytes) (ltb 512 (length bytes - 1)) e where
+  -- the lemma above, by whether the bytes end in a CR (`ends`), and are too many (`long`)
   chosen : (ends long : Bool) → line_in (cond ends (cond long Overlong (Line (record { items = take (length bytes - 1) bytes }))) Cleared) ≡ Some line → line ≡ take (length bytes - 1) bytes
   chosen false long e = let never : ⊥ = cc in absurd never
   chosen true true e = let never : ⊥ = cc in absurd never
@@ -212,8 +198,9 @@ unsigned_lines before (b ∷ bytes) h g =
     (framed IsNoRequest (frame_of before) (map frame_of (pieces_behind [] bytes))
     (λ line e. unsigned line (subst (λ l. AllByRecursion (λ b. b ≢ 37) l) (sym (frame_line before line e))
     (taken (λ b. b ≢ 37) (length before - 1) before h))) (unsigned_lines [] bytes tt g.1))
-    (unsigned_lines (before ++ b ∷ []) bytes (joined (λ b. b ≢ 37) before (b ∷ []) h (g.0, tt)) g.1)
+    (unsigned_lines (before ++ b ∷ []) bytes (all_append (λ b. b ≢ 37) before (b ∷ []) h (g.0, tt)) g.1)
   where
+    -- the lemma above, by whether the next byte ends a frame (`t`)
     chosen : (t : Bool) → AllByRecursion IsNoRequest (lines_in (map frame_of (before ∷ pieces_behind [] bytes)))
         → AllByRecursion IsNoRequest (lines_in (map frame_of (pieces_behind (before ++ b ∷ []) bytes)))
         → AllByRecursion IsNoRequest (lines_in (map frame_of (cond t (before ∷ pieces_behind [] bytes) (pieces_behind (before ++ b ∷ []) bytes))))
@@ -250,7 +237,7 @@ no_lines : (before bytes : List ℕ) → AllByRecursion (λ b. b ≢ 13) before 
 no_lines before [] h g = refl
 no_lines before (b ∷ bytes) h g =
     one_by_one (is_line_feed b) before (pieces_behind [] bytes) (pieces_behind (before ++ b ∷ []) bytes) (no_line before h) (no_lines [] bytes tt g.1)
-    (no_lines (before ++ b ∷ []) bytes (joined (λ b. b ≢ 13) before (b ∷ []) h (g.0, tt)) g.1)
+    (no_lines (before ++ b ∷ []) bytes (all_append (λ b. b ≢ 13) before (b ∷ []) h (g.0, tt)) g.1)
 
 -- the first n bytes of a list that has as many don't change if another list follows
 take_front : (xs ys : List ℕ) (n : ℕ) → n ≤ length xs → take n (xs ++ ys) ≡ take n xs
@@ -278,8 +265,8 @@ whole_or_nothing id call fits =
     record {
       front = λ count le. ap (λ l. lines (l ++ 10 ∷ [])) (take_front line (13 ∷ 10 ∷ []) count le)
           ∙ no_lines [] (take count line ++ 10 ∷ []) tt
-          (joined (λ b. b ≢ 13) (take count line) (10 ∷ []) (taken (λ b. b ≢ 13) count line
-          ((λ e. omega (arith, e)), weaker (λ b. 37 < b) (λ b. b ≢ 13) (λ b l e. omega (arith, l, e)) (body id call) above)) ((λ e. omega (arith, e)), tt));
+          (all_append (λ b. b ≢ 13) (take count line) (10 ∷ []) (taken (λ b. b ≢ 13) count line
+          ((λ e. omega (arith, e)), all_on (λ b. 37 < b) (λ b. b ≢ 13) (body id call) (λ b l e. omega (arith, l, e)) above)) ((λ e. omega (arith, e)), tt));
       whole = ap (λ n. take n (request_bytes id call) ++ 10 ∷ []) (let next : length line + 1 ≡ suc (length line) = omega arith in next)
           ∙ ap (λ l. l ++ 10 ∷ []) (take_one_more line (10 ∷ []) 13) ∙ behind_push line 13 10;
       tail = λ count some. tail_of above count some;
@@ -290,5 +277,5 @@ whole_or_nothing id call fits =
     tail_of above zero some = absurd (omega (arith, some))
     tail_of above (suc k) some =
         unsigned_lines [] (drop k (body id call ++ 13 ∷ 10 ∷ [])) tt
-        (dropped (λ b. b ≢ 37) k (body id call ++ 13 ∷ 10 ∷ []) (joined (λ b. b ≢ 37) (body id call) (13 ∷ 10 ∷ [])
-        (weaker (λ b. 37 < b) (λ b. b ≢ 37) (λ b l e. omega (arith, l, e)) (body id call) above) ((λ e. omega (arith, e)), ((λ e. omega (arith, e)), tt))))
+        (all_drop (λ b. b ≢ 37) k (body id call ++ 13 ∷ 10 ∷ []) (all_append (λ b. b ≢ 37) (body id call) (13 ∷ 10 ∷ [])
+        (all_on (λ b. 37 < b) (λ b. b ≢ 37) (body id call) (λ b l e. omega (arith, l, e)) above) ((λ e. omega (arith, e)), ((λ e. omega (arith, e)), tt))))

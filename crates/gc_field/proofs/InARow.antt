@@ -7,17 +7,17 @@ use Rattle.gc_client.specs.Beginning.{IsSubsequence}
 use Rattle.gc_client.specs.Rule.{heard}
 use Rattle.gc_instrument.specs.State.{KeptReply}
 use Rattle.gc_field.specs.World.{Ends, Request}
-use Rattle.gc_field.specs.Begin.{Aged, AreLines, AreTurns, Turn, UnderWay, begins, ids_under_way, leaves}
+use Rattle.gc_field.specs.Begin.{InFlight, IsWellFormed, AreTurns, Turn, UnderWay, begins, ids_under_way, leaves}
 use Rattle.gc_field.specs.Beginnings.{ArePossibleIf, AreRuns, IsRow, Run, left_by_run, after_turns}
 use Rattle.gc_field.specs.Field.{Move}
-use Rattle.gc_field.specs.InARow.{AreFaithful, AreFew, AreInARow, Program, killed_by, killed_over, left_over}
+use Rattle.gc_field.specs.InARow.{AreFaithful, AreFewKilledWithTurns, AreInARow, Program, killed_by, killed_over, left_over}
 use Rattle.gc_field.specs.Instrument.{IsAnInstrument}
 use Rattle.gc_field.proofs.BeginJoin.{left_lines}
-use Rattle.gc_field.proofs.BegunRuns.{IsShort, goes, short_row, short_word}
+use Rattle.gc_field.proofs.BegunRuns.{IsShort, run_result, short_row, short_word}
 use Rattle.gc_field.proofs.Joining.{run_faithful}
 
 -- lines that are marked as old, without the marks, are the same lines
-pub same_lines : {Line : Type 0} (xs : List Line) → map (λ (x : Aged Line). x.line) (map (λ x. record { old = true; line = x }) xs) ≡ xs
+pub same_lines : {Line : Type 0} (xs : List Line) → map (λ (x : InFlight Line). x.line) (map (λ x. record { old = true; line = x }) xs) ≡ xs
 same_lines [] = refl
 same_lines (x ∷ xs) = ap (λ l. x ∷ l) (same_lines xs)
 
@@ -30,31 +30,31 @@ module _ {State : Type 0} (ends : Ends State) (Good : State → Type 0) (kept : 
   abbrev run : List (Turn State) → List (Move State) → Run State
   run ts ms = record { turns = ts; moves = ms }
 
-  -- what one run of a station leaves in flight is `AreLines`, and `IsShort` by the number of runs in a row that were killed
+  -- what one run of a station leaves in flight is `IsWellFormed`, and `IsShort` by the number of runs in a row that were killed
   -- while they synchronized
-  step : (ts : List (Turn State)) (ms : List (Move State)) (n : ℕ) (u : UnderWay State) → AreLines Good u → IsShort n u → AreTurns ends Good kept ts (begins u)
-      → ArePossibleIf 7 ends Good kept (after_turns 7 ends u (run ts ms)).left (after_turns 7 ends u (run ts ms)) ms → killed_by ends n u (run ts ms) ts ≤ 5
-      → AreLines Good (left_by_run 7 ends u (run ts ms)) × IsShort (killed_by ends n u (run ts ms) ts) (left_by_run 7 ends u (run ts ms))
+  step : (ts : List (Turn State)) (ms : List (Move State)) (n : ℕ) (u : UnderWay State) → IsWellFormed Good u → IsShort n u → AreTurns ends Good kept ts (begins u)
+      → ArePossibleIf 7 ends Good kept (after_turns ends u (run ts ms)).left (after_turns ends u (run ts ms)) ms → killed_by ends n u (run ts ms) ts ≤ 5
+      → IsWellFormed Good (left_by_run 7 ends u (run ts ms)) × IsShort (killed_by ends n u (run ts ms) ts) (left_by_run 7 ends u (run ts ms))
   step [] ms n u lines short turns p few = (
     left_lines ends Good kept is u [] lines tt,
     record { more = short.more; tail = short.tail; split = short.split; few = short.few; none = λ s. short.none (subst (λ ids. IsSubsequence (6 ∷ 5 ∷ short.more) ids) (same_ids u) s) },
   )
   step (t ∷ ts) ms n u lines short turns p few =
       let r = run (t ∷ ts) ms in
-      let one = goes ends Good kept is 7 (omega arith) n u r (after_turns 7 ends u r).left refl lines short turns p few in
+      let one = run_result ends Good kept is 7 (omega arith) n u r (after_turns ends u r).left refl lines short turns p few in
       (one.lines, one.short)
 
-  -- what all runs of a station leave in flight is `AreLines`, and `IsShort` by the number of runs in a row that were killed
+  -- what all runs of a station leave in flight is `IsWellFormed`, and `IsShort` by the number of runs in a row that were killed
   -- while they synchronized
-  steps : (rs : List (Run State)) (n : ℕ) (u : UnderWay State) → AreLines Good u → IsShort n u → AreRuns 7 ends Good kept u rs → AreFew ends n u rs
-      → AreLines Good (left_over ends u rs) × IsShort (killed_over ends n u rs) (left_over ends u rs)
+  steps : (rs : List (Run State)) (n : ℕ) (u : UnderWay State) → IsWellFormed Good u → IsShort n u → AreRuns 7 ends Good kept u rs → AreFewKilledWithTurns ends n u rs
+      → IsWellFormed Good (left_over ends u rs) × IsShort (killed_over ends n u rs) (left_over ends u rs)
   steps [] n u lines short runs few = (lines, short)
   steps (r ∷ rs) n u lines short runs few =
       let one = step r.turns r.moves n u lines short runs.0.0 runs.0.1 few.0 in
       steps rs (killed_by ends n u r r.turns) (left_by_run 7 ends u r) one.0 one.1 runs.1 few.1
 
   -- stations one after the other are faithful
-  all : (xs : List (Program State)) (n : ℕ) (u : UnderWay State) → AreLines Good u → IsShort n u → AreInARow ends Good kept n u xs → AreFaithful ends Good kept u xs
+  all : (xs : List (Program State)) (n : ℕ) (u : UnderWay State) → IsWellFormed Good u → IsShort n u → AreInARow ends Good kept n u xs → AreFaithful ends Good kept u xs
   all [] n u lines short h = tt
   all (x ∷ xs) n u lines short h =
       let next = steps x.runs n u lines short h.0.possible h.0.few in (
@@ -63,5 +63,5 @@ module _ {State : Type 0} (ends : Ends State) (Good : State → Type 0) (kept : 
       )
 
   -- stations one after the other are faithful after an `IsRow`, as long as few are killed while they synchronize
-  pub in_a_row : (u : UnderWay State) → AreLines Good u → IsRow u → (xs : List (Program State)) → AreInARow ends Good kept 0 u xs → AreFaithful ends Good kept u xs
+  pub in_a_row : (u : UnderWay State) → IsWellFormed Good u → IsRow u → (xs : List (Program State)) → AreInARow ends Good kept 0 u xs → AreFaithful ends Good kept u xs
   in_a_row u lines row xs h = all xs 0 u lines (short_row u row) h

@@ -8,7 +8,7 @@ use Rattle.gc_catalogue.specs.declared.asked.Asked.{Asked}
 use Rattle.gc_client.specs.OneForOne as step
 use Rattle.gc_client.specs.OneForOne.{of_pending, of_settled, begun, course}
 use Rattle.gc_client.specs.declared.pending.Pending.{Pending}
-use Rattle.gc_client.specs.Rule.{ById, Settlement, id_send, met, pending_of, settle}
+use Rattle.gc_client.specs.Rule.{ById, Settlement, id_send, settled_by_line, pending_of, settle}
 use Rattle.gc_instrument.specs.State.{KeptReply}
 use Rattle.gc_station.proofs.Booking.{settled_by, client_after, settled_append, course_settled}
 use Rattle.gc_world.specs.Clients.{by_ids, by_numbers}
@@ -28,6 +28,8 @@ use Rattle.gc_field.proofs.Waits.{Waits, after_is, after_moves, get_last, waits_
 use Rattle.gc_field.proofs.Moving.{both_all}
 use Rattle.gc_field.proofs.BegunFaithful.{both_begun, faithful}
 use Rattle.gc_field.proofs.Unbegun.{faithful_none}
+use Rattle.gc_station.proofs.Lists.{get_more}
+use Rattle.gc_world.proofs.Options.{some_is}
 
 -- the client's steps among two lists of moves are those of the first and then those of the second
 seen_append : {State : Type 0} (front later : List (Move State)) → seen (front ++ later) ≡ seen front ++ seen later
@@ -43,24 +45,16 @@ seen_append (Joins line ∷ front) later = seen_append front later
 
 -- if a reply meets the request at place k of those that are outstanding, the settlement at place k is that of this request by
 -- the reply
-met_at : (k : ℕ) (line : List ℕ) (ps : List (Pending Asked)) → k < length ps → (p : Pending Asked) × (slice_get ps k ≡ Some p) × (slice_get (settle k line ps) k ≡ Some (met p line))
+met_at : (k : ℕ) (line : List ℕ) (ps : List (Pending Asked)) → k < length ps → (p : Pending Asked) × (slice_get ps k ≡ Some p) × (slice_get (settle k line ps) k ≡ Some (settled_by_line p line))
 met_at k line [] low = absurd (omega (arith, low))
 met_at zero line (p ∷ ps) low = (p, refl, refl)
 met_at (suc k) line (p ∷ ps) low = met_at k line ps (omega (arith, low))
 
 -- what is at place k of the second of three lists is at place length xs + k of the three joined
 get_between : (xs ys zs : List (Settlement Asked)) (n k : ℕ) (x : Settlement Asked) → n ≡ length xs + k → slice_get ys k ≡ Some x → slice_get ((xs ++ ys) ++ zs) n ≡ Some x
-get_between [] ys zs n k x e got = let same : k ≡ n = omega (arith, e) in subst (λ i. slice_get (ys ++ zs) i ≡ Some x) same (get_more ys k got) where
-  get_more : (ys : List (Settlement Asked)) (k : ℕ) → slice_get ys k ≡ Some x → slice_get (ys ++ zs) k ≡ Some x
-  get_more [] k got = cc
-  get_more (y ∷ ys) zero got = got
-  get_more (y ∷ ys) (suc k) got = get_more ys k got
+get_between [] ys zs n k x e got = let same : k ≡ n = omega (arith, e) in subst (λ i. slice_get (ys ++ zs) i ≡ Some x) same (get_more ys zs k x got)
 get_between (a ∷ xs) ys zs zero k x e got = absurd (omega (arith, e))
 get_between (a ∷ xs) ys zs (suc n) k x e got = get_between xs ys zs n k x (omega (arith, e)) got
-
--- two requests are equal where `Some` of the one equals `Some` of the other
-some_pending : (p q : Pending Asked) → Some p ≡ Some q → p ≡ q
-some_pending p q e = cc
 
 -- an empty list isn't one with an element
 cons_not : {A : Type 0} (xs ys : List A) (y : A) → xs ≡ [] → xs ≡ y ∷ ys → ⊥
@@ -145,7 +139,7 @@ module _ {State : Type 0} (ends : Ends State) (Good : State → Type 0) (kept : 
       (front later : List (Move State)) (line : List ℕ) (n : ℕ) (rest : List (Numbered (List ℕ))) → s.moves ≡ front ++ Comes line ∷ later
       → (behind 7 ends s.from front).wire.down ≡ record { number = n; line = line } ∷ rest → length (behind 7 ends s.from front).wire.settled ≤ n
       → (p : Pending Asked) × (slice_get (behind 7 ends s.from front).client.waiting (n - length (behind 7 ends s.from front).wire.settled) ≡ Some p)
-      × (slice_get (world ends s).wire.settled n ≡ Some (met p line))
+      × (slice_get (world ends s).wire.settled n ≡ Some (settled_by_line p line))
 
   -- a clean stretch with possible moves is `MetAt`
   meets : (s : Stretch State) → IsClean Good kept s.from → ArePossible ends Good kept (by_ids 7 ends) s.moves (ids_begun s.from) → MetAt s
@@ -160,7 +154,7 @@ module _ {State : Type 0} (ends : Ends State) (Good : State → Type 0) (kept : 
       ap (λ (v : World (ById Asked) State). v.wire.settled) (moved_append 7 ends front (Comes line ∷ []) (ids_begun s.from)) ∙ f.first_reply n line rest down le in (
         p.0,
         p.1,
-        ap (λ l. slice_get l n) (more.1 ∙ ap (λ l. l ++ more.0) here) ∙ get_between w.wire.settled (settle k line w.client.waiting) more.0 n k (met p.0 line) (omega (arith, le)) p.2,
+        ap (λ l. slice_get l n) (more.1 ∙ ap (λ l. l ++ more.0) here) ∙ get_between w.wire.settled (settle k line w.client.waiting) more.0 n k (settled_by_line p.0 line) (omega (arith, le)) p.2,
       )
 
   -- as many requests were sent as were settled and wait
@@ -201,8 +195,8 @@ module _ {State : Type 0} (ends : Ends State) (Good : State → Type 0) (kept : 
       let waits : Waits (behind 7 ends s.from front) n (after_moves p between) =
       subst (λ (v : World (ById Asked) State). Waits v n (after_moves p between)) (sym (moved_append 7 ends before (Sends target call deadline ∷ between) (ids_begun s.from)))
       (waits_all ends Good kept between (moves ends (by_ids 7 ends) w (Sends target call deadline)) n p possible.1 (sent_waits s.from before target call deadline f room)) in
-      let same : m.0 ≡ record p { given_up = times_out deadline between } = some_pending m.0 (record p { given_up = times_out deadline between }) (sym m.1 ∙ waits le ∙ ap Some (after_is p between)) in
-      m.2 ∙ ap (λ q. Some (met q line)) same
+      let same : m.0 ≡ record p { given_up = times_out deadline between } = some_is m.0 (record p { given_up = times_out deadline between }) (sym m.1 ∙ waits le ∙ ap Some (after_is p between)) in
+      m.2 ∙ ap (λ q. Some (settled_by_line q line)) same
 
   -- a sound stretch is in time
   pub in_time : (s : Stretch State) → Sound s → IsInTime ends s

@@ -54,6 +54,7 @@ alike_is e Good kept is alike =
 pub kept_own : (k : Option KeptReply) (id : ℕ) (line : List ℕ) → kept_line k (Some id) ≡ Some line → k ≡ Some (record { id = id; line = line })
 kept_own None id line e = let never : ⊥ = cc in absurd never
 kept_own (Some k) id line e = chosen (eqb k.id id) refl e where
+  -- the lemma above, by whether the line is kept with this id (`b`)
   chosen : (b : Bool) → eqb k.id id ≡ b → cond b (Some k.line) None ≡ Some line → Some k ≡ Some (record { id = id; line = line })
   chosen true t e = ap (λ i. Some (record { id = i; line = k.line })) (eqb-true k.id id t) ∙ ap (λ l. Some (record { id = id; line = l })) (some_is k.line line e)
   chosen false t e = let never : ⊥ = cc in absurd never
@@ -118,7 +119,7 @@ refused s id raw small =
 pub simulator : SimulatorIsAnInstrument
 simulator =
     record {
-      is =
+      instrument =
           record {
             hears = λ line. refl;
             replies = λ s id asked good small. asked_reads s id asked good small;

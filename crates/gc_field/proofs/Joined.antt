@@ -5,29 +5,17 @@ use Rattle.gc_lines.specs.Requests.{RequestFields, IsRequest}
 use Rattle.gc_catalogue.specs.Texts.{request_line}
 use Rattle.gc_instrument.proofs.Answering.{read_of}
 use Rattle.gc_field.specs.Fronts.{JoinedRequestsHaveTheFrontsId}
-use Rattle.gc_field.proofs.Fronts.{AreAbove, joined, taken, above_decimal_digits, above_id, body, above_body}
-
--- the first elements of equal lists are equal
-head : (x y : ℕ) (xs ys : List ℕ) → x ∷ xs ≡ y ∷ ys → x ≡ y
-head x y xs ys e = cc
-
--- the rests of equal lists, after their first elements, are equal
-tail : (x y : ℕ) (xs ys : List ℕ) → x ∷ xs ≡ y ∷ ys → xs ≡ ys
-tail x y xs ys e = cc
-
--- the first k elements of a list, and then the others, are the list
-take_drop : (k : ℕ) (xs : List ℕ) → take k xs ++ drop k xs ≡ xs
-take_drop zero xs = refl
-take_drop (suc k) [] = refl
-take_drop (suc k) (x ∷ xs) = ap (λ l. x ∷ l) (take_drop k xs)
+use Rattle.gc_field.proofs.Fronts.{AreAbove, taken, above_decimal_digits, above_id, body, above_body}
+use Rattle.gc_station.proofs.Lists.{all_append, cons_head, cons_tail}
+use Rattle.std.proofs.lemmas.List.{take-append-drop}
 
 -- where `xs`, and after it the sign `%`, begins with `ys`, and all bytes of both are above the sign, `xs` begins with `ys`
 split : (xs ys more p : List ℕ) → AreAbove xs → AreAbove ys → xs ++ 37 ∷ more ≡ ys ++ p → (rest : List ℕ) × (xs ≡ ys ++ rest)
 split xs [] more p h g e = (xs, refl)
-split [] (y ∷ ys) more p h g e = absurd (omega (arith, head 37 y more (ys ++ p) e, g.0))
+split [] (y ∷ ys) more p h g e = absurd (omega (arith, cons_head 37 y more (ys ++ p) e, g.0))
 split (x ∷ xs) (y ∷ ys) more p h g e =
-    let s = split xs ys more p h.1 g.1 (tail x y (xs ++ 37 ∷ more) (ys ++ p) e) in
-    (s.0, ap (λ z. z ∷ xs) (head x y (xs ++ 37 ∷ more) (ys ++ p) e) ∙ ap (λ l. y ∷ l) s.1)
+    let s = split xs ys more p h.1 g.1 (cons_tail x y (xs ++ 37 ∷ more) (ys ++ p) e) in
+    (s.0, ap (λ z. z ∷ xs) (cons_head x y (xs ++ 37 ∷ more) (ys ++ p) e) ∙ ap (λ l. y ∷ l) s.1)
 
 -- the front of a request and the next request, read as one line, have the front's id and procedure
 pub joined_requests : JoinedRequestsHaveTheFrontsId
@@ -43,9 +31,9 @@ joined_requests id call next behind (suc k) small fits some q is =
           lit< tt,
           (
             lit< tt,
-            joined
+            all_append
                 (λ b. 37 < b) number (id_text q.id ++ 58 ∷ []) (above_decimal_digits number is.is_number.digits)
-                (joined (λ b. 37 < b) (id_text q.id) (58 ∷ []) (above_id q.id) (lit< tt, tt)),
+                (all_append (λ b. 37 < b) (id_text q.id) (58 ∷ []) (above_id q.id) (lit< tt, tt)),
           ),
         ),
       ),
@@ -53,11 +41,11 @@ joined_requests id call next behind (suc k) small fits some q is =
     let whole : (params : List ℕ) → h ++ params ≡ 82 ∷ 49 ∷ 81 ∷ 44 ∷ (number ++ (id_text q.id ++ 58 ∷ params)) =
     λ params. ap (λ l. 82 ∷ 49 ∷ 81 ∷ 44 ∷ l) (append_assoc number (id_text q.id ++ 58 ∷ []) params ∙ ap (λ l. number ++ l) (append_assoc (id_text q.id) (58 ∷ []) params)) in
     let e : take k (body id call) ++ 37 ∷ body next behind ≡ h ++ q.params =
-    tail 37 37 (take k (body id call) ++ 37 ∷ body next behind) (82 ∷ 49 ∷ 81 ∷ 44 ∷ (number ++ (id_text q.id ++ 58 ∷ q.params))) is.whole
+    cons_tail 37 37 (take k (body id call) ++ 37 ∷ body next behind) (82 ∷ 49 ∷ 81 ∷ 44 ∷ (number ++ (id_text q.id ++ 58 ∷ q.params))) is.whole
     ∙ sym (whole q.params) in
     let s = split (take k (body id call)) h (body next behind) q.params (taken (λ b. 37 < b) k (body id call) (above_body id call fits)) above e in
     let params = s.0 ++ drop k (body id call) in
-    let own : body id call ≡ h ++ params = sym (take_drop k (body id call)) ∙ ap (λ l. l ++ drop k (body id call)) s.1 ∙ append_assoc h s.0 (drop k (body id call)) in
+    let own : body id call ≡ h ++ params = sym (take-append-drop k (body id call)) ∙ ap (λ l. l ++ drop k (body id call)) s.1 ∙ append_assoc h s.0 (drop k (body id call)) in
     let p : RequestFields = record { rpc = q.rpc; id = q.id; params = params } in
     let reads : IsRequest (request_line (Some id) call) p = record { number = number; is_number = is.is_number; is_id = is.is_id; whole = ap (λ l. 37 ∷ l) (own ∙ whole params) } in
     let same = read_of (request_line (Some id) call) p id call small fits refl reads in

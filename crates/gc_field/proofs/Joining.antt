@@ -22,14 +22,14 @@ use Rattle.gc_station.specs.Answers.{answer_of}
 use Rattle.gc_station.specs.Beginnings.{unanswered_after}
 use Rattle.gc_station.specs.Begun.{AreBegun, heard_in}
 use Rattle.gc_station.specs.Marks.{record_of, records_of}
-use Rattle.gc_station.specs.Parts.{Part, joined, AreOf, parts_of, went_out, sent_with, sent_of, timeless}
+use Rattle.gc_station.specs.Parts.{Part, joined, MarksAsk, parts_of, went_out, sent_with, sent_of, timeless}
 use Rattle.gc_station.specs.Records.{Record}
 use Rattle.gc_station.specs.Runs.{state_after}
 use Rattle.gc_station.specs.Model.{Model, opening}
 use Rattle.gc_station.proofs.Asked.{parts_begun}
 use Rattle.gc_station.proofs.GoesBehind.{behind_the_table}
 use Rattle.gc_station.proofs.Booking.{Books, client_after, settled_by, sent_by, settled_append, sent_append, course_settled, course_sent, course_client, of_at, all_records, restarting}
-use Rattle.gc_station.proofs.EachRun.{fine_opening, each_once}
+use Rattle.gc_station.proofs.EachRun.{invariant_opening, each_once}
 use Rattle.gc_station.proofs.Following.{BooksInParts, follows}
 use Rattle.gc_station.proofs.Meets.{was_answered, was_late}
 use Rattle.gc_station.proofs.Lists.{all_append}
@@ -39,7 +39,7 @@ use Rattle.gc_world.specs.Record.{IsReplyTo}
 use Rattle.gc_world.proofs.Options.{none_is_not, some_is}
 use Rattle.gc_world.proofs.Places.{below}
 use Rattle.gc_field.specs.World.{Ends}
-use Rattle.gc_field.specs.Begin.{AreLines, AreTurns, UnderWay, begins, ids_under_way, leaves, turned}
+use Rattle.gc_field.specs.Begin.{IsWellFormed, AreTurns, UnderWay, begins, ids_under_way, leaves, turned}
 use Rattle.gc_field.specs.Beginnings.{AreOwn, ArePossibleIf, AreRuns, IsOwnIf, Run, left_by_run, left_if, on_line}
 use Rattle.gc_field.specs.Beginnings.{after_turns as stood_by}
 use Rattle.gc_field.specs.Begun.{IsClean, IsFaithful, IsSafe, WasMadeOn, behind, ids_begun}
@@ -58,36 +58,37 @@ use Rattle.gc_field.proofs.Safe.{goes_out}
 use Rattle.gc_field.proofs.Shown.{left_is}
 use Rattle.gc_field.proofs.Unbegun.{faithful_none}
 use Rattle.gc_field.proofs.Timeless.{all_later, all_timeless, late_all_later, late_timeless}
-use Rattle.gc_field.proofs.Among.{among_settled, among_late, asked_at, get_drop, map_drop}
+use Rattle.gc_field.proofs.Among.{among_settled, among_late, asked_at, get_drop}
 use Rattle.gc_field.proofs.Once.{true_is_not}
+use Rattle.std.proofs.lemmas.List.{drop-map}
 
 module _ {State : Type 0} (ends : Ends State) (Good : State → Type 0) (kept : State → Option KeptReply) (is : IsAnInstrument ends Good kept) where
   -- One part.
 
-  -- what a run comes to, by the ids that are left of its word: if it has synchronized, it has synchronized cleanly; and its
-  -- stretch is sound and faithful
-  record One (u : UnderWay State) (r : Run State) (left : List ℕ) : Type 0 where
-    own : IsOwnIf 7 ends Good kept left (stood_by 7 ends u r) r.moves
+  -- what holds of a run, by the ids that are left of its word: if none is, it has synchronized cleanly; and its stretch is sound and
+  -- faithful
+  record IsSoundRun (u : UnderWay State) (r : Run State) (left : List ℕ) : Type 0 where
+    own : IsOwnIf 7 ends Good kept left (stood_by ends u r) r.moves
     sound : Sound ends Good kept is (record { from = leaves (turned ends r.turns (begins u)); moves = r.moves })
     faithful : IsFaithful 7 ends (leaves (turned ends r.turns (begins u))) r.moves Good kept
 
   -- a run that has synchronized over lines without the word in their ids has synchronized cleanly
-  begun_clean : (u : UnderWay State) (r : Run State) → AreLines Good u → (IsSubsequence the_word (ids_under_way u) → ⊥)
-      → AreTurns ends Good kept r.turns (begins u) → (stood_by 7 ends u r).left ≡ [] → IsClean Good kept (leaves (stood_by 7 ends u r))
+  begun_clean : (u : UnderWay State) (r : Run State) → IsWellFormed Good u → (IsSubsequence the_word (ids_under_way u) → ⊥)
+      → AreTurns ends Good kept r.turns (begins u) → (stood_by ends u r).left ≡ [] → IsClean Good kept (leaves (stood_by ends u r))
   begun_clean u r lines none turns e =
-      clean_lines ends Good kept is 7 (omega arith) (stood_by 7 ends u r) (left_lines ends Good kept is u r.turns lines turns).good (begins_cleanly ends Good kept is u r.turns lines turns none e)
+      clean_lines ends Good kept is 7 (omega arith) (stood_by ends u r) (left_lines ends Good kept is u r.turns lines turns).good (begins_cleanly ends Good kept is u r.turns lines turns none e)
 
-  -- each run over lines without the word in their ids comes to `One`
-  one : (u : UnderWay State) (r : Run State) (left : List ℕ) → (stood_by 7 ends u r).left ≡ left → AreLines Good u
+  -- each possible run over lines without the word in their ids is `IsSoundRun`
+  sound_run : (u : UnderWay State) (r : Run State) (left : List ℕ) → (stood_by ends u r).left ≡ left → IsWellFormed Good u
       → (IsSubsequence the_word (ids_under_way u) → ⊥) → AreTurns ends Good kept r.turns (begins u)
-      → ArePossibleIf 7 ends Good kept left (stood_by 7 ends u r) r.moves → One u r left
-  one u r [] e lines none turns p =
-      let from = leaves (stood_by 7 ends u r) in
+      → ArePossibleIf 7 ends Good kept left (stood_by ends u r) r.moves → IsSoundRun u r left
+  sound_run u r [] e lines none turns p =
+      let from = leaves (stood_by ends u r) in
       let clean = begun_clean u r lines none turns e in
       let f = law ends Good kept is from clean r.moves p in
       record { own = (begins_cleanly ends Good kept is u r.turns lines turns none e, f); sound = record { possible = p; clean = inl clean }; faithful = f }
-  one u r (asked ∷ rest) e lines none turns p =
-      let from = leaves (stood_by 7 ends u r) in
+  sound_run u r (asked ∷ rest) e lines none turns p =
+      let from = leaves (stood_by ends u r) in
       record {
         own = tt;
         sound = record { possible = subst (λ ms. ArePossible ends Good kept (by_ids 7 ends) ms (ids_begun from)) (sym p) tt; clean = inr p };
@@ -95,16 +96,16 @@ module _ {State : Type 0} (ends : Ends State) (Good : State → Type 0) (kept : 
       }
 
   -- a run that has synchronized leaves lines without the word in their ids
-  leaves_next : (u : UnderWay State) (r : Run State) → AreLines Good u → (IsSubsequence the_word (ids_under_way u) → ⊥)
-      → AreTurns ends Good kept r.turns (begins u) → ArePossibleIf 7 ends Good kept (stood_by 7 ends u r).left (stood_by 7 ends u r) r.moves
-      → (stood_by 7 ends u r).left ≡ [] → AreLines Good (left_by_run 7 ends u r) × (IsSubsequence the_word (ids_under_way (left_by_run 7 ends u r)) → ⊥)
+  leaves_next : (u : UnderWay State) (r : Run State) → IsWellFormed Good u → (IsSubsequence the_word (ids_under_way u) → ⊥)
+      → AreTurns ends Good kept r.turns (begins u) → ArePossibleIf 7 ends Good kept (stood_by ends u r).left (stood_by ends u r) r.moves
+      → (stood_by ends u r).left ≡ [] → IsWellFormed Good (left_by_run 7 ends u r) × (IsSubsequence the_word (ids_under_way (left_by_run 7 ends u r)) → ⊥)
   leaves_next u r lines none turns p e =
-      let s = stood_by 7 ends u r in
+      let s = stood_by ends u r in
       let clean = begun_clean u r lines none turns e in
       let possible = subst (λ w. ArePossibleIf 7 ends Good kept w s r.moves) e p in
       let good = runs_leave_good ends Good kept is 7 (omega arith) (leaves s) clean r.moves possible in
       let row = runs_leave_rows ends Good kept is 7 (omega arith) (leaves s) clean r.moves possible in
-      subst (λ w. AreLines Good (left_if 7 ends w s r.moves) × (IsSubsequence the_word (ids_under_way (left_if 7 ends w s r.moves)) → ⊥)) (sym e)
+      subst (λ w. IsWellFormed Good (left_if 7 ends w s r.moves) × (IsSubsequence the_word (ids_under_way (left_if 7 ends w s r.moves)) → ⊥)) (sym e)
       (record { ids = good.1; good = good.0 }, rows_have_not (on_line (behind 7 ends (leaves s) r.moves).wire) row)
 
   -- A stretch with its part.
@@ -123,21 +124,21 @@ module _ {State : Type 0} (ends : Ends State) (Good : State → Type 0) (kept : 
   AllFit _ _ = ⊥
 
   -- the ids that are left of a run's word are those that its part leaves
-  left_so : (u : UnderWay State) (r : Run State) (p : Part) → shown ends r.turns (begins u) ≡ p.turns → (stood_by 7 ends u r).left ≡ unanswered_after the_word (heard_in p.turns)
+  left_so : (u : UnderWay State) (r : Run State) (p : Part) → shown ends r.turns (begins u) ≡ p.turns → (stood_by ends u r).left ≡ unanswered_after the_word (heard_in p.turns)
   left_so u r p e = left_is ends r.turns (begins u) ∙ ap (λ l. unanswered_after the_word (heard_in l)) e
 
   -- the parts of a run in the field fit the stretches
-  pub all_fit : (ps : List Part) (rs : List (Run State)) (u : UnderWay State) → AreLines Good u → (IsSubsequence the_word (ids_under_way u) → ⊥)
+  pub all_fit : (ps : List Part) (rs : List (Run State)) (u : UnderWay State) → IsWellFormed Good u → (IsSubsequence the_word (ids_under_way u) → ⊥)
       → AreShownAs ends u rs ps → AreRuns 7 ends Good kept u rs → AreBegun the_word ps
       → AllFit ps (stretches ends u rs) × AreOwn 7 ends Good kept u rs
   all_fit [] [] u lines none s p b = (tt, tt)
   all_fit [] (r ∷ rs) u lines none s p b = absurd s
   all_fit (x ∷ ps) [] u lines none s p b = absurd s
   all_fit (x ∷ []) (r ∷ []) u lines none s p b =
-      let o = one u r (stood_by 7 ends u r).left refl lines none p.0.0 p.0.1 in ((record { steps = s.1; sound = o.sound; faithful = o.faithful }, tt), (o.own, tt))
+      let o = sound_run u r (stood_by ends u r).left refl lines none p.0.0 p.0.1 in ((record { steps = s.1; sound = o.sound; faithful = o.faithful }, tt), (o.own, tt))
   all_fit (x ∷ []) (r ∷ t ∷ rs) u lines none s p b = absurd s.2
   all_fit (x ∷ y ∷ ps) (r ∷ rs) u lines none s p b =
-      let o = one u r (stood_by 7 ends u r).left refl lines none p.0.0 p.0.1 in
+      let o = sound_run u r (stood_by ends u r).left refl lines none p.0.0 p.0.1 in
       let next = leaves_next u r lines none p.0.0 p.0.1 (left_so u r x s.0 ∙ b.0) in
       let others = all_fit (y ∷ ps) rs (left_by_run 7 ends u r) next.0 next.1 s.2 p.1 b.1 in
       ((record { steps = s.1; sound = o.sound; faithful = o.faithful }, others.0), (o.own, others.1))
@@ -178,7 +179,7 @@ module _ {State : Type 0} (ends : Ends State) (Good : State → Type 0) (kept : 
   fit_sent : (p : Part) (s : Stretch State) → Fits p s → sent_by fresh p.steps ≡ map asked (own_sent ends s)
   fit_sent p s f =
       ap (sent_by fresh) (sym f.steps) ∙ sym (course_sent (seen s.moves) begun) ∙ sym (ap (drop 8) (sent_is ends Good kept is 7 (omega arith) s.from s.moves f.sound.possible))
-      ∙ sym (map_drop asked 8 (world ends s).wire.sent)
+      ∙ drop-map asked 8 (world ends s).wire.sent
 
   -- a part's steps, and a restart after them, settle what its stretch settled, and as lost what is outstanding
   fit_ended : (p : Part) (s : Stretch State) → Fits p s → settled_by fresh (p.steps ++ Restart ∷ []) ≡ own_settled ends s ++ map lost (world ends s).client.waiting
@@ -195,7 +196,7 @@ module _ {State : Type 0} (ends : Ends State) (Good : State → Type 0) (kept : 
       → slice_get p.marks (length (course 7 begun front).sent) ≡ Some (Some mark) → IsNearTheTable (course 7 begun front)
 
   -- if the station's rule holds of a part, each request of its stretch that is a command is safe
-  safe_part : (commands : List Task) (p : Part) (s : Stretch State) → IsRuled p → Fits p s → AreOf commands p.marks (map asked (own_sent ends s)) → IsSafePart p s
+  safe_part : (commands : List Task) (p : Part) (s : Stretch State) → IsRuled p → Fits p s → MarksAsk commands p.marks (map asked (own_sent ends s)) → IsSafePart p s
   safe_part commands p s rule f sent n mark at =
       let a = of_at commands p.marks (map asked (own_sent ends s)) n (Some mark) sent at in
       let size : length (course 7 begun p.steps).sent ≡ length (map asked (own_sent ends s)) = ap length (course_sent p.steps begun ∙ fit_sent p s f) in
@@ -214,15 +215,15 @@ module _ {State : Type 0} (ends : Ends State) (Good : State → Type 0) (kept : 
   module _ (reads : Asked → List ℕ → Reading) (commands : List Task) where
     -- the marks of the last part are of the stretch's requests
     of_last : (rs : List Record) (p : Part) (s : Stretch State) (end : Model) → Fits p s
-        → Books reads commands fresh [] rs p end.client end.marks (sent_of end.records) → AreOf commands p.marks (map asked (own_sent ends s))
-    of_last rs p s end f h = subst (AreOf commands p.marks) (fit_sent p s f) h.wrote.sent
+        → Books reads commands fresh [] rs p end.client end.marks (sent_of end.records) → MarksAsk commands p.marks (map asked (own_sent ends s))
+    of_last rs p s end f h = subst (MarksAsk commands p.marks) (fit_sent p s f) h.wrote.sent
 
     -- the marks of a part after which the client restarts are of the stretch's requests
     of_ended : (rs mid : List Record) (p : Part) (s : Stretch State) → Fits p s → Books reads commands fresh [] rs (joined p restarting) fresh [] mid
-        → AreOf commands p.marks (map asked (own_sent ends s))
+        → MarksAsk commands p.marks (map asked (own_sent ends s))
     of_ended rs mid p s f h =
         let asks : sent_by fresh (p.steps ++ Restart ∷ []) ≡ map asked (own_sent ends s) = sent_append fresh p.steps (Restart ∷ []) ∙ append-nil (sent_by fresh p.steps) ∙ fit_sent p s f in
-        subst (λ marks. AreOf commands marks (map asked (own_sent ends s))) (append-nil p.marks) (subst (AreOf commands (p.marks ++ [])) asks h.wrote.sent)
+        subst (λ marks. MarksAsk commands marks (map asked (own_sent ends s))) (append-nil p.marks) (subst (MarksAsk commands (p.marks ++ [])) asks h.wrote.sent)
 
     -- the records of the last part are those of what the stretch settled
     written_last : (rs : List Record) (p : Part) (s : Stretch State) (end : Model) → Fits p s → Books reads commands fresh [] rs p end.client end.marks (sent_of end.records)
@@ -264,7 +265,7 @@ module _ {State : Type 0} (ends : Ends State) (Good : State → Type 0) (kept : 
   -- the answers among what the first stretch settled, and what was lost then, are their own
   own_first : (reads : Asked → List ℕ → Reading) (commands : List Task) (p : Part) (s : Stretch State) (ps : List Part) (ss : List (Stretch State))
       (waiting : List (Pending Asked)) (xs : List (Settlement Asked)) → xs ≡ own_settled ends s ++ map lost waiting → Fits p s → IsSafePart p s
-      → AreOf commands p.marks (map asked (own_sent ends s))
+      → MarksAsk commands p.marks (map asked (own_sent ends s))
       → AllByRecursion (IsOwnAnswer ends Good kept commands (p ∷ ps) (s ∷ ss)) (records_of reads 0 p.marks xs)
   own_first reads commands p s ps ss waiting xs e f safe sent =
       all_records reads (IsOwnAnswer ends Good kept commands (p ∷ ps) (s ∷ ss)) p.marks xs
@@ -334,6 +335,7 @@ module _ {State : Type 0} (ends : Ends State) (Good : State → Type 0) (kept : 
       → AllByRecursion (IsOwnAnswer ends Good kept commands ps ss) (sent_of rs) → AllByRecursion (IsOwnAnswer ends Good kept commands ps ss) rs
   all_sent commands ps ss [] h = tt
   all_sent commands ps ss (r ∷ rs) h = by_case (went_out r.end) refl (all_sent commands ps ss rs) h where
+    -- the lemma above, by whether the first command was sent (`b`)
     by_case : (b : Bool) → went_out r.end ≡ b → (AllByRecursion (IsOwnAnswer ends Good kept commands ps ss) (sent_of rs) → AllByRecursion (IsOwnAnswer ends Good kept commands ps ss) rs)
         → AllByRecursion (IsOwnAnswer ends Good kept commands ps ss) (sent_with b r (sent_of rs)) → AllByRecursion (IsOwnAnswer ends Good kept commands ps ss) (r ∷ rs)
     by_case true out others g = (g.0, others g.1)
@@ -344,7 +346,7 @@ module _ {State : Type 0} (ends : Ends State) (Good : State → Type 0) (kept : 
   -- the commands of the late records among those that the first stretch records were executed
   late_first : (reads : Asked → List ℕ → Reading) (commands : List Task) (p : Part) (s : Stretch State) (ps : List Part) (ss : List (Stretch State))
       (waiting : List (Pending Asked)) (xs : List (Settlement Asked)) → xs ≡ own_settled ends s ++ map lost waiting → Fits p s → IsSafePart p s
-      → AreOf commands p.marks (map asked (own_sent ends s))
+      → MarksAsk commands p.marks (map asked (own_sent ends s))
       → AllByRecursion (LateHasExecution ends Good kept commands (p ∷ ps) (s ∷ ss)) (records_of reads 0 p.marks xs)
   late_first reads commands p s ps ss waiting xs e f safe sent =
       all_records reads (LateHasExecution ends Good kept commands (p ∷ ps) (s ∷ ss)) p.marks xs
@@ -394,6 +396,7 @@ module _ {State : Type 0} (ends : Ends State) (Good : State → Type 0) (kept : 
       → AllByRecursion (LateHasExecution ends Good kept commands ps ss) (sent_of rs) → AllByRecursion (LateHasExecution ends Good kept commands ps ss) rs
   late_sent commands ps ss [] h = tt
   late_sent commands ps ss (r ∷ rs) h = by_case (went_out r.end) refl (late_sent commands ps ss rs) h where
+    -- the lemma above, by whether the first command was sent (`b`)
     by_case : (b : Bool) → went_out r.end ≡ b → (AllByRecursion (LateHasExecution ends Good kept commands ps ss) (sent_of rs) → AllByRecursion (LateHasExecution ends Good kept commands ps ss) rs)
         → AllByRecursion (LateHasExecution ends Good kept commands ps ss) (sent_with b r (sent_of rs)) → AllByRecursion (LateHasExecution ends Good kept commands ps ss) (r ∷ rs)
     by_case true out others g = (g.0, others g.1)
@@ -415,7 +418,7 @@ module _ {State : Type 0} (ends : Ends State) (Good : State → Type 0) (kept : 
       let ps = parts_of plan commands start acts in
       let ss = stretches ends u rs in
       let fit = all_fitting plan commands scope acts u rs h in
-      let on = follows plan commands scope.reads start acts refl (fine_opening plan commands scope) h.runs in
+      let on = follows plan commands scope.reads start acts refl (invariant_opening plan commands scope) h.runs in
       all_safe commands ps ss (λ i p e front later target call deadline mark. behind_the_table plan commands scope acts h.runs i p e front later target call deadline mark) fit.0
       (sent_all scope.reads commands ps ss [] (state_after plan commands scope acts) fit.0 on)
 
@@ -427,7 +430,7 @@ module _ {State : Type 0} (ends : Ends State) (Good : State → Type 0) (kept : 
       let ps = parts_of plan commands start acts in
       let ss = stretches ends u rs in
       let end = state_after plan commands scope acts in
-      let fine = fine_opening plan commands scope in
+      let fine = invariant_opening plan commands scope in
       let fit = all_fitting plan commands scope acts u rs h in
       let on = follows plan commands scope.reads start acts refl fine h.runs in
       let sent = sent_all scope.reads commands ps ss [] end fit.0 on in

@@ -13,12 +13,12 @@ use Rattle.gc_world.proofs.Booked.{Has}
 use Rattle.gc_world.proofs.Rows.{each_more}
 use Rattle.gc_field.proofs.Once.{IsUnknown, true_is_not}
 
--- no request in flight has a number below that of the front one
+-- where numbers never fall from `low` on, each number in the queue is at least low - 1
 pub rising_each : (low : ℕ) (xs : List (Numbered Request)) → Rising low (numbers xs) → Each (λ x. low ≤ x.number + 1) xs
 rising_each low [] h = tt
 rising_each low (x ∷ xs) h = (h.0, each_more (λ y. x.number + 1 ≤ y.number + 1) (λ y. low ≤ y.number + 1) (λ y k. omega (arith, k, h.0)) xs (rising_each (x.number + 1) xs h.1))
 
--- of numbers that never fall, those after n never fall either, and none of them is below n
+-- where numbers never fall from `low` on, n among them is at least low - 1, and those after n never fall below n
 pub rising_tail : (low n : ℕ) (xs ys : List ℕ) → Rising low (xs ++ n ∷ ys) → (low ≤ n + 1) × Rising (n + 1) ys
 rising_tail low n [] ys h = h
 rising_tail low n (x ∷ xs) ys h = let r = rising_tail (x + 1) n xs ys h.1 in (omega (arith, h.0, r.0), r.1)

@@ -9,7 +9,7 @@ use Rattle.gc_client.specs.declared.window.TheConstants.{WINDOW}
 use Rattle.gc_instrument.specs.Execution.{exec}
 use Rattle.gc_instrument.specs.Replying.{handed}
 use Rattle.gc_field.specs.Simulator.{ends}
-use Rattle.gc_field.specs.LateAnswer.{IsLateInField, acts, answer, before, commands, from, late, moves, runs}
+use Rattle.gc_field.specs.LateAnswer.{IsLateInField, acts, answer, at_start, commands, from, late, moves, runs}
 use Rattle.gc_field.specs.Begun.{WasMadeOn}
 use Rattle.gc_field.proofs.Witness.{asked_each, fits, one_part, opens, run_on, units}
 use Rattle.gc_texts.specs.Nears.{is_elsewhere}
@@ -18,7 +18,7 @@ use Rattle.gc_station.specs.Model.{opening}
 use Rattle.gc_field.specs.Field.{seen}
 use Rattle.gc_field.specs.Shown.{AreShownAs, shown}
 use Rattle.gc_field.specs.Begin.{begins}
-use Rattle.gc_field.specs.Witness.{eight, plan, replies, scope}
+use Rattle.gc_field.specs.Witness.{eight_answered, plan, replies, scope}
 
 -- the late reply was made on executing the first command's request
 late_made : WasMadeOn WINDOW ends from moves 8 (Table InstrumentNo) late
@@ -36,7 +36,7 @@ unfolding is_elsewhere header_at reply_at digits
 parts_are = refl
 
 -- what the line does while the station synchronizes shows these turns
-shown_are : shown ends eight (begins before) ≡ asked_each replies
+shown_are : shown ends eight_answered (begins at_start) ≡ asked_each replies
 unfolding is_elsewhere header_at reply_at handed exec digits
 shown_are = refl
 
@@ -52,7 +52,7 @@ come_late =
                 (tt, (refl, (tt, (tt, (refl, (tt, (tt, (tt, (refl, tt)))))))));
             lines = record { ids = tt; good = fits };
             none = λ h. h;
-            shown = subst (AreShownAs ends before runs) (sym parts_are) (shown_are, refl, (refl, refl, tt));
+            shown = subst (AreShownAs ends at_start runs) (sym parts_are) (shown_are, refl, (refl, refl, tt));
             possible = ((units 24, (tt, (tt, (tt, (tt, (tt, (tt, (tt, (tt, ((8, [], refl), (tt, (tt, ((9, [], refl), tt))))))))))))), ((tt, refl), tt));
           };
       over = refl;

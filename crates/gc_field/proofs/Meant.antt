@@ -13,10 +13,11 @@ use Rattle.gc_station.specs.Parts.{Part, Asks, Hears, beginning, doing, hearing,
 use Rattle.gc_station.specs.Model.{Model, action_at, is_heard, lines_completed, null_text, Performs, after, Runs}
 use Rattle.gc_station.proofs.Asked.{none_doing, steps_none, turns_gave, turns_plain, word_after}
 use Rattle.gc_station.proofs.Booking.{sending_of, sends_with_room}
-use Rattle.gc_station.proofs.EachRun.{fine_after}
+use Rattle.gc_station.proofs.EachRun.{invariant_after}
+use Rattle.gc_station.proofs.Givens.{after_rest, rest_with}
 use Rattle.gc_station.proofs.Invariant.{Invariant}
 use Rattle.gc_station.proofs.Meant as meant
-use Rattle.gc_station.proofs.Meant.{asked_is, put_is, rest_is, left_of}
+use Rattle.gc_station.proofs.Meant.{asked_is, put_is}
 use Rattle.gc_field.specs.Asking.{IsAskedFor, IsTaken, MeansTurns}
 use Rattle.gc_field.specs.Meaning.{IsPut, Means}
 use Rattle.gc_field.specs.Runs.{AreMeant, IsMeant}
@@ -37,14 +38,14 @@ put_means s bytes p (inr x) =
 
 -- what a piece of bytes that came means to the client: the moment, and its lines if it is heard (`h`); the moment alone if it
 -- is discarded. `rest` and `behind` are the bytes since the last line feed, before the piece and after it
-gave_means : (client : ById Asked) (h : Bool) (rest behind piece : List ℕ) (m : Moment) → behind ≡ left_of h rest (Gave piece m)
+gave_means : (client : ById Asked) (h : Bool) (rest behind piece : List ℕ) (m : Moment) → behind ≡ rest_with h (Gave piece m) rest
     → Means client rest (Gave piece m) (Expire m.elapsed ∷ hearing h rest piece) behind
 gave_means client true rest behind piece m e = inl (record { lines = refl; rest = e })
 gave_means client false rest behind piece m e = inr (record { lines = refl; rest = e })
 
 -- what a piece of bytes that came means while a station synchronizes: its lines if it is heard (`h`); nothing if it is
 -- discarded. `rest` and `behind` are as in `gave_means`
-taken : (h : Bool) (rest behind piece : List ℕ) (m : Moment) → behind ≡ left_of h rest (Gave piece m) → IsTaken rest piece (if h then map Hears (lines_completed rest piece) else []) behind
+taken : (h : Bool) (rest behind piece : List ℕ) (m : Moment) → behind ≡ rest_with h (Gave piece m) rest → IsTaken rest piece (if h then map Hears (lines_completed rest piece) else []) behind
 taken true rest behind piece m e = inl (refl, e)
 taken false rest behind piece m e = inr (refl, e)
 
@@ -60,32 +61,32 @@ LeavesRest (Gave piece m) = ⊥
 LeavesRest Closed = ⊥
 LeavesRest act = Unit {0}
 
--- such an act leaves the bytes since the last line feed as they were
-rest_stays : (h : Bool) (rest : List ℕ) (act : Act) → LeavesRest act → left_of h rest act ≡ rest
+-- an act of `LeavesRest` leaves the bytes since the last line feed as they were
+rest_stays : (h : Bool) (rest : List ℕ) (act : Act) → LeavesRest act → rest_with h act rest ≡ rest
 rest_stays h rest (Gave piece m) leaves = absurd leaves
 rest_stays h rest Closed leaves = absurd leaves
 rest_stays true rest act leaves = refl
 rest_stays false rest act leaves = refl
 
 -- a close forgets the bytes since the last line feed
-close_forgets : (h : Bool) (rest : List ℕ) → left_of h rest Closed ≡ []
+close_forgets : (h : Bool) (rest : List ℕ) → rest_with h Closed rest ≡ []
 close_forgets true rest = refl
 close_forgets false rest = refl
 
 module _ (plan : Plan) (commands : List Task) where
   -- an act of a run that brings no bytes and does not close leaves the bytes since the last line feed as they were
   same_rest : (s : Model) (act : Act) → Performs commands s (action_at plan s) act → LeavesRest act → (after plan commands s act).rest ≡ s.rest
-  same_rest s act obeys leaves = rest_is plan commands s act obeys ∙ rest_stays (is_heard s.progress.phase) s.rest act leaves
+  same_rest s act obeys leaves = after_rest plan commands s act obeys ∙ rest_stays (is_heard s.progress.phase) s.rest act leaves
 
   -- a close of a run forgets the bytes since the last line feed
   no_rest : (s : Model) → Performs commands s (action_at plan s) Closed → (after plan commands s Closed).rest ≡ []
-  no_rest s obeys = rest_is plan commands s Closed obeys ∙ close_forgets (is_heard s.progress.phase) s.rest
+  no_rest s obeys = after_rest plan commands s Closed obeys ∙ close_forgets (is_heard s.progress.phase) s.rest
 
   -- once a station has synchronized, an act means the steps of its part
   act_means : (s : Model) (act : Act) → Invariant plan commands s → has_begun s.progress ≡ true → Performs commands s (action_at plan s) act
       → Means s.client s.rest act (doing plan commands s (action_at plan s) act).steps (after plan commands s act).rest
   act_means s (Gave piece m) fine begun obeys = gave_means s.client (is_heard s.progress.phase) s.rest (after plan commands s (Gave piece m)).rest piece m
-      (rest_is plan commands s (Gave piece m) obeys)
+      (after_rest plan commands s (Gave piece m) obeys)
   act_means s (Put bytes) fine begun obeys = (
     put_means s bytes (putting plan commands s (action_at plan s))
         (put_is plan commands s (Put bytes) bytes fine obeys refl begun),
@@ -110,7 +111,7 @@ module _ (plan : Plan) (commands : List Task) where
       → MeansTurns s.progress.word s.rest act (beginning s (action_at plan s) act).turns (after plan commands s act).rest
   turns_mean s (Gave piece m) begins obeys =
       subst (λ turns. IsTaken s.rest piece turns (after plan commands s (Gave piece m)).rest) (sym (turns_gave plan commands s (action_at plan s) piece m obeys))
-      (taken (is_heard s.progress.phase) s.rest (after plan commands s (Gave piece m)).rest piece m (rest_is plan commands s (Gave piece m) obeys))
+      (taken (is_heard s.progress.phase) s.rest (after plan commands s (Gave piece m)).rest piece m (after_rest plan commands s (Gave piece m) obeys))
   turns_mean s (Put bytes) begins obeys = (
     asked_for s bytes (beginning s (action_at plan s) (Put bytes))
         (asked_is plan commands s (Put bytes) bytes obeys refl begins),
@@ -139,4 +140,4 @@ module _ (plan : Plan) (commands : List Task) where
   -- each act of a run means its part
   pub are_meant : (s : Model) (acts : List Act) → Invariant plan commands s → Runs plan commands s acts → AreMeant plan commands s acts
   are_meant s [] fine runs = tt
-  are_meant s (act ∷ acts) fine runs = (is_meant s act (has_begun s.progress) refl fine runs.0, are_meant (after plan commands s act) acts (fine_after plan commands s act fine) runs.1)
+  are_meant s (act ∷ acts) fine runs = (is_meant s act (has_begun s.progress) refl fine runs.0, are_meant (after plan commands s act) acts (invariant_after plan commands s act fine) runs.1)

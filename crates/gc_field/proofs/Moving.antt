@@ -21,7 +21,7 @@ use Rattle.gc_world.proofs.Rows.{each_append, each_more, each_without, each_doub
 use Rattle.gc_world.proofs.Sound.{IsGoing, Sound, sound_step, sound_open}
 use Rattle.gc_field.specs.Field.{Move, Sends, Tells, Comes, Foreign, OnLine, Anew, Changes, Joins, IsOfLine, moves, moved, IsPossible, ArePossible, AsksOnly, IsFirstAlone}
 use Rattle.gc_field.specs.Instrument.{IsAnInstrumentFor, KeepsItsOwn, KeepsItsReply}
-use Rattle.gc_field.proofs.Answered.{AllSo, IsSo, all_so_get}
+use Rattle.gc_field.proofs.Answered.{HoldsOfAll, HoldsOfOutcome, all_so_get}
 use Rattle.gc_field.specs.Once.{ActsOnce, IsInOrder}
 use Rattle.gc_field.proofs.Once.{IsUnknown, acts_once, once_few, climbing_first, order_few, ordered_first, true_is_not}
 use Rattle.gc_field.proofs.KeptReplies.{IsVouched, kept_one, IsOn}
@@ -103,7 +103,8 @@ module _ {State : Type 0} (width : ℕ) (narrow : width ≤ 7) (ends : Ends Stat
       ∙ ap (λ l. a.wire.settled ++ settle (n - b.client.count) line l) (sym h.agree.client.window)
       ∙ ap (λ k. a.wire.settled ++ settle (n - k) line a.client.waiting) (sym size)
 
--- settlement m, s, was made for its own request: an answer is vouched for, and of a late one there is a line that is
+-- the settlement s, at place m, was made for its own request: an answer's line is vouched for, and for a late one there is a line
+-- that is vouched for
 pub record IsOwn {State : Type 0} (ends : Ends State) (Good : State → Type 0) (M : ℕ → Asked → List ℕ → Type 0) (w : Wire State) (m : ℕ) (s : Settlement Asked) : Type 0 where
   pub answered : (line : List ℕ) → s.outcome ≡ Answered line → IsVouched ends Good M w.sent w.executed w.made m line
   pub late : s.outcome ≡ Late → (line : List ℕ) × IsVouched ends Good M w.sent w.executed w.made m line
@@ -134,7 +135,8 @@ module _ {State : Type 0} (width : ℕ) (ends : Ends State) (M : ℕ → Asked �
 
 module _ {State : Type 0} (width : ℕ) (narrow : width ≤ 7) (knows : Asked → Bool) (ends : Ends State) (Good : State → Type 0) (ex : IsExchange ends Good)
     (kept : State → Option KeptReply) (keeper : IsAnInstrumentFor ends Good kept knows) (low : ℕ) (E : ℕ → Type 0) (Plain : Type 0) (M : ℕ → Asked → List ℕ → Type 0) where
-  -- the invariant `AllVouched` of `Vouched`, for these parameters: each reply in flight and each answer was made for its own request
+  -- the invariant `AllVouched` of `Vouched`, for these parameters: each reply in flight and each answer was made for its own
+  -- request
   abbrev pub Trusted : World (ByNumber Asked) State → Type 0
   Trusted w = AllVouched width narrow knows ends Good kept keeper low E Plain M w
 
@@ -151,16 +153,16 @@ module _ {State : Type 0} (width : ℕ) (narrow : width ≤ 7) (knows : Asked �
       ]
 
   -- in a `Trusted` world each settlement is vouched for
-  so_at : (w : World (ByNumber Asked) State) (t : Trusted w) (m : ℕ) (s : Settlement Asked) → slice_get w.wire.settled m ≡ Some s → IsSo (Vouches w t) m s.outcome
-  so_at w t m s e = let i : 0 + m ≡ m = omega arith in subst (λ k. IsSo (Vouches w t) k s.outcome) i (all_so_get (Vouches w t) 0 w.wire.settled m s t.answers e)
+  so_at : (w : World (ByNumber Asked) State) (t : Trusted w) (m : ℕ) (s : Settlement Asked) → slice_get w.wire.settled m ≡ Some s → HoldsOfOutcome (Vouches w t) m s.outcome
+  so_at w t m s e = let i : 0 + m ≡ m = omega arith in subst (λ k. HoldsOfOutcome (Vouches w t) k s.outcome) i (all_so_get (Vouches w t) 0 w.wire.settled m s t.answers e)
 
   -- in a `Trusted` world each settlement that isn't excepted is its own, and each request is executed at most once
   pub vouched_for : (w : World (ByNumber Asked) State) → Trusted w → IsVouchedFor ends Good kept E M w.wire
   vouched_for w t =
       record {
         own = λ m s not e. record {
-          answered = λ line answered. own_line w t m line not (subst (λ o. IsSo (Vouches w t) m o) answered (so_at w t m s e));
-          late = λ late. let l : (line : List ℕ) × Vouches w t m line = subst (λ o. IsSo (Vouches w t) m o) late (so_at w t m s e) in (l.0, own_line w t m l.0 not l.1);
+          answered = λ line answered. own_line w t m line not (subst (λ o. HoldsOfOutcome (Vouches w t) m o) answered (so_at w t m s e));
+          late = λ late. let l : (line : List ℕ) × Vouches w t m line = subst (λ o. HoldsOfOutcome (Vouches w t) m o) late (so_at w t m s e) in (l.0, own_line w t m l.0 not l.1);
         };
         order = t.order.order;
         once = λ keeps k. acts_once keeps w.wire.sent w.wire.executed w.wire.starts (t.once keeps k).once;
@@ -266,7 +268,7 @@ module _ {State : Type 0} (width : ℕ) (narrow : width ≤ 7) (knows : Asked �
           lines = o.1;
           near = inl (tt, omega arith, f.known);
           coming = subst (λ l. Each (λ (y : Numbered (List ℕ)). P y.number y.line) (l ++ m ∷ [])) (sym f.down) (early, tt);
-          answers = subst (λ l. AllSo P 0 l) (sym f.settled) tt;
+          answers = subst (λ l. HoldsOfAll P 0 l) (sym f.settled) tt;
           order = ordered_first x.number v.executed hd.executed f.executed nought;
           once = λ keeps k.
               climbing_first keeps ((1 - 1 - b.client.since) % 8) x.number v.sent v.executed v.starts hd.executed (kept hd.state) (record { id = x.line.id; line = hd.reply }) f.executed nought

@@ -18,7 +18,7 @@ use Rattle.gc_field.specs.Begin.{none_under_way}
 use Rattle.gc_field.specs.Begun.{IsClean, behind}
 use Rattle.gc_field.specs.Instrument.{IsAnInstrument, AnyState, nothing}
 use Rattle.gc_field.specs.Laws.{WasExecuted}
-use Rattle.gc_field.specs.Needed.{Keeper, IsAllNeeded, InOrder, value, refusal, kept, keeper, held, again_or, refuses_or, answers_in, deals_anew, refuses_raws, sound, forgets, comes_twice}
+use Rattle.gc_field.specs.Needed.{Keeper, IsAllNeeded, InOrder, value, refusal, kept, keeper, held, again_or, refuses_or, answers_in, deals_anew, refuses_raws, sound, forgets, repeated_request}
 use Rattle.gc_field.specs.Once.{ActsOnce}
 use Rattle.gc_field.specs.World.{Sent}
 use Rattle.gc_field.proofs.Once.{true_is_not}
@@ -27,6 +27,7 @@ use Rattle.gc_field.proofs.Once.{true_is_not}
 pub kept_own : (k : Keeper) (id n : ℕ) → held k id ≡ Some n → kept k ≡ Some (record { id = id; line = value id n })
 kept_own None id n e = let never : ⊥ = cc in absurd never
 kept_own (Some x) id n e = chosen (nat_eq x.0 id) refl e where
+  -- the lemma above, by whether the number is kept with this id (`b`)
   chosen : (b : Bool) → nat_eq x.0 id ≡ b → cond b (Some x.1) None ≡ Some n → kept (Some x) ≡ Some (record { id = id; line = value id n })
   chosen true t e = ap (λ i. Some (record { id = i; line = value i x.1 })) (eqb-true x.0 id t) ∙ ap (λ m. Some (record { id = id; line = value id m })) (some_is x.1 n e)
   chosen false t e = let never : ⊥ = cc in absurd never
@@ -69,20 +70,20 @@ above : (n : ℕ) (xs : List ℕ) → Each (λ m. m < n) xs → WasExecuted xs n
 above n xs low h = omega (arith, each_get (λ m. m < n) xs h.0 n low h.1)
 
 -- where only requests 8 to 15 were executed, request 16 wasn't
-ninth : WasExecuted (8 ∷ 9 ∷ 10 ∷ 11 ∷ 12 ∷ 13 ∷ 14 ∷ 15 ∷ []) 16 → ⊥
-ninth h = above 16 (8 ∷ 9 ∷ 10 ∷ 11 ∷ 12 ∷ 13 ∷ 14 ∷ 15 ∷ []) (lit< tt, (lit< tt, (lit< tt, (lit< tt, (lit< tt, (lit< tt, (lit< tt, (lit< tt, tt)))))))) h
+not_16 : WasExecuted (8 ∷ 9 ∷ 10 ∷ 11 ∷ 12 ∷ 13 ∷ 14 ∷ 15 ∷ []) 16 → ⊥
+not_16 h = above 16 (8 ∷ 9 ∷ 10 ∷ 11 ∷ 12 ∷ 13 ∷ 14 ∷ 15 ∷ []) (lit< tt, (lit< tt, (lit< tt, (lit< tt, (lit< tt, (lit< tt, (lit< tt, (lit< tt, tt)))))))) h
 
 -- if nothing was executed, request 9 wasn't
-none : WasExecuted [] 9 → ⊥
-none h = above 9 [] tt h
+not_9_of_none : WasExecuted [] 9 → ⊥
+not_9_of_none h = above 9 [] tt h
 
 -- where only request 8 was executed, request 9 wasn't
-first : WasExecuted (8 ∷ []) 9 → ⊥
-first h = above 9 (8 ∷ []) (lit< tt, tt) h
+not_9 : WasExecuted (8 ∷ []) 9 → ⊥
+not_9 h = above 9 (8 ∷ []) (lit< tt, tt) h
 
 -- where only requests 8 and 9 were executed, request 10 wasn't
-second : WasExecuted (8 ∷ 9 ∷ []) 10 → ⊥
-second h = above 10 (8 ∷ 9 ∷ []) (lit< tt, (lit< tt, tt)) h
+not_10 : WasExecuted (8 ∷ 9 ∷ []) 10 → ⊥
+not_10 h = above 10 (8 ∷ 9 ∷ []) (lit< tt, (lit< tt, tt)) h
 
 -- 8, 9 and 9, with no start between, aren't executed at most once
 not_once : (sent : List Sent) (r : Sent) → slice_get sent 9 ≡ Some r → is_of_table r.call ≡ true → ActsOnce is_of_table sent (8 ∷ 9 ∷ 9 ∷ []) [] → ⊥
@@ -211,7 +212,7 @@ all_needed =
                   starts_good = inr (λ b good. tt);
                 };
             good = tt;
-            booked = record { beyond = omega arith; clean = clean_any; field = (tt, (tt, ((8, [], refl), (tt, (tt, (tt, ((9, [], refl), tt))))))); settled = refl; executed = second };
+            booked = record { beyond = omega arith; clean = clean_any; field = (tt, (tt, ((8, [], refl), (tt, (tt, (tt, ((9, [], refl), tt))))))); settled = refl; executed = not_10 };
           };
       replies =
           record {
@@ -226,7 +227,7 @@ all_needed =
                   starts_good = inr (λ b good. tt);
                 };
             good = tt;
-            booked = record { beyond = omega arith; clean = clean_any; field = (tt, (tt, ((8, [], refl), (tt, (tt, (tt, ((9, [], refl), tt))))))); settled = refl; executed = second };
+            booked = record { beyond = omega arith; clean = clean_any; field = (tt, (tt, ((8, [], refl), (tt, (tt, (tt, ((9, [], refl), tt))))))); settled = refl; executed = not_10 };
           };
       repeats =
           record {
@@ -241,7 +242,7 @@ all_needed =
                   starts_good = inr (λ b good. tt);
                 };
             good = tt;
-            booked = record { beyond = omega arith; clean = clean_any; field = (tt, (tt, ((8, [], refl), (tt, (tt, ((9, [], refl), tt)))))); settled = refl; executed = none };
+            booked = record { beyond = omega arith; clean = clean_any; field = (tt, (tt, ((8, [], refl), (tt, (tt, ((9, [], refl), tt)))))); settled = refl; executed = not_9_of_none };
           };
       keeps =
           record {
@@ -304,7 +305,7 @@ all_needed =
                     ),
                   );
                   settled = refl;
-                  executed = ninth;
+                  executed = not_16;
                 };
           };
       starts =
@@ -320,7 +321,7 @@ all_needed =
                   starts_good = inr (λ k good. tt);
                 };
             good = tt;
-            booked = record { beyond = omega arith; clean = clean_kept; field = (tt, (tt, ((8, [], refl), (tt, (tt, (tt, ((9, [], refl), tt))))))); settled = refl; executed = first };
+            booked = record { beyond = omega arith; clean = clean_kept; field = (tt, (tt, ((8, [], refl), (tt, (tt, (tt, ((9, [], refl), tt))))))); settled = refl; executed = not_9 };
           };
       stays_good =
           record {
@@ -335,7 +336,7 @@ all_needed =
                   starts_good = inr (λ b good. refl);
                 };
             good = refl;
-            booked = record { beyond = omega arith; clean = clean_order; field = (tt, (tt, ((8, [], refl), (tt, (tt, (tt, ((9, [], refl), tt))))))); settled = refl; executed = second };
+            booked = record { beyond = omega arith; clean = clean_order; field = (tt, (tt, ((8, [], refl), (tt, (tt, (tt, ((9, [], refl), tt))))))); settled = refl; executed = not_10 };
           };
       starts_good =
           record {
@@ -350,7 +351,7 @@ all_needed =
                   starts_good = inl refl;
                 };
             good = refl;
-            booked = record { beyond = omega arith; clean = clean_order; field = (tt, (tt, ((8, [], refl), (tt, (tt, (tt, (tt, ((9, [], refl), tt)))))))); settled = refl; executed = second };
+            booked = record { beyond = omega arith; clean = clean_order; field = (tt, (tt, ((8, [], refl), (tt, (tt, (tt, (tt, ((9, [], refl), tt)))))))); settled = refl; executed = not_10 };
           };
       rule_is = raws_is;
       rule = λ raw. record {
@@ -400,26 +401,26 @@ all_needed =
           ),
         );
         settled = refl;
-        executed = ninth;
+        executed = not_16;
       };
       shared_is = keeper_is;
-      changes_kept = record { beyond = omega arith; clean = clean_key; field = (tt, (tt, ((8, [], refl), ((tt, refl), (tt, (tt, ((9, [], refl), tt))))))); settled = refl; executed = first };
+      changes_kept = record { beyond = omega arith; clean = clean_key; field = (tt, (tt, ((8, [], refl), ((tt, refl), (tt, (tt, ((9, [], refl), tt))))))); settled = refl; executed = not_9 };
       sound_is = sound_is;
-      changes_good = record { beyond = omega arith; clean = clean_any; field = (tt, (tt, ((8, [], refl), ((tt, refl), (tt, (tt, (tt, ((9, [], refl), tt)))))))); settled = refl; executed = second };
+      changes_good = record { beyond = omega arith; clean = clean_any; field = (tt, (tt, ((8, [], refl), ((tt, refl), (tt, (tt, (tt, ((9, [], refl), tt)))))))); settled = refl; executed = not_10 };
       again = record {
-        is = anew_is;
+        instrument = anew_is;
         good = tt;
         clean = clean_kept;
         field = (tt, (tt, ((8, [], refl), (tt, (tt, (tt, (tt, tt)))))));
-        twice = not_once (behind WINDOW deals_anew (none_under_way None) comes_twice).wire.sent twice_sent refl refl;
+        twice = not_once (behind WINDOW deals_anew (none_under_way None) repeated_request).wire.sent twice_sent refl refl;
       };
       again_keeps = λ k id call. refl;
       always_again = λ b id call line e. let never : ⊥ = cc in absurd never;
       always = record {
-        is = forgets_is;
+        instrument = forgets_is;
         good = tt;
         clean = clean_any;
         field = (tt, (tt, ((8, [], refl), (tt, (tt, (tt, (tt, tt)))))));
-        twice = not_once (behind WINDOW forgets (none_under_way false) comes_twice).wire.sent twice_sent refl refl;
+        twice = not_once (behind WINDOW forgets (none_under_way false) repeated_request).wire.sent twice_sent refl refl;
       };
     }

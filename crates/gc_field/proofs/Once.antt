@@ -12,13 +12,9 @@ use Rattle.gc_field.specs.World.{Sent}
 use Rattle.gc_world.proofs.Places.{below, each_get, get_more}
 use Rattle.gc_world.proofs.Rows.{each_append, each_more}
 use Rattle.gc_field.specs.Once.{HasNoStart, ActsOnce, IsInOrder}
+use Rattle.gc_field.proofs.BeginLists.{each_front}
 
 -- Lists.
-
--- what each element of two joined lists has, each element of the first has
-each_front : {A : Type 0} (P : A → Type 0) (xs ys : List A) → Each P (xs ++ ys) → Each P xs
-each_front P [] ys h = tt
-each_front P (x ∷ xs) ys h = (h.0, each_front P xs ys h.1)
 
 -- what each element has, the last one has
 each_last : {A : Type 0} (P : A → Type 0) (xs : List A) (y : A) → Each P (xs ++ y ∷ []) → P y
@@ -108,6 +104,7 @@ ordered_handed top n executed le h = record { order = h.order; below = each_more
 -- the first execution, if there is one, is `IsOrdered`
 pub ordered_first : (n : ℕ) (executed : List ℕ) (acted : Bool) → executed ≡ [] → n ≡ 0 → IsOrdered 1 (cond acted (executed ++ n ∷ []) executed)
 ordered_first n executed acted none nought = subst (λ l. IsOrdered 1 (cond acted (l ++ n ∷ []) l)) (sym none) (chosen acted) where
+  -- the lemma above, by whether the request was executed (`acted`)
   chosen : (acted : Bool) → IsOrdered 1 (cond acted (n ∷ []) [])
   chosen true = record { order = order_few (n ∷ []) (omega arith); below = (omega (arith, nought), tt) }
   chosen false = record { order = order_few [] (omega arith); below = tt }
@@ -248,6 +245,7 @@ why_acted knows since top n id sent executed starts k known mine le other h = ch
       let same : r.id ≡ id = g.same r e ∙ ap (λ i. (i - since) % 8) last ∙ sym mine in
       absurd (other r.line (e ∙ ap (λ i. Some (record { id = i; line = r.line })) same))
 
+  -- the lemma above, by whether n is below `top` (`b`)
   chosen : (b : Bool) → ltb n top ≡ b → IsIdle executed starts ⊎ (top ≤ n)
   chosen false t = inr (ltb-false n top t)
   chosen true t =
@@ -270,13 +268,16 @@ climbing_first knows new n sent executed starts acted after r none nought why =
           back (last_of knows new n sent (cond acted (executed ++ n ∷ []) executed) starts after r why);
     }
   where
+    -- the request handed last has the number 0
     back : n + 1 - 1 ≡ 0
     back = omega (arith, nought)
 
+    -- at most one request was executed, whether this one was (`acted`) or not
     few : (acted : Bool) → length (cond acted (executed ++ n ∷ []) executed) ≤ 1
     few true = subst (λ l. length (l ++ n ∷ []) ≤ 1) (sym none) (omega arith)
     few false = subst (λ l. length l ≤ 1) (sym none) (omega arith)
 
+    -- each execution is of a request below 1
     low : (acted : Bool) → Each (λ m. m < 1) (cond acted (executed ++ n ∷ []) executed)
     low true = subst (λ l. Each (λ m. m < 1) (l ++ n ∷ [])) (sym none) (omega (arith, nought), tt)
     low false = subst (λ l. Each (λ m. m < 1) l) (sym none) tt

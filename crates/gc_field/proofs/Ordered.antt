@@ -19,54 +19,18 @@ use Rattle.gc_field.specs.Instrument.{IsAnInstrument}
 use Rattle.gc_field.specs.Once.{ActsOnce, HasNoStart, IsInOrder}
 use Rattle.gc_field.specs.Shown.{Stretch}
 use Rattle.gc_field.proofs.BeginLists.{each_both}
-use Rattle.gc_field.proofs.Between.{Refines, acted, calls_more, did_all, made_both, stands_all}
+use Rattle.gc_field.proofs.Between.{IsConsistent, acted, calls_more, did_all, made_both, consistent_all}
 use Rattle.gc_field.proofs.InTime.{front_of, law}
 use Rattle.gc_field.proofs.Possible.{moved_append, possible_behind, possible_front}
+use Rattle.gc_station.proofs.Lists.{fronts, get_behind, get_more}
 
 -- Lists.
-
--- the first elements of equal lists are equal
-cons_head : {State : Type 0} (x y : Move State) (xs ys : List (Move State)) → x ∷ xs ≡ y ∷ ys → x ≡ y
-cons_head x y xs ys e = cc
-
--- the rests of equal lists, after their first elements, are equal
-cons_tail : {State : Type 0} (x y : Move State) (xs ys : List (Move State)) → x ∷ xs ≡ y ∷ ys → xs ≡ ys
-cons_tail x y xs ys e = cc
-
--- of two fronts of the same moves, one is a front of the other
-fronts : {State : Type 0} (xs ys fs gs : List (Move State)) → xs ++ ys ≡ fs ++ gs → ((more : List (Move State)) × (fs ≡ xs ++ more)) ⊎ ((more : List (Move State)) × (xs ≡ fs ++ more))
-fronts [] ys fs gs e = inl (fs, refl)
-fronts (x ∷ xs) ys [] gs e = inr (x ∷ xs, refl)
-fronts (x ∷ xs) ys (f ∷ fs) gs e =
-    let head : x ≡ f = cons_head x f (xs ++ ys) (fs ++ gs) e in
-    elim (fronts xs ys fs gs (cons_tail x f (xs ++ ys) (fs ++ gs) e)) [
-      | inl h ↦ inl (h.0, ap (λ y. y ∷ fs) (sym head) ∙ ap (λ l. x ∷ l) h.1)
-      | inr h ↦ inr (h.0, ap (λ y. y ∷ xs) head ∙ ap (λ l. f ∷ l) h.1)
-    ]
-
--- what is at place i of the second list is at place length xs + i of the joined list
-get_behind : (xs ys : List ℕ) (i j x : ℕ) → j ≡ length xs + i → slice_get ys i ≡ Some x → slice_get (xs ++ ys) j ≡ Some x
-get_behind [] ys i j x e got = let same : i ≡ j = omega (arith, e) in subst (λ k. slice_get ys k ≡ Some x) same got
-get_behind (y ∷ xs) ys i zero x e got = absurd (omega (arith, e))
-get_behind (y ∷ xs) ys i (suc j) x e got = get_behind xs ys i j x (omega (arith, e)) got
-
--- what is at a place of the first list is at that place of the joined list
-get_front : (xs ys : List ℕ) (i x : ℕ) → slice_get xs i ≡ Some x → slice_get (xs ++ ys) i ≡ Some x
-get_front [] ys i x got = cc
-get_front (y ∷ xs) ys zero x got = got
-get_front (y ∷ xs) ys (suc i) x got = get_front xs ys i x got
 
 -- a request among the first of a list is there without those after it
 sent_less : (xs ys : List Sent) (i : ℕ) (r : Sent) → i < length xs → slice_get (xs ++ ys) i ≡ Some r → slice_get xs i ≡ Some r
 sent_less [] ys i r low got = absurd (omega (arith, low))
 sent_less (x ∷ xs) ys zero r low got = got
 sent_less (x ∷ xs) ys (suc i) r low got = sent_less xs ys i r (omega (arith, low)) got
-
--- a request among the first of a list is there with others after it, too
-sent_front : (xs ys : List Sent) (i : ℕ) (r : Sent) → slice_get xs i ≡ Some r → slice_get (xs ++ ys) i ≡ Some r
-sent_front [] ys i r got = cc
-sent_front (x ∷ xs) ys zero r got = got
-sent_front (x ∷ xs) ys (suc i) r got = sent_front xs ys i r got
 
 -- what holds of the element at each place holds of each element
 each_at : (P : ℕ → Type 0) (xs : List ℕ) → ((i x : ℕ) → slice_get xs i ≡ Some x → P x) → Each P xs
@@ -82,17 +46,17 @@ module _ (e : List ℕ) (m n : ℕ) (numbers : List ℕ) where
 
   -- request m is at its place among all executions
   at_m : slice_get all (length e) ≡ Some m
-  at_m = get_front (e ++ m ∷ numbers) (n ∷ []) (length e) m (get_behind e (m ∷ numbers) 0 (length e) m (omega arith) refl)
+  at_m = get_more (e ++ m ∷ numbers) (n ∷ []) (length e) m (get_behind e (m ∷ numbers) (length e) 0 (omega arith))
 
   -- each request between is at its place among all executions
   at_x : (i x : ℕ) → slice_get numbers i ≡ Some x → slice_get all (length e + (1 + i)) ≡ Some x
-  at_x i x got = get_front (e ++ m ∷ numbers) (n ∷ []) (length e + (1 + i)) x (get_behind e (m ∷ numbers) (suc i) (length e + (1 + i)) x (omega arith) got)
+  at_x i x got = get_more (e ++ m ∷ numbers) (n ∷ []) (length e + (1 + i)) x (get_behind e (m ∷ numbers) (length e + (1 + i)) (suc i) (omega arith) ∙ got)
 
   -- request n is at its place among all executions
   at_n : slice_get all (length e + (1 + length numbers)) ≡ Some n
   at_n =
       let size : length (e ++ m ∷ numbers) ≡ length e + length (m ∷ numbers) = length-append e (m ∷ numbers) in
-      get_behind (e ++ m ∷ numbers) (n ∷ []) 0 (length e + (1 + length numbers)) n (omega (arith, size)) refl
+      get_behind (e ++ m ∷ numbers) (n ∷ []) (length e + (1 + length numbers)) 0 (omega (arith, size))
 
   -- the executions between are in order
   pub in_turn : IsInOrder all → IsInOrder numbers
@@ -132,6 +96,7 @@ module _ (e : List ℕ) (m n : ℕ) (numbers : List ℕ) where
       -- an execution between isn't of request n
       before : (x : ℕ) (r : Sent) → x ≤ n → (slice_get sent n ≡ Some r → knows r.call ≡ true → x < n) → slice_get sent x ≡ Some r → knows r.call ≡ true → x < n
       before x r le last found known = by_case (ltb x n) refl where
+        -- the lemma above, by whether x is below n (`b`)
         by_case : (b : Bool) → ltb x n ≡ b → x < n
         by_case true t = ltb-true x n t
         by_case false t =
@@ -158,7 +123,7 @@ module _ {State : Type 0} (ends : Ends State) (Good : State → Type 0) (kept : 
   -- a request that reaches the instrument was sent by then
   was_sent : (n : ℕ) (call : Asked) (line : List ℕ) (h : WasMadeOn 7 ends s.from s.moves n call line) → n < length (at h.front).wire.sent
   was_sent n call line h =
-      let stands = stands_all ends Good kept h.front s.from clean (possible_to h.front (OnLine Up_deliver ∷ h.later) h.split) in
+      let stands = consistent_all ends Good kept h.front s.from clean (possible_to h.front (OnLine Up_deliver ∷ h.later) h.split) in
       let known = (subst (λ l. Each (λ (x : Numbered Request). (r : _) × (slice_get (at h.front).wire.sent x.number ≡ Some r) × (r.call ≡ x.line.call)) l) h.reaches stands.known).0 in
       below (at h.front).wire.sent n known.0 known.1
 
@@ -167,7 +132,7 @@ module _ {State : Type 0} (ends : Ends State) (Good : State → Type 0) (kept : 
   sent_more front more later e =
       let split : s.moves ≡ front ++ (more ++ later) = e ∙ append_assoc front more later in
       let possible = possible_front 7 ends Good kept more later (at front) (possible_from front (more ++ later) split) in
-      let did = did_all ends Good kept more (at front) possible (stands_all ends Good kept front s.from clean (possible_to front (more ++ later) split)) in
+      let did = did_all ends Good kept more (at front) possible (consistent_all ends Good kept front s.from clean (possible_to front (more ++ later) split)) in
       (did.more, ap (λ (w : World (ById Asked) State). w.wire.sent) (moved_append 7 ends front more (ids_begun s.from)) ∙ did.sent)
 
   -- a request that wasn't sent by the moves before, and was executed, was executed after them
@@ -193,7 +158,7 @@ module _ {State : Type 0} (ends : Ends State) (Good : State → Type 0) (kept : 
       let split_h : s.moves ≡ (h.front ++ OnLine Up_deliver ∷ []) ++ h.later = h.split ∙ sym (append_assoc h.front (OnLine Up_deliver ∷ []) h.later) in
       let v = at f.front in
       let w = moves ends (by_ids 7 ends) v (OnLine Up_deliver) in
-      let stands = stands_all ends Good kept f.front s.from clean (possible_to f.front (OnLine Up_deliver ∷ (between ++ OnLine Up_deliver ∷ h.later)) split_f) in
+      let stands = consistent_all ends Good kept f.front s.from clean (possible_to f.front (OnLine Up_deliver ∷ (between ++ OnLine Up_deliver ∷ h.later)) split_f) in
       let one = acted ends v (record { number = m; line = record { id = f.id; call = call_m } }) f.rest f.reaches f.executed in
       let last = acted ends (at h.front) (record { number = n; line = record { id = h.id; call = call_n } }) h.rest h.reaches h.executed in
       let possible : ArePossible ends Good kept (by_ids 7 ends) between w =
@@ -201,9 +166,9 @@ module _ {State : Type 0} (ends : Ends State) (Good : State → Type 0) (kept : 
       (possible_from f.front (OnLine Up_deliver ∷ (between ++ OnLine Up_deliver ∷ h.later)) split_f).1 in
       let split_w : s.moves ≡ (f.front ++ OnLine Up_deliver ∷ []) ++ (between ++ OnLine Up_deliver ∷ h.later) =
       split_f ∙ sym (append_assoc f.front (OnLine Up_deliver ∷ []) (between ++ OnLine Up_deliver ∷ h.later)) in
-      let stands_w : Refines ends w.wire = subst (λ (x : World (ById Asked) State). Refines ends x.wire)
+      let stands_w : IsConsistent ends w.wire = subst (λ (x : World (ById Asked) State). IsConsistent ends x.wire)
       (moved_append 7 ends f.front (OnLine Up_deliver ∷ []) (ids_begun s.from))
-      (stands_all ends Good kept (f.front ++ OnLine Up_deliver ∷ []) s.from clean
+      (consistent_all ends Good kept (f.front ++ OnLine Up_deliver ∷ []) s.from clean
       (possible_to (f.front ++ OnLine Up_deliver ∷ []) (between ++ OnLine Up_deliver ∷ h.later) split_w)) in
       let did = did_all ends Good kept between w possible stands_w in
       let there : at h.front ≡ moved ends (by_ids 7 ends) between w = ap (λ l. at l) order ∙ moved_append 7 ends f.front (OnLine Up_deliver ∷ between) (ids_begun s.from) in
@@ -242,7 +207,7 @@ module _ {State : Type 0} (ends : Ends State) (Good : State → Type 0) (kept : 
             (λ x in_it strict r found known.
             strict r
             (subst (λ l. slice_get l x ≡ Some r) (sym near.1)
-            (sent_front (at h.front).wire.sent near.0 x r
+            (get_more (at h.front).wire.sent near.0 x r
             (sent_less (at h.front).wire.sent grown.0 x r (omega (arith, size, in_it.1)) (subst (λ l. slice_get l x ≡ Some r) grown_all found))))
             known)
             did.numbers (upto e m n did.numbers in_order) (inside e m n did.numbers knows there v.wire.starts stands.begun in_order once);

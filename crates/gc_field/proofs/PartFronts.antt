@@ -10,7 +10,7 @@ use Rattle.gc_station.specs.Deciding.{has_begun}
 use Rattle.gc_station.specs.Parts.{Part, joined, nothing, in_front, acting, beginning, doing, ends_part, parts_of}
 use Rattle.gc_station.specs.Progressing.{loses_all}
 use Rattle.gc_station.specs.Model.{Model, action_at, after}
-use Rattle.gc_station.proofs.Asked.{FirstHasNone, goes_begun, marks_none, nil_both, no_turns}
+use Rattle.gc_station.proofs.Asked.{FirstHasNoTurns, goes_begun, marks_none, nil_both, no_turns}
 use Rattle.gc_station.proofs.Following.{joined_assoc}
 use Rattle.gc_world.proofs.Options.{some_is, none_is_not}
 
@@ -78,7 +78,7 @@ turns_alike : (p x y : Part) → x.turns ≡ [] → y.turns ≡ [] → (joined p
 turns_alike p x y e f = ap (λ l. p.turns ++ l) (f ∙ sym e)
 
 -- `AreWhole` holds with part p before both lists, too, if p has no marks, or if the parts that it is joined to have no turns
-whole_more : (p : Part) (b : Bool) (ps qs : List Part) → (p.marks ≡ []) ⊎ (b ≡ false → FirstHasNone ps × FirstHasNone qs) → AreWhole ps qs → AreWhole (in_front p b ps) (in_front p b qs)
+whole_more : (p : Part) (b : Bool) (ps qs : List Part) → (p.marks ≡ []) ⊎ (b ≡ false → FirstHasNoTurns ps × FirstHasNoTurns qs) → AreWhole ps qs → AreWhole (in_front p b ps) (in_front p b qs)
 whole_more p b [] qs k h = absurd h
 whole_more p true (x ∷ ps) [] k h = absurd h
 whole_more p false (x ∷ ps) [] k h = absurd h
@@ -93,7 +93,7 @@ module _ (plan : Plan) (commands : List Task) where
   -- part
   sends_or_not : (s : Model) (act : Act) (xs ys : List Act) (b : Bool) → has_begun s.progress ≡ b → let t = after plan commands s act in
       ((if b then doing plan commands s (action_at plan s) act else beginning s (action_at plan s) act).marks ≡ [])
-      ⊎ ((b && loses_all t.progress) ≡ false → FirstHasNone (parts_of plan commands t xs) × FirstHasNone (parts_of plan commands t ys))
+      ⊎ ((b && loses_all t.progress) ≡ false → FirstHasNoTurns (parts_of plan commands t xs) × FirstHasNoTurns (parts_of plan commands t ys))
   sends_or_not s act xs ys false e = inl (marks_none plan commands s (action_at plan s) act)
   sends_or_not s act xs ys true e =
       let t = after plan commands s act in
@@ -115,15 +115,15 @@ LastIsMarked [] = Unit {0}
 LastIsMarked (p ∷ []) = p.marks ≡ [] → ⊥
 LastIsMarked (p ∷ next ∷ ps) = LastIsMarked (next ∷ ps)
 
--- a list with an element isn't empty
-pub marked : {A : Type 0} (xs : List A) (m : ℕ) (x : A) → slice_get xs m ≡ Some x → xs ≡ [] → ⊥
-marked [] m x got e = none_is_not x got
-marked (y ∷ xs) m x got e = cc
+-- a list with an element at a place isn't empty
+filled_at : {A : Type 0} (xs : List A) (m : ℕ) (x : A) → slice_get xs m ≡ Some x → xs ≡ [] → ⊥
+filled_at [] m x got e = none_is_not x got
+filled_at (y ∷ xs) m x got e = cc
 
 -- if the last part has a mark, `LastIsMarked` holds
 pub last_marked : (ps : List Part) (i m : ℕ) (p : Part) (mark : _) → length ps ≡ suc i → slice_get ps i ≡ Some p → slice_get p.marks m ≡ Some mark → LastIsMarked ps
 last_marked [] i m p mark size e got = tt
-last_marked (x ∷ []) zero m p mark size e got = marked x.marks m mark (subst (λ (y : Part). slice_get y.marks m ≡ Some mark) (sym (some_is x p e)) got)
+last_marked (x ∷ []) zero m p mark size e got = filled_at x.marks m mark (subst (λ (y : Part). slice_get y.marks m ≡ Some mark) (sym (some_is x p e)) got)
 last_marked (x ∷ []) (suc i) m p mark size e got = absurd (omega (arith, size))
 last_marked (x ∷ next ∷ ps) zero m p mark size e got = absurd (omega (arith, size))
 last_marked (x ∷ next ∷ ps) (suc i) m p mark size e got = last_marked (next ∷ ps) i m p mark (omega (arith, size)) e got

@@ -1,5 +1,5 @@
 -- Where the telescope pointed when a command of a chain was executed.
-use Rattle.std.proofs.Common.{◌≡◌, ℕ, zero, suc, ◌+◌, ◌-◌, ℤ, pos, ◌<◌, drop, Bool, true, false, cond, if◌then◌else◌, List, [], ◌∷◌, length, map, Option, Some, None, refl, sym, ◌∙◌, ap, subst, arith}
+use Rattle.std.proofs.Common.{◌≡◌, ℕ, ◌+◌, ◌-◌, ℤ, pos, ◌<◌, Bool, true, false, cond, if◌then◌else◌, List, [], ◌∷◌, length, map, Option, Some, None, refl, sym, ◌∙◌, ap, subst, arith}
 use Rattle.std.specs.Prelude.{slice_get}
 use Rattle.std.specs.List.{AllByRecursion}
 use Rattle.std.specs.Ordering.{int_eq}
@@ -12,7 +12,7 @@ use Rattle.gc_catalogue.specs.declared.asked.Asked.TheVariants.{Table, Raw}
 use Rattle.gc_catalogue.specs.declared.call.Call.{Call}
 use Rattle.gc_catalogue.specs.declared.call.Call.TheVariants as call
 use Rattle.gc_client.specs.OneForOne.{Wanted}
-use Rattle.gc_instrument.specs.Execution.{Executed, exec, done, refused, set_if, told, commanded, measured, unmeasured}
+use Rattle.gc_instrument.specs.Execution.{Executed, exec, done, refused, set_if, distance_outcome, commanded, measured, unmeasured}
 use Rattle.gc_instrument.specs.Replying as calls
 use Rattle.gc_instrument.specs.Replying.{Handed, kept_line}
 use Rattle.gc_instrument.specs.State.{State, IsFittingState}
@@ -23,7 +23,7 @@ use Rattle.gc_texts.specs.Stamps.{date_time}
 use Rattle.gc_texts.specs.Tasks.{call_at}
 use Rattle.gc_texts.specs.declared.tasks.Task.{Task}
 use Rattle.gc_station.specs.Links.{ChainsStay, MarksGoOn, RecordsStay, parts}
-use Rattle.gc_station.specs.Parts.{IsOf}
+use Rattle.gc_station.specs.Parts.{MarkAsks}
 use Rattle.gc_station.specs.Records.{Record}
 use Rattle.gc_station.specs.Runs.{state_after}
 use Rattle.gc_station.specs.Scopes.{Scope}
@@ -33,25 +33,26 @@ use Rattle.gc_field.specs.Simulator.{ends, handed}
 use Rattle.gc_world.specs.Order.{Each}
 use Rattle.gc_field.specs.World.{Sent}
 use Rattle.gc_world.proofs.Handing.{bare_after}
-use Rattle.gc_world.proofs.Options.{none_is_not, some_is}
+use Rattle.gc_world.proofs.Options.{some_is}
 use Rattle.gc_world.proofs.Places.{below, get_map, in_range}
 use Rattle.gc_field.specs.Begin.{UnderWay}
 use Rattle.gc_field.specs.Beginnings.{Run}
 use Rattle.gc_field.specs.Chains.{AreCalls, HasNoStartBetween, IsUndisturbed, IsChainedTo, IsExecutedInChain, behind, executing}
 use Rattle.gc_field.specs.Field.{Move, Sends, Tells, Comes, Foreign, OnLine, Anew, Changes, Joins}
 use Rattle.gc_field.specs.Laws.{asked, kept_of}
-use Rattle.gc_field.specs.Pointing.{AreStill, IsMeasuredWhereItPointed, IsPointedInChain, SimulatorHasItsEffect, bare, behind_call, turns_telescope}
+use Rattle.gc_field.specs.Pointing.{AreStill, IsMeasuredWhereItPointed, IsPointedInChain, SimulatorHasItsEffect, bare, after_call, turns_telescope}
 use Rattle.gc_field.specs.Runs.{IsInField, own_sent, world}
 use Rattle.gc_field.specs.Shown.{Stretch, stretches}
-use Rattle.gc_field.proofs.Chained.{chains_executed, sent_at, all_so}
+use Rattle.gc_field.proofs.Chained.{chains_executed, sent_at}
 use Rattle.gc_field.proofs.Instruments.{simulator}
 use Rattle.gc_field.proofs.Joining.{run_faithful}
 use Rattle.gc_field.proofs.Once.{true_is_not}
+use Rattle.gc_station.proofs.Lists.{all_on, get_dropped}
 
 -- What executing a call makes of the simulator.
 
 -- what a request makes of the simulator doesn't depend on the reply that is retained
-exec_bare : (s : State) (asked : Asked) → behind_call (bare s) asked ≡ bare (behind_call s asked)
+exec_bare : (s : State) (asked : Asked) → after_call (bare s) asked ≡ bare (after_call s asked)
 exec_bare s (Table c) = ap (λ (x : Executed). x.state) (executes_apart s None c)
 exec_bare s (Raw raw) = refl
 
@@ -60,8 +61,8 @@ handed_same : (s : State) (id : ℕ) (c : Call) (o : Option (List ℕ)) → kept
 handed_same s id c (Some line) e not = ap (λ (x : Handed State). x.state) (handed_again s id c line e)
 handed_same s id c None e not = absurd (true_is_not (sym (ap (λ (x : Handed State). x.executed) (handed_new s id c e)) ∙ not))
 
--- if the simulator executes a request, that has the effect `behind_call`
-executes : (s : State) (id : ℕ) (asked : Asked) → (handed s id asked).executed ≡ true → bare (handed s id asked).state ≡ bare (behind_call s asked)
+-- if the simulator executes a request, that has the effect `after_call`
+executes : (s : State) (id : ℕ) (asked : Asked) → (handed s id asked).executed ≡ true → bare (handed s id asked).state ≡ bare (after_call s asked)
 executes s id (Table c) e = bare_after s id c e ∙ exec_bare s (Table c)
 executes s id (Raw raw) e = refl
 
@@ -70,13 +71,13 @@ repeats : (s : State) (id : ℕ) (asked : Asked) → (handed s id asked).execute
 repeats s id (Table c) not = ap bare (handed_same s id c (kept_line s.kept (Some id)) refl not)
 repeats s id (Raw raw) not = refl
 
--- executing a request has the effect `behind_call` on the simulator
+-- executing a request has the effect `after_call` on the simulator
 pub has_effect : SimulatorHasItsEffect
 has_effect =
     record {
       executes = executes;
       repeats = repeats;
-      alike = λ s t asked e. sym (exec_bare s asked) ∙ ap (λ x. behind_call x asked) e ∙ exec_bare t asked;
+      alike = λ s t asked e. sym (exec_bare s asked) ∙ ap (λ x. after_call x asked) e ∙ exec_bare t asked;
     }
 
 -- if nothing disturbs the instrument, it doesn't start
@@ -103,7 +104,7 @@ set_same true s t h = h
 set_same false s t h = (refl, refl)
 
 -- telling a distance turns no telescope
-told_same : (s : State) (answer_with : Decimal → Answer) (d : Option Decimal) → IsSame s (told s answer_with d).state
+told_same : (s : State) (answer_with : Decimal → Answer) (d : Option Decimal) → IsSame s (distance_outcome s answer_with d).state
 told_same s answer_with None = (refl, refl)
 told_same s answer_with (Some d) = (refl, refl)
 
@@ -114,6 +115,7 @@ rows t a b c = cond a (done t Nothing) (cond b (done (measured t) Nothing) (cond
 -- executing a command to measure turns no telescope
 commanded_same : (s : State) (command : ℤ) → IsSame s (commanded s command).state
 commanded_same s command = by_tests (int_eq command (pos 0)) (int_eq command (pos 1)) (int_eq command (pos 3)) where
+  -- the lemma above, by the tests of `rows`
   by_tests : (a b c : Bool) → IsSame s (rows s a b c).state
   by_tests true b c = (refl, refl)
   by_tests false true c = (refl, refl)
@@ -136,7 +138,7 @@ call_same s (call.FineAdjust area_hz area_v dummy) e = cc
 call_same s c e = (refl, refl)
 
 -- a request that turns no telescope leaves its direction and its face as they were
-asked_same : (s : State) (asked : Asked) → turns_telescope asked ≡ false → IsSame s (behind_call s asked)
+asked_same : (s : State) (asked : Asked) → turns_telescope asked ≡ false → IsSame s (after_call s asked)
 asked_same s (Table c) e = call_same s c e
 asked_same s (Raw raw) e = (refl, refl)
 
@@ -152,11 +154,11 @@ unfolding exec
 position_points s hz v pos_mode atr_mode dummy = (refl, refl)
 
 -- calls that turn no telescope leave its direction and its face as they were
-executing_same : (calls : List Asked) (s : State) → Each (λ x. turns_telescope x ≡ false) calls → IsSame s (executing behind_call s calls)
+executing_same : (calls : List Asked) (s : State) → Each (λ x. turns_telescope x ≡ false) calls → IsSame s (executing after_call s calls)
 executing_same [] s h = (refl, refl)
 executing_same (x ∷ calls) s h =
     let one = asked_same s x h.0 in
-    let others = executing_same calls (behind_call s x) h.1 in
+    let others = executing_same calls (after_call s x) h.1 in
     (others.0 ∙ one.0, others.1 ∙ one.1)
 
 -- What was executed between.
@@ -173,13 +175,6 @@ all_still sent m n (k ∷ ns) (x ∷ calls) h g f =
     let still : turns_telescope h.0.0.call ≡ false =
     still_table h.0.0.call (λ of. let inside : (m < k) × (k < n) = g.0 h.0.0 h.0.1 of in f k h.0.0 inside.0 inside.1 h.0.1) in
     (ap turns_telescope (sym h.0.2) ∙ still, all_still sent m n ns calls h.1 g.1 f)
-
--- an element at place k + n of a list is after its first k at place n
-get_own : (k n j : ℕ) (xs : List Sent) (x : Sent) → j ≡ k + n → slice_get xs j ≡ Some x → slice_get (drop k xs) n ≡ Some x
-get_own zero n j xs x e got = let same : j ≡ n = omega (arith, e) in subst (λ i. slice_get xs i ≡ Some x) same got
-get_own (suc k) n j [] x e got = absurd (none_is_not x got)
-get_own (suc k) n zero (y ∷ xs) x e got = absurd (omega (arith, e))
-get_own (suc k) n (suc j) (y ∷ xs) x e got = get_own k n j xs x (omega (arith, e)) got
 
 -- a null procedure turns no telescope
 null_still : (a : Wanted Asked) (r : Sent) → asked r ≡ a → a ≡ record { target = 0; call = Table call.NullProc } → turns_telescope r.call ≡ false
@@ -204,7 +199,7 @@ module _ (plan : Plan) (commands : List Task) (scope : Scope) (acts : List Act) 
     -- a request between those of the chain's two commands turns no telescope, by its mark: it is a null procedure, or for a
     -- command between them
     still_by : (x : ℕ) (r : Sent) (o : Option _) (above : h.m < x) (under : x < h.n) → slice_get h.part.marks x ≡ Some o
-        → (y : Wanted Asked) → asked r ≡ y → IsOf commands o y → turns_telescope r.call ≡ false
+        → (y : Wanted Asked) → asked r ≡ y → MarkAsks commands o y → turns_telescope r.call ≡ false
     still_by x r None above under at y e is = null_still y r e is
     still_by x r (Some mark) above under at y e is =
         let there = h.between x mark above under at in
@@ -214,7 +209,7 @@ module _ (plan : Plan) (commands : List Task) (scope : Scope) (acts : List Act) 
     -- a request of the client between those of the chain's two commands turns no telescope
     still_at : (x : ℕ) (r : Sent) → h.m < x → x < h.n → slice_get (own_sent ends h.stretch) x ≡ Some r → turns_telescope r.call ≡ false
     still_at x r above under got =
-        let f = run_faithful ends IsFittingState kept_of simulator.is plan commands scope acts u rs field in
+        let f = run_faithful ends IsFittingState kept_of simulator.instrument plan commands scope acts u rs field in
         let of = sent_at ends commands (parts plan commands scope acts) ss h.i h.part h.stretch f.sent h.of_parts h.of_stretches in
         let size : h.n < length h.part.marks = below h.part.marks h.n _ h.mark_b in
         let mark = in_range h.part.marks x (omega (arith, under, size)) in
@@ -225,7 +220,7 @@ module _ (plan : Plan) (commands : List Task) (scope : Scope) (acts : List Act) 
     -- the same by the request's number in the stretch, if the eight null procedures come first
     still_number : (k : ℕ) (r : Sent) → 8 + h.m < k → k < 8 + h.n → slice_get (world ends h.stretch).wire.sent k ≡ Some r → turns_telescope r.call ≡ false
     still_number k r above under got =
-        still_at (k - 8) r (omega (arith, above)) (omega (arith, above, under)) (get_own 8 (k - 8) k (world ends h.stretch).wire.sent r (omega (arith, above)) got)
+        still_at (k - 8) r (omega (arith, above)) (omega (arith, above, under)) (get_dropped 8 (k - 8) k (world ends h.stretch).wire.sent r (omega (arith, above)) got)
 
     -- if nothing disturbs the simulator between the two executions, the telescope points as the earlier one left it
     pointed_there : IsUndisturbed h.executed.between → IsMeasuredWhereItPointed scope.reads commands (parts plan commands scope acts) ss (state_after plan commands scope acts).records a b line h
@@ -234,15 +229,15 @@ module _ (plan : Plan) (commands : List Task) (scope : Scope) (acts : List Act) 
         let s = (behind ends h.stretch x.first.front).state in
         let calls = all_still (world ends h.stretch).wire.sent (8 + h.m) (8 + h.n) x.numbers x.calls x.asked
         (x.strictly is_of_table simulator.keeps (no_start x.between quiet)) (λ k r above under got. still_number k r above under got) in
-        let there = x.state bare behind_call has_effect quiet in
-        let t = behind_call s h.record_a.command.call in
+        let there = x.state bare after_call has_effect quiet in
+        let t = after_call s h.record_a.command.call in
         let same = executing_same x.calls t calls in
         let pointing = ap (λ (z : State). z.pointing) there ∙ same.0 in
         let face = ap (λ (z : State). z.face) there ∙ same.1 in
         record {
           as_left = record { pointing = pointing; face = face };
           as_commanded = λ hz v pos_mode atr_mode dummy e.
-              let at = subst (λ c. ((behind_call s c).pointing ≡ record { hz = hz; v = v }) × ((behind_call s c).face ≡ s.face)) (sym e) (position_points s hz v pos_mode atr_mode dummy) in
+              let at = subst (λ c. ((after_call s c).pointing ≡ record { hz = hz; v = v }) × ((after_call s c).face ≡ s.face)) (sym e) (position_points s hz v pos_mode atr_mode dummy) in
               (pointing ∙ at.0, face ∙ at.1);
         }
 
@@ -250,7 +245,7 @@ module _ (plan : Plan) (commands : List Task) (scope : Scope) (acts : List Act) 
   -- `IsPointedInChain`
   pub pointed : ChainsStay → MarksGoOn → RecordsStay → AllByRecursion (IsPointedInChain plan commands scope acts u rs) (state_after plan commands scope acts).records
   pointed stay go_on records_stay =
-      all_so (IsExecutedInChain ends IsFittingState kept_of plan commands scope acts u rs) (IsPointedInChain plan commands scope acts u rs)
-      (λ b h line a answered many low less chained. let c = h line a answered many low less chained in (c, λ still quiet. pointed_there b line a c still quiet))
+      all_on (IsExecutedInChain ends IsFittingState kept_of plan commands scope acts u rs) (IsPointedInChain plan commands scope acts u rs)
       (state_after plan commands scope acts).records
-      (chains_executed ends IsFittingState kept_of simulator.is stay go_on records_stay plan commands scope acts u rs field)
+      (λ b h line a answered many low less chained. let c = h line a answered many low less chained in (c, λ still quiet. pointed_there b line a c still quiet))
+      (chains_executed ends IsFittingState kept_of simulator.instrument stay go_on records_stay plan commands scope acts u rs field)

@@ -1,12 +1,12 @@
 -- Each command of a station is safe in its stretch: it is sent after the table, as the station's rule says.
-use Rattle.std.proofs.Common.{◌≡◌, inl, inr, ℕ, zero, suc, ◌+◌, ◌<◌, ◌≤◌, Bool, true, false, List, [], ◌∷◌, ◌++◌, length, map, Option, Some, None, refl, sym, ◌∙◌, ap, subst, arith, ltb}
+use Rattle.std.proofs.Common.{◌≡◌, inl, inr, ℕ, ◌+◌, ◌<◌, ◌≤◌, Bool, true, false, List, [], ◌∷◌, ◌++◌, length, map, Option, Some, None, refl, sym, ◌∙◌, ap, subst, arith, ltb}
 use Rattle.std.proofs.lemmas.Bool.{ltb-true, ltb-false}
 use Rattle.std.specs.Prelude.{slice_get}
 use Rattle.std.proofs.lemmas.List.{length-append, length-map, length_push}
 use Rattle.gc_catalogue.specs.Asked.{is_of_table}
 use Rattle.gc_catalogue.specs.declared.asked.Asked.{Asked}
 use Rattle.gc_client.specs.OneForOne as step
-use Rattle.gc_client.specs.OneForOne.{Course, Step, begun, course, goes, sent_on}
+use Rattle.gc_client.specs.OneForOne.{Course, Step, begun, course, course_after, sent_on}
 use Rattle.gc_client.specs.Rule.{ById, Outcome, Answered, Late, Lost, Sending, sends}
 use Rattle.gc_instrument.specs.State.{KeptReply}
 use Rattle.gc_station.specs.Behind.{IsNearTheTable}
@@ -19,10 +19,12 @@ use Rattle.gc_field.specs.Instrument.{IsAnInstrument}
 use Rattle.gc_field.specs.Shown.{Stretch}
 use Rattle.gc_field.proofs.BegunFaithful.{sent_is}
 use Rattle.gc_field.proofs.InTime.{Sound, front_of, throughout}
+use Rattle.gc_station.proofs.Lists.{cons_head, cons_tail, get_behind}
 
 -- The step at which a request is sent.
 
--- these steps by the one at which request n is sent, if the course before them is x
+-- these steps, split at a send before which n requests were sent, where x is the course before the steps. The client may refuse that
+-- send
 pub record IsSplit (steps : List (Step Asked)) (x : Course Asked) (n : ℕ) : Type 0 where
   pub front : List (Step Asked)
   pub later : List (Step Asked)
@@ -37,20 +39,22 @@ sent_few : (x : Course Asked) (target : ℕ) (call : Asked) (o : Option (Sending
 sent_few x target call None = omega arith
 sent_few x target call (Some s) = omega (arith, length_push x.sent (record { target = target; call = call }))
 
--- where request n is sent at one of these steps, it is sent at one of them, and n requests before it
+-- if the course x has sent at most n requests, and more than n after these steps, the steps have a send before which n requests were
+-- sent (`IsSplit`)
 pub split_at : (steps : List (Step Asked)) (x : Course Asked) (n : ℕ) → length x.sent ≤ n → n < length (course 7 x steps).sent → IsSplit steps x n
 split_at [] x n low high = absurd (omega (arith, low, high))
 split_at (step.Send target call deadline ∷ steps) x n low high =
-    by_case (λ l. split_at steps (goes 7 x (step.Send target call deadline)) n l high) (ltb n (length (goes 7 x (step.Send target call deadline)).sent)) refl
+    by_case (λ l. split_at steps (course_after 7 x (step.Send target call deadline)) n l high) (ltb n (length (course_after 7 x (step.Send target call deadline)).sent)) refl
   where
-    by_case : (length (goes 7 x (step.Send target call deadline)).sent ≤ n → IsSplit steps (goes 7 x (step.Send target call deadline)) n) → (b : Bool)
-        → ltb n (length (goes 7 x (step.Send target call deadline)).sent) ≡ b → IsSplit (step.Send target call deadline ∷ steps) x n
+    -- the lemma above, by whether request n is sent at this step (`b`)
+    by_case : (length (course_after 7 x (step.Send target call deadline)).sent ≤ n → IsSplit steps (course_after 7 x (step.Send target call deadline)) n) → (b : Bool)
+        → ltb n (length (course_after 7 x (step.Send target call deadline)).sent) ≡ b → IsSplit (step.Send target call deadline ∷ steps) x n
     by_case others true e =
-        let l : n < length (goes 7 x (step.Send target call deadline)).sent = ltb-true n (length (goes 7 x (step.Send target call deadline)).sent) e in
+        let l : n < length (course_after 7 x (step.Send target call deadline)).sent = ltb-true n (length (course_after 7 x (step.Send target call deadline)).sent) e in
         let few = sent_few x target call (sends 7 x.client target call deadline) in
         record { front = []; later = steps; target = target; call = call; deadline = deadline; split = refl; number = omega (arith, l, few, low) }
     by_case others false e =
-        let r = others (ltb-false n (length (goes 7 x (step.Send target call deadline)).sent) e) in
+        let r = others (ltb-false n (length (course_after 7 x (step.Send target call deadline)).sent) e) in
         record {
           front = step.Send target call deadline ∷ r.front;
           later = r.later;
@@ -61,37 +65,29 @@ split_at (step.Send target call deadline ∷ steps) x n low high =
           number = r.number;
         }
 split_at (step.Hear line ∷ steps) x n low high =
-    let r = split_at steps (goes 7 x (step.Hear line)) n low high in
+    let r = split_at steps (course_after 7 x (step.Hear line)) n low high in
     record { front = step.Hear line ∷ r.front; later = r.later; target = r.target; call = r.call; deadline = r.deadline; split = ap (λ l. step.Hear line ∷ l) r.split; number = r.number }
 split_at (step.Expire now ∷ steps) x n low high =
-    let r = split_at steps (goes 7 x (step.Expire now)) n low high in
+    let r = split_at steps (course_after 7 x (step.Expire now)) n low high in
     record { front = step.Expire now ∷ r.front; later = r.later; target = r.target; call = r.call; deadline = r.deadline; split = ap (λ l. step.Expire now ∷ l) r.split; number = r.number }
 split_at (step.Restart ∷ steps) x n low high =
-    let r = split_at steps (goes 7 x step.Restart) n low high in
+    let r = split_at steps (course_after 7 x step.Restart) n low high in
     record { front = step.Restart ∷ r.front; later = r.later; target = r.target; call = r.call; deadline = r.deadline; split = ap (λ l. step.Restart ∷ l) r.split; number = r.number }
 
--- moves by the step that one of them shows
+-- these moves, split at a send with this target, call and deadline: the client sees the steps `front` of the moves before it
 pub record IsSeen {State : Type 0} (ms : List (Move State)) (front : List (Step Asked)) (target : ℕ) (call : Asked) (deadline : ℕ) : Type 0 where
   pub before : List (Move State)
   pub after : List (Move State)
   pub split : ms ≡ before ++ Sends target call deadline ∷ after
   pub seen_before : seen before ≡ front
 
--- the first elements of equal lists of steps are equal
-step_head : (x y : Step Asked) (xs ys : List (Step Asked)) → x ∷ xs ≡ y ∷ ys → x ≡ y
-step_head x y xs ys e = cc
-
--- the rests of equal lists of steps are equal
-step_tail : (x y : Step Asked) (xs ys : List (Step Asked)) → x ∷ xs ≡ y ∷ ys → xs ≡ ys
-step_tail x y xs ys e = cc
-
--- a move before those that are seen so, of which nothing is seen
+-- `IsSeen` is preserved by a move put before the others of which the client sees nothing
 seen_later : {State : Type 0} (m : Move State) (ms : List (Move State)) (front : List (Step Asked)) (target : ℕ) (call : Asked) (deadline : ℕ) → ((l : List (Move State)) → seen (m ∷ l) ≡ seen l)
     → IsSeen ms front target call deadline → IsSeen (m ∷ ms) front target call deadline
 seen_later m ms front target call deadline none h =
     record { before = m ∷ h.before; after = h.after; split = ap (λ l. m ∷ l) h.split; seen_before = none h.before ∙ h.seen_before }
 
--- a move before those that are seen so, of which this step is seen
+-- `IsSeen` is preserved by a move put before the others of which the client sees the step s, with s put before `front`
 seen_more : {State : Type 0} (m : Move State) (s : Step Asked) (ms : List (Move State)) (front : List (Step Asked)) (target : ℕ) (call : Asked) (deadline : ℕ)
     → ((l : List (Move State)) → seen (m ∷ l) ≡ s ∷ seen l) → IsSeen ms front target call deadline → IsSeen (m ∷ ms) (s ∷ front) target call deadline
 seen_more m s ms front target call deadline one h =
@@ -103,29 +99,30 @@ pub seen_at : {State : Type 0} (ms : List (Move State)) (front later : List (Ste
 seen_at [] [] later target call deadline e = let never : ⊥ = cc in absurd never
 seen_at [] (s ∷ front) later target call deadline e = let never : ⊥ = cc in absurd never
 seen_at (Sends t c d ∷ ms) [] later target call deadline e =
-    record { before = []; after = ms; split = same (step_head (step.Send t c d) (step.Send target call deadline) (seen ms) later e); seen_before = refl }
+    record { before = []; after = ms; split = same (cons_head (step.Send t c d) (step.Send target call deadline) (seen ms) later e); seen_before = refl }
   where
+    -- equal sends of the client are equal moves
     same : step.Send t c d ≡ step.Send target call deadline → Sends t c d ∷ ms ≡ Sends target call deadline ∷ ms
     same e = cc
 seen_at (Sends t c d ∷ ms) (s ∷ front) later target call deadline e =
-    subst (λ (x : Step Asked). IsSeen (Sends t c d ∷ ms) (x ∷ front) target call deadline) (step_head (step.Send t c d) s (seen ms) (front ++ step.Send target call deadline ∷ later) e)
+    subst (λ (x : Step Asked). IsSeen (Sends t c d ∷ ms) (x ∷ front) target call deadline) (cons_head (step.Send t c d) s (seen ms) (front ++ step.Send target call deadline ∷ later) e)
     (seen_more (Sends t c d) (step.Send t c d) ms front target call deadline (λ l. refl)
-    (seen_at ms front later target call deadline (step_tail (step.Send t c d) s (seen ms) (front ++ step.Send target call deadline ∷ later) e)))
+    (seen_at ms front later target call deadline (cons_tail (step.Send t c d) s (seen ms) (front ++ step.Send target call deadline ∷ later) e)))
 seen_at (Tells now ∷ ms) [] later target call deadline e = let never : ⊥ = cc in absurd never
 seen_at (Tells now ∷ ms) (s ∷ front) later target call deadline e =
-    subst (λ (x : Step Asked). IsSeen (Tells now ∷ ms) (x ∷ front) target call deadline) (step_head (step.Expire now) s (seen ms) (front ++ step.Send target call deadline ∷ later) e)
+    subst (λ (x : Step Asked). IsSeen (Tells now ∷ ms) (x ∷ front) target call deadline) (cons_head (step.Expire now) s (seen ms) (front ++ step.Send target call deadline ∷ later) e)
     (seen_more (Tells now) (step.Expire now) ms front target call deadline (λ l. refl)
-    (seen_at ms front later target call deadline (step_tail (step.Expire now) s (seen ms) (front ++ step.Send target call deadline ∷ later) e)))
+    (seen_at ms front later target call deadline (cons_tail (step.Expire now) s (seen ms) (front ++ step.Send target call deadline ∷ later) e)))
 seen_at (Comes line ∷ ms) [] later target call deadline e = let never : ⊥ = cc in absurd never
 seen_at (Comes line ∷ ms) (s ∷ front) later target call deadline e =
-    subst (λ (x : Step Asked). IsSeen (Comes line ∷ ms) (x ∷ front) target call deadline) (step_head (step.Hear line) s (seen ms) (front ++ step.Send target call deadline ∷ later) e)
+    subst (λ (x : Step Asked). IsSeen (Comes line ∷ ms) (x ∷ front) target call deadline) (cons_head (step.Hear line) s (seen ms) (front ++ step.Send target call deadline ∷ later) e)
     (seen_more (Comes line) (step.Hear line) ms front target call deadline (λ l. refl)
-    (seen_at ms front later target call deadline (step_tail (step.Hear line) s (seen ms) (front ++ step.Send target call deadline ∷ later) e)))
+    (seen_at ms front later target call deadline (cons_tail (step.Hear line) s (seen ms) (front ++ step.Send target call deadline ∷ later) e)))
 seen_at (Foreign line ∷ ms) [] later target call deadline e = let never : ⊥ = cc in absurd never
 seen_at (Foreign line ∷ ms) (s ∷ front) later target call deadline e =
-    subst (λ (x : Step Asked). IsSeen (Foreign line ∷ ms) (x ∷ front) target call deadline) (step_head (step.Hear line) s (seen ms) (front ++ step.Send target call deadline ∷ later) e)
+    subst (λ (x : Step Asked). IsSeen (Foreign line ∷ ms) (x ∷ front) target call deadline) (cons_head (step.Hear line) s (seen ms) (front ++ step.Send target call deadline ∷ later) e)
     (seen_more (Foreign line) (step.Hear line) ms front target call deadline (λ l. refl)
-    (seen_at ms front later target call deadline (step_tail (step.Hear line) s (seen ms) (front ++ step.Send target call deadline ∷ later) e)))
+    (seen_at ms front later target call deadline (cons_tail (step.Hear line) s (seen ms) (front ++ step.Send target call deadline ∷ later) e)))
 seen_at (OnLine m ∷ ms) front later target call deadline e = seen_later (OnLine m) ms front target call deadline (λ l. refl) (seen_at ms front later target call deadline e)
 seen_at (Anew ∷ ms) front later target call deadline e = seen_later Anew ms front target call deadline (λ l. refl) (seen_at ms front later target call deadline e)
 seen_at (Changes state ∷ ms) front later target call deadline e = seen_later (Changes state) ms front target call deadline (λ l. refl) (seen_at ms front later target call deadline e)
@@ -138,12 +135,6 @@ by_reply : (o : Outcome) → (o ≡ Lost → ⊥) → IsByReply o
 by_reply (Answered line) not = tt
 by_reply Late not = tt
 by_reply Lost not = not refl
-
--- what is at place k of the second list is at place length xs + k of both
-get_behind : {A : Type 0} (xs ys : List A) (n k : ℕ) (x : A) → n ≡ length xs + k → slice_get ys k ≡ Some x → slice_get (xs ++ ys) n ≡ Some x
-get_behind [] ys n k x e got = let same : k ≡ n = omega (arith, e) in subst (λ i. slice_get ys i ≡ Some x) same got
-get_behind (y ∷ xs) ys zero k x e got = absurd (omega (arith, e))
-get_behind (y ∷ xs) ys (suc n) k x e got = get_behind xs ys n k x (omega (arith, e)) got
 
 module _ {State : Type 0} (ends : Ends State) (Good : State → Type 0) (kept : State → Option KeptReply) (is : IsAnInstrument ends Good kept) where
   -- before a move of a sound stretch, the requests sent are the eight null procedures and those of the steps that are seen
@@ -167,7 +158,7 @@ module _ {State : Type 0} (ends : Ends State) (Good : State → Type 0) (kept : 
         | inl few ↦ (7, omega (arith, count), omega (arith, count, few), inl refl)
         | inr h ↦ (
             let got : slice_get w.settled (8 + h.0) ≡ Some h.1 =
-            subst (λ l. slice_get l (8 + h.0) ≡ Some h.1) (sym f.settled) (get_behind nulls_settled x.settlements (8 + h.0) h.0 h.1 refl h.2) in
+            subst (λ l. slice_get l (8 + h.0) ≡ Some h.1) (sym f.settled) (get_behind nulls_settled x.settlements (8 + h.0) h.0 refl ∙ h.2) in
             let low : 8 + h.0 < length w.settled = below w.settled (8 + h.0) h.1 got in
             let many : length w.settled ≤ length w.sent = f.one_for_one.count in
             let r = in_range w.sent (8 + h.0) (omega (arith, low, many)) in
@@ -175,8 +166,8 @@ module _ {State : Type 0} (ends : Ends State) (Good : State → Type 0) (kept : 
             (8 + h.0, omega (arith, low, many), omega (arith, count, h.4), inr (r.0, h.1, r.1, sym (ap is_of_table same) ∙ h.3.0, got, by_reply h.1.outcome h.3.1)))
       ]
 
-  -- where request n is sent at one of the steps that a sound stretch shows, and is sent near the table, it is sent after the
-  -- table
+  -- if a sound stretch shows steps in which more than n requests are sent, and each send before which n of them were sent is near the
+  -- table, request 8 + n of the stretch is sent after the table
   pub goes_out : (s : Stretch State) → Sound ends Good kept is s → (steps : List (Step Asked)) → seen s.moves ≡ steps → (n : ℕ) → n < length (course 7 begun steps).sent
       → ((front later : List (Step Asked)) (target : ℕ) (call : Asked) (deadline : ℕ) → steps ≡ front ++ step.Send target call deadline ∷ later → length (course 7 begun front).sent ≡ n
       → IsNearTheTable (course 7 begun front)) → WentOutBehindTheTable 7 ends s.from s.moves (8 + n)
@@ -193,6 +184,6 @@ module _ {State : Type 0} (ends : Ends State) (Good : State → Type 0) (kept : 
         deadline = at.deadline;
         split = m.split;
         number = sent_count s sound m.before rest m.split ∙ ap (λ k. 8 + k) count;
-        is = near_is s sound m.before rest m.split
+        behind_table = near_is s sound m.before rest m.split
             (subst (λ l. IsNearTheTable (course 7 begun l)) (sym m.seen_before) (near at.front at.later at.target at.call at.deadline at.split at.number));
       }

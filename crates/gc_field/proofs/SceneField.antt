@@ -25,17 +25,10 @@ use Rattle.gc_scenes.specs.SceneState.{SceneState}
 use Rattle.gc_scenes.specs.declared.rules.Fault.{Fault}
 use Rattle.gc_scenes.specs.declared.rules.Scripted.{Scripted}
 use Rattle.gc_field.specs.Instrument.{KeepsItsOwn}
-use Rattle.gc_field.specs.SceneField.{scene_handed, scene_ends, scene_kept, KeepsAReply, IsHeard, SceneIsAnInstrument}
+use Rattle.gc_field.specs.SceneField.{scene_handed, scene_ends, scene_kept, RetainedReads, ReadsWithItsId, SceneIsAnInstrument}
 use Rattle.gc_field.proofs.Once.{true_is_not}
 use Rattle.gc_field.proofs.Instruments.{kept_own}
-
--- equal numbers within `Some` are equal
-some_number : (a b : ℕ) → Some a ≡ Some b → a ≡ b
-some_number a b e = cc
-
--- equal outcomes within `Some` are equal
-some_played : (a b : Played) → Some a ≡ Some b → a ≡ b
-some_played a b e = cc
+use Rattle.gc_world.proofs.Options.{some_is}
 
 -- what is sent again is what is retained
 again_kept : (b : Bool) (k : Option KeptReply) (id : ℕ) (line : List ℕ) → cond b (kept_line k (Some id)) None ≡ Some line → k ≡ Some (record { id = id; line = line })
@@ -45,10 +38,10 @@ again_kept false k id line e = let wrong : ⊥ = cc in absurd wrong
 -- what the instrument does with a request, of which `known` says whether it is a call of the table, meets the clauses of
 -- `IsAnInstrument`
 record Does (s : SceneState) (id : ℕ) (known : Bool) (h : Handed SceneState) : Type 0 where
-  reads : IsHeard s.base.kept → heard h.reply ≡ Some id
+  reads : ReadsWithItsId s.base.kept → heard h.reply ≡ Some id
   repeats : h.executed ≡ false → s.base.kept ≡ Some (record { id = id; line = h.reply })
   keeps : ((h.state.base.kept ≡ None) ⊎ (h.state.base.kept ≡ Some (record { id = id; line = h.reply }))) ⊎ ((known ≡ false) × (h.state.base.kept ≡ s.base.kept))
-  good : IsHeard s.base.kept → IsHeard h.state.base.kept
+  good : ReadsWithItsId s.base.kept → ReadsWithItsId h.state.base.kept
 
 -- a reply's line has its id
 line_heard : (id : ℕ) (p : Played) → id < 8 → p.rc < 65536 → heard (line_of id p) ≡ Some id
@@ -61,7 +54,7 @@ own_or_none true id line k = inr refl
 own_or_none false id line k = inl refl
 
 -- a line that is retained after a request reads as a reply with its id
-kept_heard : (b : Bool) (id : ℕ) (line : List ℕ) (k : Option KeptReply) → heard line ≡ Some id → IsHeard (cond b (kept_after k (Some id) line) None)
+kept_heard : (b : Bool) (id : ℕ) (line : List ℕ) (k : Option KeptReply) → heard line ≡ Some id → ReadsWithItsId (cond b (kept_after k (Some id) line) None)
 kept_heard true id line k h = h
 kept_heard false id line k h = tt
 
@@ -69,7 +62,7 @@ kept_heard false id line k h = tt
 played_does : (s : SceneState) (id : ℕ) (known : Bool) (p : Played) (o : Option (List ℕ)) → again_for s (Some id) ≡ o → id < 8 → p.rc < 65536 → Does s id known (again_or_played s (Some id) p o)
 played_does s id known p (Some line) again small code =
     let kept = again_kept s.repeats s.base.kept id line again in
-    record { reads = λ good. subst IsHeard kept good; repeats = λ _. kept; keeps = inl (inr kept); good = λ good. good }
+    record { reads = λ good. subst ReadsWithItsId kept good; repeats = λ _. kept; keeps = inl (inr kept); good = λ good. good }
 played_does s id known p None again small code =
     let line = line_of id p in
     record {
@@ -81,7 +74,7 @@ played_does s id known p None again small code =
 
 -- the code of a fault that is due, or else of a later one, is below 65536
 fault_by : (f : Fault) (b : Bool) (later : Option ℕ) (code : ℕ) → (later ≡ Some code → code < 65536) → cond b (Some f.rc) later ≡ Some code → code < 65536
-fault_by f true later code rest e = subst (λ (c : ℕ). c < 65536) (some_number f.rc code e) f.fits
+fault_by f true later code rest e = subst (λ (c : ℕ). c < 65536) (some_is f.rc code e) f.fits
 fault_by f false later code rest e = rest e
 
 -- the code of the first fault that is due is below 65536
@@ -98,11 +91,11 @@ call_bound s call None is = (outcome_sound s call).code
 -- the code of a reply that the scene gives to a procedure is below 65536
 scripted_bound : (s : SceneState) (a : Option Scripted) (p : Played) → scripted s a ≡ Some p → p.rc < 65536
 scripted_bound s None p e = let wrong : ⊥ = cc in absurd wrong
-scripted_bound s (Some a) p e = subst (λ (q : Played). q.rc < 65536) (some_played (record { state = s; rc = a.rc; params = scripted_params a.with }) p e) a.fits
+scripted_bound s (Some a) p e = subst (λ (q : Played). q.rc < 65536) (some_is {A = Played} (record { state = s; rc = a.rc; params = scripted_params a.with }) p e) a.fits
 
 -- the code with which a request is answered that is no call of the table is below 65536
 raw_bound : (s : SceneState) (rpc : ℕ) (o : Option ℕ) (p : Played) → ((code : ℕ) → o ≡ Some code → code < 65536) → unless_faulted_raw s rpc o ≡ Some p → p.rc < 65536
-raw_bound s rpc (Some code) p is e = subst (λ (q : Played). q.rc < 65536) (some_played (record { state = s; rc = code; params = [] }) p e) (is code refl)
+raw_bound s rpc (Some code) p is e = subst (λ (q : Played). q.rc < 65536) (some_is {A = Played} (record { state = s; rc = code; params = [] }) p e) (is code refl)
 raw_bound s rpc None p is e = scripted_bound s (answer_of rpc s.answers) p e
 
 -- a call of the table meets the clauses
@@ -152,7 +145,7 @@ raws s id raw small =
 -- the instrument of a scene is an instrument, and what `scene_handed` says of a request is what it does with the line
 pub scene_is_an_instrument : SceneIsAnInstrument
 scene_is_an_instrument = record {
-  is = record {
+  instrument = record {
     hears = λ line. refl;
     replies = λ s id asked good small. (asked_does s id asked small).reads good;
     repeats = λ s id asked good small not. (asked_does s id asked small).repeats not;

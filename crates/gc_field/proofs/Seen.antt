@@ -36,9 +36,9 @@ module _ {State : Type 0} (width : ℕ) (ends : Ends State) (same_heard : (line 
       (same_option x w target call (sends width w.client target call deadline) h)
 
   -- `SameAs` is preserved by a reply that is heard
-  same_reply : (x : Course Asked) (w : World (ById Asked) State) (line : List ℕ) (n : ℕ) (rest : List (Numbered (List ℕ))) → SameAs x w
+  same_reply : (x : Course Asked) (w : World (ById Asked) State) (line : List ℕ) (rest : List (Numbered (List ℕ))) → SameAs x w
       → SameAs (settled_on x (hears x.client line (heard line))) (with_settled (record w.wire { down = rest }) (hears w.client line (ends.heard line)))
-  same_reply x w line n rest h =
+  same_reply x w line rest h =
       subst (λ o. SameAs (settled_on x (hears x.client line (heard line))) (with_settled (record w.wire { down = rest }) (hears w.client line o))) (sym (same_heard line))
       (subst (λ c. SameAs (settled_on x (hears c line (heard line))) (with_settled (record w.wire { down = rest }) (hears w.client line (heard line)))) (sym h.client)
       (record { sent = h.sent; settled = ap (λ l. l ++ (hears w.client line (heard line)).settlements) h.settled; client = refl }))
@@ -48,7 +48,7 @@ module _ {State : Type 0} (width : ℕ) (ends : Ends State) (same_heard : (line 
       → w.wire.down ≡ record { number = n; line = line } ∷ rest → SameAs x w
       → SameAs (settled_on x (hears x.client line (heard line))) (down_delivered (by_ids width ends) w w.wire.down)
   same_comes x w line n rest e h =
-      subst (λ q. SameAs (settled_on x (hears x.client line (heard line))) (down_delivered (by_ids width ends) w q)) (sym e) (same_reply x w line n rest h)
+      subst (λ q. SameAs (settled_on x (hears x.client line (heard line))) (down_delivered (by_ids width ends) w q)) (sym e) (same_reply x w line rest h)
 
   -- `SameAs` is preserved by a line without an id
   same_foreign : (x : Course Asked) (w : World (ById Asked) State) (line : List ℕ) → heard line ≡ None → SameAs x w → SameAs (settled_on x (hears x.client line (heard line))) w

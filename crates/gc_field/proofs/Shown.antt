@@ -5,7 +5,7 @@ use Rattle.gc_station.specs.Beginnings.{unanswered_after}
 use Rattle.gc_station.specs.Begun.{heard_in}
 use Rattle.gc_station.proofs.Asked.{heard_append, left_append}
 use Rattle.gc_field.specs.World.{Ends}
-use Rattle.gc_field.specs.Begin.{Aged, Model, Turn, Asks, Comes, Foreign, Reaches, Up_lose, Up_repeat, Down_lose, Down_repeat, Anew, Changes, comes, reaches, asks, turned, turns}
+use Rattle.gc_field.specs.Begin.{InFlight, Model, Turn, Asks, Comes, Foreign, Reaches, Up_lose, Up_repeat, Down_lose, Down_repeat, Anew, Changes, comes, reaches, asks, turned, turns}
 use Rattle.gc_field.specs.Shown.{first_heard, shown, shows}
 
 -- turns leave of the word what the lines leave that they show
@@ -16,7 +16,7 @@ module _ {State : Type 0} (ends : Ends State) where
   left_asks s (asked ∷ rest) e = refl
 
   -- a reply that comes leaves of the word what its line leaves
-  left_comes : (s : Model State) (q : List (Aged (List ℕ))) → (comes s q).left ≡ unanswered_after s.left (heard_in (first_heard q))
+  left_comes : (s : Model State) (q : List (InFlight (List ℕ))) → (comes s q).left ≡ unanswered_after s.left (heard_in (first_heard q))
   left_comes s [] = refl
   left_comes s (x ∷ rest) = refl
 

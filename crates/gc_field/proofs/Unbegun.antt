@@ -4,30 +4,25 @@ use Rattle.std.specs.Prelude.{slice_get}
 use Rattle.gc_catalogue.specs.declared.asked.Asked.{Asked}
 use Rattle.gc_client.specs.Rule.{Settlement}
 use Rattle.gc_instrument.specs.State.{KeptReply}
+use Rattle.gc_station.proofs.Lists.{cons_head}
 use Rattle.gc_field.specs.World.{Ends, Numbered}
 use Rattle.gc_world.proofs.Places.{below}
 use Rattle.gc_world.proofs.Settled as settled
 use Rattle.gc_field.specs.Begin.{UnderWay}
 use Rattle.gc_field.specs.Begun.{IsFaithful, nulls, nulls_settled}
-use Rattle.gc_field.proofs.BegunFaithful.{of_last}
+use Rattle.gc_field.proofs.BegunFaithful.{none_at, of_last}
 
 -- right after a synchronization no settlement has a number from 8 on
 none_own : (m : ℕ) (s : Settlement Asked) → 8 ≤ m → slice_get nulls_settled m ≡ Some s → ⊥
 none_own m s ge e = let low : m < 8 = below nulls_settled m s e in omega (arith, low, ge)
 
--- an empty list has nothing at any place
-none_at : (j n : ℕ) → slice_get [] j ≡ Some n → ⊥
-none_at j n e = cc
-
 -- right after a synchronization no reply in flight belongs to a request from 8 on
 of_seven : (xs : List (List ℕ)) (n : ℕ) (line : List ℕ) (rest : List (Numbered (List ℕ))) → of_last xs ≡ record { number = n; line = line } ∷ rest → 8 ≤ n → ⊥
 of_seven [] n line rest e ge = cc
-of_seven (x ∷ xs) n line rest e ge = let is : 7 ≡ n = first (record { number = 7; line = x }) (record { number = n; line = line }) (of_last xs) rest e in omega (arith, is, ge) where
-  first : (a b : Numbered (List ℕ)) (xs ys : List (Numbered (List ℕ))) → a ∷ xs ≡ b ∷ ys → a.number ≡ b.number
-  first a b xs ys e = ap (λ (x : Numbered (List ℕ)). x.number) (head a b xs ys e) where
-    -- the first elements of equal lists are equal
-    head : (a b : Numbered (List ℕ)) (xs ys : List (Numbered (List ℕ))) → a ∷ xs ≡ b ∷ ys → a ≡ b
-    head a b xs ys e = cc
+of_seven (x ∷ xs) n line rest e ge = let is : 7 ≡ n = first_number (record { number = 7; line = x }) (record { number = n; line = line }) (of_last xs) rest e in omega (arith, is, ge) where
+  -- the numbers of the first elements of equal lists are equal
+  first_number : (a b : Numbered (List ℕ)) (xs ys : List (Numbered (List ℕ))) → a ∷ xs ≡ b ∷ ys → a.number ≡ b.number
+  first_number a b xs ys e = ap (λ (x : Numbered (List ℕ)). x.number) (cons_head a b xs ys e)
 
 -- right after a synchronization, with no moves, `IsFaithful` holds
 pub faithful_none : {State : Type 0} (ends : Ends State) (Good : State → Type 0) (kept : State → Option KeptReply) (u : UnderWay State) → IsFaithful 7 ends u [] Good kept

@@ -22,7 +22,7 @@ use Rattle.gc_world.proofs.Rows.{each_append, each_more, each_without, each_doub
 use Rattle.gc_world.proofs.Sound.{IsGoing, Sound}
 use Rattle.gc_field.specs.Field.{IsOfLine}
 use Rattle.gc_field.specs.Instrument.{IsAnInstrumentFor, KeepsItsReply}
-use Rattle.gc_field.proofs.Answered.{AllSo, all_so_more, all_so_append, all_so_settle}
+use Rattle.gc_field.proofs.Answered.{HoldsOfAll, all_so_more, all_so_append, all_so_settle}
 use Rattle.gc_field.proofs.Once.{IsClimbing, IsIdle, IsOrdered, IsUnknown, climbing_started, climbing_acted, climbing_handed, climbing_sent, known_not, ordered_acted, ordered_handed, unknown_more, why_acted, true_is_not}
 use Rattle.gc_field.proofs.KeptReplies.{rising_each, rising_tail, KeptIs, kept_more, kept_still, newest, newest_up, newest_low, IsDealt, newest_dealt, kept_handed, IsVouched, IsOn}
 use Rattle.gc_field.proofs.NearTable.{IsNear, near_same, near_on, near_of}
@@ -37,10 +37,12 @@ module _ {State : Type 0} (width : ℕ) (narrow : width ≤ 7) (knows : Asked �
   vouched_sent : (sent more : List Sent) (executed : List ℕ) (made : List (Numbered (List ℕ))) (table n : ℕ) (line : List ℕ)
       → Vouched sent executed made table n line → Vouched (sent ++ more) executed made table n line
   vouched_sent sent more executed made table n line h = (dealt h.0, own h.1) where
+    -- request n stays `IsDealt` where more requests are sent
     dealt : IsDealt knows sent table n → IsDealt knows (sent ++ more) table n
     dealt (inl l) = inl l
     dealt (inr u) = inr (unknown_more knows sent more n u)
 
+    -- request n stays excepted, or its line vouched for, where more requests are sent
     own : E n ⊎ IsVouched ends Good M sent executed made n line → E n ⊎ IsVouched ends Good M (sent ++ more) executed made n line
     own (inl e) = inl e
     own (inr v) = inr (record { among = v.among; acted = v.acted; request = v.request; found = get_more sent more n v.request v.found; reply = v.reply; on = v.on })
@@ -49,10 +51,12 @@ module _ {State : Type 0} (width : ℕ) (narrow : width ≤ 7) (knows : Asked �
   vouched_on : (sent : List Sent) (executed after : List ℕ) (made more : List (Numbered (List ℕ))) (table next n : ℕ) (line : List ℕ) → ((i : ℕ) → Has i executed → Has i after)
       → table ≤ next → Vouched sent executed made table n line → Vouched sent after (made ++ more) next n line
   vouched_on sent executed after made more table next n line lasts le h = (dealt h.0, own h.1) where
+    -- request n stays `IsDealt` where a later request is the newest known one
     dealt : IsDealt knows sent table n → IsDealt knows sent next n
     dealt (inl l) = inl (omega (arith, l, le))
     dealt (inr u) = inr u
 
+    -- request n stays excepted, or its line vouched for, where more requests are executed and more replies made
     own : E n ⊎ IsVouched ends Good M sent executed made n line → E n ⊎ IsVouched ends Good M sent after (made ++ more) n line
     own (inl e) = inl e
     own (inr v) = inr (record { among = has_more _ made more v.among; acted = lasts n v.acted; request = v.request; found = v.found; reply = v.reply; on = v.on })
@@ -75,7 +79,7 @@ module _ {State : Type 0} (width : ℕ) (narrow : width ≤ 7) (knows : Asked �
     pub lines : Each (IsOf written sent) up
     pub near : IsNear knows E Plain sent top table
     pub coming : Each (λ x. Vouched sent executed made table x.number x.line) down
-    pub answers : AllSo (Vouched sent executed made table) 0 settled
+    pub answers : HoldsOfAll (Vouched sent executed made table) 0 settled
     pub order : IsOrdered top executed
     pub once : (keeps : Asked → Bool) → KeepsItsReply ends Good kept keeps → IsClimbing keeps ((top - 1 - since) % 8) top sent executed starts k
 
@@ -112,6 +116,7 @@ module _ {State : Type 0} (width : ℕ) (narrow : width ≤ 7) (knows : Asked �
         once = λ keeps is. climbing_sent keeps ((h.top - 1 - since) % 8) h.top sent (r ∷ []) executed starts k (h.once keeps is);
       }
     where
+      -- `IsNear` is preserved if the request r is sent, which is known if all have to be
       near_sent : (r : Sent) → (Plain → knows r.call ≡ true) → IsNear knows E Plain sent h.top h.table → IsNear knows E Plain (sent ++ r ∷ []) h.top h.table
       near_sent r plain (inl n) = inl (n.0, n.1, each_append (λ (r : Sent). knows r.call ≡ true) sent (r ∷ []) n.2 (plain n.0, tt))
       near_sent r plain (inr n) = inr n
@@ -161,8 +166,8 @@ module _ {State : Type 0} (width : ℕ) (narrow : width ≤ 7) (knows : Asked �
         all = λ every. sym is ∙ sym (ap knows o.call) ∙ each_get (λ (r : Sent). knows r.call ≡ true) w.wire.sent x.number o.request every o.found;
       }
 
-  -- `AllVouchedIn` is preserved if the front request, x, is handed to the instrument, if what it sends is vouched for, and the executions
-  -- are in order and act once
+  -- `AllVouchedIn` is preserved if the front request, x, is handed to the instrument, if what it sends is vouched for, and the
+  -- executions are in order and act once
   true_on : (w : World (ByNumber Asked) State) (x : Numbered Request) (rest : List (Numbered Request)) (known : Bool) (line executed : List ℕ) (after : Option KeptReply) → w.wire.up ≡ x ∷ rest
       → (h : AllVouched w) → IsFront w h x known → Sound width ends Good w → ((i : ℕ) → Has i w.wire.executed → Has i executed)
       → ((after ≡ None) ⊎ (after ≡ Some (record { id = x.line.id; line = line }))) ⊎ ((known ≡ false) × (after ≡ kept w.wire.state))
@@ -306,20 +311,24 @@ module _ {State : Type 0} (width : ℕ) (narrow : width ≤ 7) (knows : Asked �
       → ends.handed w.wire.state x.line.id x.line.call ≡ hd → hd.executed ≡ b → (hd.executed ≡ true → M x.number x.line.call hd.reply)
       → Sound width ends Good w → AllVouched w → AllVouched (on_wire w (replied w.wire x.number rest (record hd { executed = b })))
   true_handed w x rest hd b q is exe on s h = chosen b exe where
+    -- the request's id is below 8
     small : x.line.id < 8
     small = (subst (λ l. Each (IsOf written w.wire.sent) l) q h.lines).0.small
 
+    -- what the instrument retains after the request is as `AfterIs` says
     now : AfterIs w x hd (knows x.line.call)
     now =
         subst (λ (k : Handed State).
         ((kept k.state ≡ None) ⊎ (kept k.state ≡ Some (record { id = x.line.id; line = k.reply }))) ⊎ ((knows x.line.call ≡ false) × (kept k.state ≡ kept w.wire.state)))
         is (keeper.keeps w.wire.state x.line.id x.line.call s.good small)
 
+    -- if the request isn't executed, the line that is sent for it is the retained one
     same : hd.executed ≡ false → kept w.wire.state ≡ Some (record { id = x.line.id; line = hd.reply })
     same not =
         subst (λ (k : Handed State). k.executed ≡ false → kept w.wire.state ≡ Some (record { id = x.line.id; line = k.reply })) is
         (keeper.repeats w.wire.state x.line.id x.line.call s.good small) not
 
+    -- the lemma above, by whether the request is executed (`b`)
     chosen : (b : Bool) → hd.executed ≡ b → AllVouched (on_wire w (replied w.wire x.number rest (record hd { executed = b })))
     chosen false not = true_again w x rest hd (knows x.line.call) q is refl (same not) now s h
     chosen true exe = true_new w x rest hd (knows x.line.call) q is refl exe (on exe) now s h
@@ -423,7 +432,8 @@ module _ {State : Type 0} (width : ℕ) (narrow : width ≤ 7) (knows : Asked �
         once = λ keeps k. subst (λ o. IsClimbing keeps ((h.top - 1 - w.client.since) % 8) h.top v.sent v.executed v.starts o) (sym same) (h.once keeps k);
       }
 
-  -- `AllVouched` is preserved if the lines in flight change, if those that are in flight now still have what the invariant says of each
+  -- `AllVouched` is preserved if the lines in flight change, if those that are in flight now still have what the invariant says
+  -- of each
   true_queues : (w : World (ByNumber Asked) State) (up : List (Numbered Request)) (down : List (Numbered (List ℕ))) (h : AllVouched w)
       → Each (λ x. h.top ≤ x.number + 1) up → Each (IsOf written w.wire.sent) up → Each (λ x. x.number < h.top) down
       → Each (λ x. Vouched w.wire.sent w.wire.executed w.wire.made h.table x.number x.line) down → AllVouched (on_wire w (record w.wire { up = up; down = down }))
@@ -464,13 +474,15 @@ module _ {State : Type 0} (width : ℕ) (narrow : width ≤ 7) (knows : Asked �
   true_down w [] e s h = true_idle w h
   true_down w (x ∷ rest) e s h = true_reply w x rest (ltb x.number w.client.count) refl e s.booked h
 
-  -- `AllVouched` is preserved by a loss or a repeat of a request in flight; if there is none at that place (`b` is false), nothing happens
+  -- `AllVouched` is preserved by a loss or a repeat of a request in flight; if there is none at that place (`b` is false),
+  -- nothing happens
   true_with_up : (w : World (ByNumber Asked) State) (up : List (Numbered Request)) (b : Bool) (h : AllVouched w)
       → Each (λ x. h.top ≤ x.number + 1) up → Each (IsOf written w.wire.sent) up → AllVouched (on_wire w (with_up w.wire up b))
   true_with_up w up false h a l = true_idle w h
   true_with_up w up true h a l = true_queues w up w.wire.down h a l h.below h.coming
 
-  -- `AllVouched` is preserved by a loss or a repeat of a reply in flight; if there is none at that place (`b` is false), nothing happens
+  -- `AllVouched` is preserved by a loss or a repeat of a reply in flight; if there is none at that place (`b` is false), nothing
+  -- happens
   true_with_down : (w : World (ByNumber Asked) State) (down : List (Numbered (List ℕ))) (b : Bool) (h : AllVouched w)
       → Each (λ x. x.number < h.top) down → Each (λ x. Vouched w.wire.sent w.wire.executed w.wire.made h.table x.number x.line) down
       → AllVouched (on_wire w (with_down w.wire down b))

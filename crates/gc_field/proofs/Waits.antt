@@ -1,5 +1,5 @@
 -- An outstanding request times out at a moment at or past its deadline, and by nothing else.
-use Rattle.std.proofs.Common.{◌≡◌, ℕ, zero, suc, ◌+◌, ◌-◌, ◌≤◌, Bool, true, false, ◌||◌, List, [], ◌∷◌, ◌++◌, length, map, drop, Option, Some, None, nat_le, nat_lt, nat_eq, refl, ◌∙◌, ap, subst, arith, length-append, append-nil}
+use Rattle.std.proofs.Common.{◌≡◌, ℕ, zero, suc, ◌+◌, ◌-◌, ◌≤◌, Bool, true, false, ◌||◌, List, [], ◌∷◌, ◌++◌, length, map, Option, Some, None, nat_le, nat_lt, nat_eq, refl, ◌∙◌, ap, subst, arith, length-append, append-nil}
 use Rattle.std.specs.Prelude.{slice_get}
 use Rattle.std.proofs.lemmas.Bool.{ltb-true}
 use Rattle.gc_catalogue.specs.declared.asked.Asked.{Asked}
@@ -11,6 +11,7 @@ use Rattle.gc_field.specs.World.{Ends, Numbered, Request, Step, Send, Up_deliver
 use Rattle.gc_world.proofs.Rows.{length-settle}
 use Rattle.gc_field.specs.Field.{Move, Sends, Tells, Comes, Foreign, OnLine, Anew, Changes, Joins, IsOfLine, moves, moved, ArePossible}
 use Rattle.gc_field.specs.Runs.{times_out}
+use Rattle.gc_station.proofs.Lists.{get_more, get_dropped}
 
 -- what these moves make of an outstanding request: a moment at or past its deadline times it out, and nothing else changes it
 abbrev pub after_moves : {State : Type 0} → Pending Asked → List (Move State) → Pending Asked
@@ -55,23 +56,11 @@ WaitsAt size waiting n p = size ≤ n → slice_get waiting (n - size) ≡ Some 
 abbrev pub Waits : {State : Type 0} → World (ById Asked) State → ℕ → Pending Asked → Type 0
 Waits w n p = WaitsAt (length w.wire.settled) w.client.waiting n p
 
--- what is at a place of a list is there when another list follows
-get_front : (xs ys : List (Pending Asked)) (k : ℕ) (p : Pending Asked) → slice_get xs k ≡ Some p → slice_get (xs ++ ys) k ≡ Some p
-get_front [] ys k p e = cc
-get_front (x ∷ xs) ys zero p e = e
-get_front (x ∷ xs) ys (suc k) p e = get_front xs ys k p e
-
--- what is at place j + i of a list is at place i after its first j elements
-get_behind : (j i n : ℕ) (xs : List (Pending Asked)) (p : Pending Asked) → n ≡ j + i → slice_get xs n ≡ Some p → slice_get (drop j xs) i ≡ Some p
-get_behind zero i n xs p e got = let same : n ≡ i = omega (arith, e) in subst (λ k. slice_get xs k ≡ Some p) same got
-get_behind (suc j) i zero xs p e got = absurd (omega (arith, e))
-get_behind (suc j) i (suc n) [] p e got = cc
-get_behind (suc j) i (suc n) (x ∷ xs) p e got = get_behind j i n xs p (omega (arith, e)) got
-
 -- if a moment is read to each request of a list, the one at a place is what the moment makes of the request that was there
 get_map : (now : ℕ) (xs : List (Pending Asked)) (k : ℕ) (p : Pending Asked) → slice_get xs k ≡ Some p → slice_get (map (expired now) xs) k ≡ Some (expired now p)
 get_map now [] k p e = cc
 get_map now (x ∷ xs) zero p e = same x p e where
+  -- what a moment makes of equal requests is equal
   same : (x p : Pending Asked) → Some x ≡ Some p → Some (expired now x) ≡ Some (expired now p)
   same x p e = cc
 get_map now (x ∷ xs) (suc k) p e = get_map now xs k p e
@@ -91,7 +80,7 @@ waits_settled c line k true before n p fits h = λ le.
     let low = ltb-true k (length c.waiting) fits in
     let many = length-settle k line c.waiting low in
     let size = length-append before (settle k line c.waiting) in
-    get_behind (k + 1) (n - length (before ++ settle k line c.waiting)) (n - length before) c.waiting p (omega (arith, many, size, le)) (h (omega (arith, many, size, le)))
+    get_dropped (k + 1) (n - length (before ++ settle k line c.waiting)) (n - length before) c.waiting p (omega (arith, many, size, le)) (h (omega (arith, many, size, le)))
 waits_settled c line k false before n p fits h = λ le.
     let size : length (before ++ []) ≡ length before = ap length (append-nil before) in
     let same : n - length before ≡ n - length (before ++ []) = omega (arith, size) in
@@ -116,7 +105,7 @@ module _ {State : Type 0} (ends : Ends State) (Good : State → Type 0) (kept : 
   waits_sent : (w : World (ById Asked) State) (target : ℕ) (call : Asked) (deadline : ℕ) (b : Bool) (n : ℕ) (p : Pending Asked) → Waits w n p
       → Waits (requested w target call (id_send w.client target call deadline b)) n p
   waits_sent w target call deadline true n p h = h
-  waits_sent w target call deadline false n p h = λ le. get_front w.client.waiting (pending_of target call deadline ∷ []) (n - length w.wire.settled) p (h le)
+  waits_sent w target call deadline false n p h = λ le. get_more w.client.waiting (pending_of target call deadline ∷ []) (n - length w.wire.settled) p (h le)
 
   -- a request stays outstanding if another one reaches the instrument
   waits_up : (w : World (ById Asked) State) (q : List (Numbered Request)) (n : ℕ) (p : Pending Asked) → Waits w n p → Waits (on_wire w (up_delivered ends w.wire q)) n p

@@ -28,7 +28,7 @@ use Rattle.gc_field.specs.Begin.{begins, leaves, turned}
 use Rattle.gc_field.specs.Begun.{WasMadeOn}
 use Rattle.gc_field.specs.Field.{seen}
 use Rattle.gc_field.specs.Shown.{AreShownAs, shown}
-use Rattle.gc_field.specs.Witness.{IsAnsweredInField, acts, answer, before, begun_with, commands, moves, plan, plan_of, replies, runs, scope, turns}
+use Rattle.gc_field.specs.Witness.{SomeRunIsInField, acts, answer, at_start, begun_with, commands, moves, plan, plan_of, replies, runs, scope, turns}
 
 -- What the runs share.
 
@@ -116,7 +116,7 @@ none_here (inr (inl h)) = six 6 0 h.0 refl refl
 none_here (inr (inr h)) = h
 
 -- the answer was made on executing the command's request, the client's first one
-was_made : WasMadeOn WINDOW ends (leaves (turned ends turns (begins before))) moves 8 (Table InstrumentNo) answer
+was_made : WasMadeOn WINDOW ends (leaves (turned ends turns (begins at_start))) moves 8 (Table InstrumentNo) answer
 unfolding is_elsewhere header_at reply_at handed exec digits
 was_made = record { front = take 3 moves; later = drop 4 moves; split = refl; id = 0; rest = []; reaches = refl; executed = refl; reply = refl }
 
@@ -137,12 +137,12 @@ unfolding is_elsewhere header_at reply_at digits
 parts_are = refl
 
 -- what the line does while the station synchronizes shows these turns
-shown_are : shown ends turns (begins before) ≡ all_turns
+shown_are : shown ends turns (begins at_start) ≡ all_turns
 unfolding is_elsewhere header_at reply_at handed exec digits
 shown_are = refl
 
 -- this run is in the field, and its command is answered
-pub answered : IsAnsweredInField
+pub answered : SomeRunIsInField
 unfolding is_elsewhere header_at reply_at handed exec digits
 answered =
     record {
@@ -154,7 +154,7 @@ answered =
                 (refl, (tt, (tt, (refl, (tt, (tt, (refl, (tt, (tt, (tt, (refl, (tt, (tt, (refl, tt))))))))))))));
             lines = record { ids = (lit< tt, tt); good = fits };
             none = none_here;
-            shown = subst (AreShownAs ends before runs) (sym parts_are) (shown_are, refl, (refl, refl, tt));
+            shown = subst (AreShownAs ends at_start runs) (sym parts_are) (shown_are, refl, (refl, refl, tt));
             possible = ((units 27, (tt, (tt, (tt, (tt, (tt, ((8, [], refl), tt))))))), ((tt, refl), tt));
           };
       over = refl;

@@ -1,4 +1,4 @@
--- What the acts of a link are to a station while it synchronizes, this project's own: turns. A turn is a null procedure that is
+-- What the acts of a link mean to a station while it synchronizes, this project's own: turns. A turn is a null procedure that is
 -- sent, or a line that is heard. The word is the list of the ids of the null procedures that aren't answered.
 use Rattle.std.specs.Prelude.{◌≡◌, ◌⊎◌, ℕ, List, [], ◌∷◌, map}
 use Rattle.gc_lines.specs.Frames.{rest_behind}
@@ -6,8 +6,8 @@ use Rattle.gc_links.specs.Acts.{Act, Put, Cut, Gave, Closed}
 use Rattle.gc_station.specs.Parts.{Turn, Asks, Hears}
 use Rattle.gc_station.specs.Model.{lines_completed, null_text}
 
--- what bytes that are sent are while a station synchronizes: a line feed, which clears the receiver and is no turn; or the line
--- of the null procedure of the first id that isn't answered
+-- the bytes that a synchronizing station sends, and the turns that this means: they are a line feed, which clears the receiver and
+-- is no turn; or they are the line of the null procedure of the first id that isn't answered, which is the turn `Asks`
 abbrev pub IsAskedFor : List ℕ → List ℕ → List Turn → Type 0
 IsAskedFor word bytes turns = ((bytes ≡ 10 ∷ []) × (turns ≡ [])) ⊎ ((bytes ≡ null_text word) × (turns ≡ Asks ∷ []))
 

@@ -1,8 +1,8 @@
 -- A synchronization in the field, this project's own: a client that synchronizes, an instrument, and a line between them that
 -- keeps order, loses lines whole, and repeats one directly after it. The client sends null procedures with the ids
--- 6 5 4 3 2 1 0 7, the word, each until it is answered. What is in flight from before may be anything. Connections aren't spoken of, because a close
--- is a loss of lines. A request that is cut is lost, because a line feed arrives after its front. The instrument may start
--- again at any moment.
+-- 6 5 4 3 2 1 0 7, the word, each until it is answered. What is in flight from before may be anything. Connections aren't
+-- spoken of, because a close is a loss of lines. A request that is cut is lost, because a line feed arrives after its front. The
+-- instrument may start again at any moment.
 use Rattle.std.specs.Prelude.{◌≡◌, ℕ, ◌<◌, Bool, true, false, List, [], ◌∷◌, ◌++◌, map, Option, None}
 use Rattle.std.specs.List.{filter_map}
 use Rattle.gc_catalogue.specs.declared.asked.Asked.TheVariants.{Table}
@@ -32,8 +32,8 @@ none_under_way state = record { up = []; down = []; state = state }
 abbrev pub ids_under_way : {State : Type 0} → UnderWay State → List ℕ
 ids_under_way u = filter_map heard u.down ++ map (λ x. x.id) u.up
 
--- the id of each request in flight is one digit from 0 to 7, and the instrument's state is good (`Good`)
-pub record AreLines {State : Type 0} (Good : State → Type 0) (u : UnderWay State) : Type 0 where
+-- what is in flight is well formed: the id of each request is one digit from 0 to 7; and the instrument's state is good (`Good`)
+pub record IsWellFormed {State : Type 0} (Good : State → Type 0) (u : UnderWay State) : Type 0 where
   pub ids : Each (λ x. x.id < IDS) u.up
   pub good : Good u.state
 
@@ -41,15 +41,15 @@ pub record AreLines {State : Type 0} (Good : State → Type 0) (u : UnderWay Sta
 
 -- a request or a reply in flight, marked old if the request, or the one that the reply was sent for, is from before this
 -- synchronization
-pub record Aged (Line : Type 0) : Type 0 where
+pub record InFlight (Line : Type 0) : Type 0 where
   pub old : Bool
   pub line : Line
 
 -- the state of a synchronization in the field: the lines in flight each way, the instrument, and the ids of the word that
 -- aren't answered
 pub record Model (State : Type 0) : Type 0 where
-  pub up : List (Aged Request)
-  pub down : List (Aged (List ℕ))
+  pub up : List (InFlight Request)
+  pub down : List (InFlight (List ℕ))
   pub state : State
   pub left : List ℕ
 
@@ -87,12 +87,12 @@ module _ {State : Type 0} where
 
   -- the state once the front reply came: if it has the first id of the word that isn't answered, it answers that id;
   -- otherwise it is discarded
-  abbrev pub comes : Model State → List (Aged (List ℕ)) → Model State
+  abbrev pub comes : Model State → List (InFlight (List ℕ)) → Model State
   comes s [] = s
   comes s (x ∷ rest) = record s { down = rest; left = left_by s.left (heard x.line) }
 
   -- the state once the front request was handed to the instrument. The reply is sent, marked old if the request was
-  abbrev pub reaches : Ends State → Model State → List (Aged Request) → Model State
+  abbrev pub reaches : Ends State → Model State → List (InFlight Request) → Model State
   reaches ends s [] = s
   reaches ends s (x ∷ rest) =
       let handed = ends.handed s.state x.line.id x.line.call in
@@ -116,8 +116,8 @@ module _ {State : Type 0} where
   turned ends [] s = s
   turned ends (t ∷ ts) s = turned ends ts (turns ends s t)
 
-  -- a turn is possible: a foreign line is no reply with an id, but an echo, noise, or what is left of a line that was cut; and the instrument
-  -- changes by itself as it may
+  -- a turn is possible: a foreign line is no reply with an id, but an echo, noise, or what is left of a line that was cut; and the
+  -- instrument changes by itself only as `MayBecome` allows
   abbrev pub IsTurn : (State → Type 0) → (State → Option KeptReply) → Model State → Turn State → Type 0
   IsTurn Good kept s (Foreign line) = heard line ≡ None
   IsTurn Good kept s (Changes state) = MayBecome Good kept s.state state

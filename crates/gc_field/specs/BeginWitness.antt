@@ -8,7 +8,7 @@ use Rattle.gc_instrument.specs.State.{State, IsFittingState, simulator_opening}
 use Rattle.gc_world.specs.Clients.{by_ids}
 use Rattle.gc_field.specs.Simulator.{ends}
 use Rattle.gc_field.specs.World.{Up_deliver}
-use Rattle.gc_field.specs.Begin.{AreLines, Turn, Asks, Comes, Reaches, Up_lose, Up_repeat, Anew, UnderWay, begins, leaves, turned}
+use Rattle.gc_field.specs.Begin.{IsWellFormed, Turn, Asks, Comes, Reaches, Up_lose, Up_repeat, Anew, UnderWay, begins, leaves, turned}
 use Rattle.gc_field.specs.Beginnings.{AreFewKilled, AreRuns, IsRow, Run, left_by_run}
 use Rattle.gc_field.specs.Begun.{WasMadeOn, behind, ids_begun, nulls_settled}
 use Rattle.gc_field.specs.Field as field
@@ -19,15 +19,16 @@ use Rattle.gc_field.specs.Witness.{replies}
 -- Some runs.
 
 -- in flight before the first run: a reply with id 6, and after it two requests, with ids 7 and 0
-abbrev pub before : UnderWay State
-before =
+abbrev pub at_start : UnderWay State
+at_start =
     record {
       up = record { id = 7; call = Table InstrumentNo } ∷ record { id = 0; call = Table InstrumentNo } ∷ [];
       down = codes "%R1P,0,6:0,654321" ∷ [];
       state = simulator_opening;
     }
 
--- the first run: it begins, hears the old reply as the answer to its first null procedure, and is killed after its second
+-- the first run: it begins, hears the old reply as the answer to its first null procedure, and is killed
+-- once its second null procedure is sent
 abbrev pub killed : Run State
 killed = record { turns = Asks ∷ Comes ∷ Asks ∷ []; moves = [] }
 
@@ -57,15 +58,15 @@ next =
 
 -- what the second run had in flight once it had synchronized
 abbrev pub clean : UnderWay State
-clean = leaves (turned ends next.turns (begins (left_by_run WINDOW ends before killed)))
+clean = leaves (turned ends next.turns (begins (left_by_run WINDOW ends at_start killed)))
 
 -- these runs meet the premises of `simulators_runs_are_their_own`; both commands of the second are answered, and the first
 -- answer was made on executing its request
 pub record AreSomeRuns : Type 0 where
-  pub lines : AreLines IsFittingState before
-  pub row : IsRow before
-  pub runs : AreRuns WINDOW ends IsFittingState kept_of before (killed ∷ next ∷ [])
-  pub few : AreFewKilled WINDOW ends 0 before (killed ∷ next ∷ [])
+  pub lines : IsWellFormed IsFittingState at_start
+  pub row : IsRow at_start
+  pub runs : AreRuns WINDOW ends IsFittingState kept_of at_start (killed ∷ next ∷ [])
+  pub few : AreFewKilled WINDOW ends 0 at_start (killed ∷ next ∷ [])
   pub settled :
       (behind WINDOW ends clean next.moves).wire.settled
       ≡ nulls_settled ++ record { target = 7; call = Table InstrumentNo; outcome = Answered (codes "%R1P,0,0:0,123456") }

@@ -10,7 +10,7 @@ use Rattle.gc_world.specs.Clients.{by_ids}
 use Rattle.gc_field.specs.Simulator.{ends}
 use Rattle.gc_world.specs.Order.{Each, Rising}
 use Rattle.gc_field.specs.World.{Ends, Wire}
-use Rattle.gc_field.specs.Begin.{AreLines, AreTurns, Model, Turn, UnderWay, begins, ids_under_way, leaves, turned}
+use Rattle.gc_field.specs.Begin.{IsWellFormed, AreTurns, Model, Turn, UnderWay, begins, ids_under_way, leaves, turned}
 use Rattle.gc_field.specs.Begun.{HasBegunCleanly, IsClean, IsFaithful, behind, ids_begun}
 use Rattle.gc_field.specs.Field.{Move, ArePossible}
 use Rattle.gc_field.specs.Instrument.{AnyState, IsAnInstrument}
@@ -20,8 +20,8 @@ use Rattle.gc_field.specs.Laws.{kept_of}
 abbrev pub on_line : {State : Type 0} → Wire State → UnderWay State
 on_line w = record { up = map (λ x. x.line) w.up; down = map (λ x. x.line) w.down; state = w.state }
 
--- what a run that measures may have in flight, if anything: replies and then requests whose numbers never fall from one to
--- the next, and lie within eight consecutive numbers; and the ids are the numbers modulo 8
+-- what a run that has synchronized may have in flight, if anything: replies and then requests whose numbers never fall from one
+-- to the next, and lie within eight consecutive numbers, from `low` - 1 on; and the ids are the numbers modulo 8
 pub record IsRow {State : Type 0} (u : UnderWay State) : Type 0 where
   pub low : ℕ
   pub numbers : List ℕ
@@ -49,36 +49,36 @@ pub record Run (State : Type 0) : Type 0 where
   pub turns : List (Turn State)
   pub moves : List (Move State)
 
-module _ {State : Type 0} (width : ℕ) (ends : Ends State) where
-  -- the state of a run's synchronization at the end of its turns: the run has synchronized then, or is killed
-  abbrev pub after_turns : UnderWay State → Run State → Model State
-  after_turns u r = turned ends r.turns (begins u)
+-- the state of a run's synchronization at the end of its turns: the run has synchronized then, or is killed
+abbrev pub after_turns : {State : Type 0} → Ends State → UnderWay State → Run State → Model State
+after_turns ends u r = turned ends r.turns (begins u)
 
-  -- what is in flight after a run, by the ids of its word that are left. None: it had synchronized, and its moves followed.
-  -- Some: it was killed while it synchronized
+-- how many runs in a row were killed while they synchronized, counted at the end of a run, by the ids of its word that are left,
+-- where `n` runs were killed before it. If no id is left, 0, because the run has synchronized; else one more than `n`
+abbrev pub killed_if : List ℕ → ℕ → ℕ
+killed_if [] n = 0
+killed_if (asked ∷ rest) n = n + 1
+
+module _ {State : Type 0} (width : ℕ) (ends : Ends State) where
+  -- what is in flight after a run, by the ids of its word that are left. If none is left, the run had synchronized, and its moves
+  -- followed; else it was killed while it synchronized
   abbrev pub left_if : List ℕ → Model State → List (Move State) → UnderWay State
   left_if [] s ms = on_line (behind width ends (leaves s) ms).wire
   left_if (asked ∷ rest) s ms = leaves s
 
   -- what is in flight after a run
   abbrev pub left_by_run : UnderWay State → Run State → UnderWay State
-  left_by_run u r = left_if (after_turns u r).left (after_turns u r) r.moves
-
-  -- how many runs in a row were killed while they synchronized, counted at the end of a run, where `n` were before it. No id of
-  -- its word is left: none, because the run has synchronized. Some ids are left: one more
-  abbrev pub killed_if : List ℕ → ℕ → ℕ
-  killed_if [] n = 0
-  killed_if (asked ∷ rest) n = n + 1
+  left_by_run u r = left_if (after_turns ends u r).left (after_turns ends u r) r.moves
 
   -- at the end of each of these runs, at most five in a row have been killed while they synchronized, counted with the `n`
   -- before the first
   abbrev pub AreFewKilled : ℕ → UnderWay State → List (Run State) → Type 0
   AreFewKilled n u [] = Unit {0}
-  AreFewKilled n u (r ∷ rs) = (killed_if (after_turns u r).left n ≤ 5) × AreFewKilled (killed_if (after_turns u r).left n) (left_by_run u r) rs
+  AreFewKilled n u (r ∷ rs) = (killed_if (after_turns ends u r).left n ≤ 5) × AreFewKilled (killed_if (after_turns ends u r).left n) (left_by_run u r) rs
 
   module _ (Good : State → Type 0) (kept : State → Option KeptReply) where
-    -- the moves of a run are possible, by the ids of its word that are left. None: they are possible moves of a client. Some:
-    -- the run has none
+    -- the moves of a run are possible, by the ids of its word that are left. If none is left, they are possible moves of a client
+    -- that has synchronized; else there are no moves
     abbrev pub ArePossibleIf : List ℕ → Model State → List (Move State) → Type 0
     ArePossibleIf [] s ms = ArePossible ends Good kept (by_ids width ends) ms (ids_begun (leaves s))
     ArePossibleIf (asked ∷ rest) s ms = ms ≡ []
@@ -86,7 +86,8 @@ module _ {State : Type 0} (width : ℕ) (ends : Ends State) where
     -- each run is possible, over what the one before it left
     abbrev pub AreRuns : UnderWay State → List (Run State) → Type 0
     AreRuns u [] = Unit {0}
-    AreRuns u (r ∷ rs) = (AreTurns ends Good kept r.turns (begins u) × ArePossibleIf (after_turns u r).left (after_turns u r) r.moves) × AreRuns (left_by_run u r) rs
+    AreRuns u (r ∷ rs) =
+        (AreTurns ends Good kept r.turns (begins u) × ArePossibleIf (after_turns ends u r).left (after_turns ends u r) r.moves) × AreRuns (left_by_run u r) rs
 
     -- if a run has synchronized (no id of its word is left), it has synchronized cleanly, and its moves are faithful
     abbrev pub IsOwnIf : List ℕ → Model State → List (Move State) → Type 0
@@ -96,18 +97,19 @@ module _ {State : Type 0} (width : ℕ) (ends : Ends State) where
     -- each run that has synchronized has synchronized cleanly, and is faithful, over what the one before it left
     abbrev pub AreOwn : UnderWay State → List (Run State) → Type 0
     AreOwn u [] = Unit {0}
-    AreOwn u (r ∷ rs) = IsOwnIf (after_turns u r).left (after_turns u r) r.moves × AreOwn (left_by_run u r) rs
+    AreOwn u (r ∷ rs) = IsOwnIf (after_turns ends u r).left (after_turns ends u r) r.moves × AreOwn (left_by_run u r) rs
 
--- for any instrument, after a run that measured, or over a line with nothing in flight: as long as fewer than six runs in a row
--- end while they synchronize, each run that has synchronized has synchronized cleanly, and each of its answers is its own
+-- for any instrument, after a run that had synchronized, or over a line with nothing in flight (`IsRow`): as long as fewer than
+-- six runs in a row end while they synchronize, each run that has synchronized has done so cleanly, and `IsFaithful` holds of its
+-- moves: each of its answers to a request that is `IsSafe` is its own
 abbrev pub RunsAreTheirOwn : Type 0 → Type 0
 RunsAreTheirOwn State =
     (ends : Ends State) (kept : State → Option KeptReply) → IsAnInstrument ends AnyState kept →
-    (width : ℕ) → width ≤ WINDOW → (u : UnderWay State) → AreLines AnyState u → IsRow u →
+    (width : ℕ) → width ≤ WINDOW → (u : UnderWay State) → IsWellFormed AnyState u → IsRow u →
     (rs : List (Run State)) → AreRuns width ends AnyState kept u rs → AreFewKilled width ends 0 u rs → AreOwn width ends AnyState kept u rs
 
 -- `RunsAreTheirOwn` for the simulator, in any state that fits
 abbrev pub SimulatorsRunsAreTheirOwn : Type 0
 SimulatorsRunsAreTheirOwn =
-    (width : ℕ) → width ≤ WINDOW → (u : UnderWay State) → AreLines IsFittingState u → IsRow u →
+    (width : ℕ) → width ≤ WINDOW → (u : UnderWay State) → IsWellFormed IsFittingState u → IsRow u →
     (rs : List (Run State)) → AreRuns width ends IsFittingState kept_of u rs → AreFewKilled width ends 0 u rs → AreOwn width ends IsFittingState kept_of u rs

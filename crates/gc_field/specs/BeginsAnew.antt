@@ -25,11 +25,11 @@ use Rattle.gc_field.specs.Begin as turn
 use Rattle.gc_field.specs.Begin.{Turn, Asks, Reaches, UnderWay, begins, leaves, turned}
 use Rattle.gc_field.specs.Beginnings.{Run, left_by_run}
 use Rattle.gc_field.specs.Begun.{WasMadeOn}
-use Rattle.gc_field.specs.CountingChain.{Counter, before, null_replies, counting, kept_by}
+use Rattle.gc_field.specs.CountingChain.{Counter, at_start, null_replies, counting, kept_by}
 use Rattle.gc_field.specs.Field.{Move, Sends, Tells, Comes, OnLine}
 use Rattle.gc_field.specs.Instrument.{IsAnInstrument, AnyState}
 use Rattle.gc_field.specs.Runs.{IsInField}
-use Rattle.gc_field.specs.Witness.{asked, at, begun_with, eight, exchanged, plan_of}
+use Rattle.gc_field.specs.Witness.{null_lines, at, begun_with, eight_answered, exchanged, plan_of}
 
 -- the plan of this run: seven requests at a time
 abbrev pub plan : Plan
@@ -48,18 +48,18 @@ abbrev pub scope : Scope
 scope = record { turns = 100; reads = λ call line. Value (Long (pos 45)) }
 
 -- the lines of the seven requests that are sent at once
-abbrev pub seven : List (List ℕ)
-seven =
+abbrev pub seven_lines : List (List ℕ)
+seven_lines =
     codes "%R1Q,5003,0:" ∷ codes "%R1Q,5003,1:" ∷ codes "%R1Q,5003,2:" ∷ codes "%R1Q,5003,3:" ∷ codes "%R1Q,5003,4:" ∷ codes "%R1Q,5003,5:"
     ∷ codes "%R1Q,5003,6:" ∷ []
 
 -- the reply to the first of the seven, with the number of requests that the instrument had executed by then
-abbrev pub first : List ℕ
-first = codes "%R1P,0,0:0,36"
+abbrev pub first_reply : List ℕ
+first_reply = codes "%R1P,0,0:0,36"
 
 -- the reply to the seventh of the seven
-abbrev pub seventh : List ℕ
-seventh = codes "%R1P,0,6:0,37"
+abbrev pub seventh_reply : List ℕ
+seventh_reply = codes "%R1P,0,6:0,37"
 
 -- the replies to the null procedures after the first. The first null procedure has the seventh request's id, so the reply to
 -- that request answers it, and is all that the instrument sends for it
@@ -80,23 +80,23 @@ put_all now (line ∷ others) acts = Put (with_end line) ∷ Told (at now) ∷ p
 -- the acts until seven have timed out: the station synchronizes; seven commands are sent, and nothing comes until their
 -- deadline
 abbrev pub given_up : List Act
-given_up = begun_with null_replies (Told (at 15) ∷ put_all 15 seven (Silent (at 115) ∷ []))
+given_up = begun_with null_replies (Told (at 15) ∷ put_all 15 seven_lines (Silent (at 115) ∷ []))
 
 -- the acts from there on: the station resynchronizes, and its first null procedure is sent. The reply to the first command
 -- comes, and is discarded; the reply to the seventh comes twice, and the second is discarded; the other null procedures are
 -- answered. Then the eighth command is sent and is answered, and the connection is closed
-abbrev pub anew : List Act
-anew =
+abbrev pub acts_anew : List Act
+acts_anew =
     Told (at 115)
     ∷ Put (with_end (codes "%R1Q,0,6:"))
     ∷ Told (at 115)
-    ∷ Gave (with_end first) (at 118)
-    ∷ Gave (with_end seventh) (at 118)
+    ∷ Gave (with_end first_reply) (at 118)
+    ∷ Gave (with_end seventh_reply) (at 118)
     ∷ Put (with_end (codes "%R1Q,0,5:"))
     ∷ Told (at 118)
-    ∷ Gave (with_end seventh) (at 120)
+    ∷ Gave (with_end seventh_reply) (at 120)
     ∷ Gave (with_end (codes "%R1P,0,5:0,38")) (at 120)
-    ∷ exchanged 120 (drop 2 asked) (drop 1 replies) (
+    ∷ exchanged 120 (drop 2 null_lines) (drop 1 replies) (
     Put (with_end (codes "%R1Q,5003,0:"))
     ∷ Told (at 120)
     ∷ Gave (with_end answer) (at 125)
@@ -106,7 +106,7 @@ anew =
 
 -- all acts of the run
 abbrev pub acts : List Act
-acts = given_up ++ anew
+acts = given_up ++ acts_anew
 
 -- the moves by which a request is sent for each of these targets, at the moment `now`; and then the moves `ms`
 abbrev pub send_all : ℕ → List ℕ → List (Move Counter) → List (Move Counter)
@@ -133,7 +133,7 @@ moves =
 -- what the line does while the station resynchronizes: the reply to the first command comes, and the seventh request reaches
 -- the instrument, whose reply is sent again for the first null procedure, which has that request's id
 abbrev pub turns : List (Turn Counter)
-turns = Asks ∷ turn.Comes ∷ Reaches ∷ turn.Comes ∷ Asks ∷ Reaches ∷ turn.Comes ∷ Reaches ∷ turn.Comes ∷ drop 6 eight
+turns = Asks ∷ turn.Comes ∷ Reaches ∷ turn.Comes ∷ Asks ∷ Reaches ∷ turn.Comes ∷ Reaches ∷ turn.Comes ∷ drop 6 eight_answered
 
 -- what the line does once the station has resynchronized: the eighth command is answered
 abbrev pub moves_anew : List (Move Counter)
@@ -141,7 +141,7 @@ moves_anew = Sends 8 (Table InstrumentNo) 220 ∷ Tells 120 ∷ OnLine Up_delive
 
 -- what happens until the run resynchronizes
 abbrev pub run : Run Counter
-run = record { turns = eight; moves = moves }
+run = record { turns = eight_answered; moves = moves }
 
 -- the whole run: until it resynchronizes, and from there on; after the end nothing happens
 abbrev pub runs : List (Run Counter)
@@ -149,7 +149,7 @@ runs = run ∷ record { turns = turns; moves = moves_anew } ∷ record { turns =
 
 -- what is in flight when the run resynchronizes
 abbrev pub left : UnderWay Counter
-left = left_by_run WINDOW counting before run
+left = left_by_run WINDOW counting at_start run
 
 -- what is in flight once the run has synchronized again
 abbrev pub from : UnderWay Counter
@@ -176,11 +176,11 @@ records =
 -- old lines are in flight then, of which the reply has the last command's id; and that command's answer was made on executing
 -- its request
 pub record IsAnsweredAnew : Type 0 where
-  pub is : IsAnInstrument counting AnyState kept_by
-  pub field : IsInField counting AnyState kept_by plan commands scope acts before runs
+  pub instrument : IsAnInstrument counting AnyState kept_by
+  pub field : IsInField counting AnyState kept_by plan commands scope acts at_start runs
   pub over : is_over (state_after plan commands scope acts).progress ≡ true
   pub begins_anew : IsResynchronizing plan commands scope given_up (Told (at 115))
   pub up : left.up ≡ record { id = 6; call = Table InstrumentNo } ∷ []
-  pub down : left.down ≡ first ∷ []
+  pub down : left.down ≡ first_reply ∷ []
   pub written : (state_after plan commands scope acts).records ≡ records
   pub made_on : WasMadeOn WINDOW counting from moves_anew 8 (Table InstrumentNo) answer

@@ -16,11 +16,12 @@ use Rattle.gc_world.specs.Clients.{ByNumber, by_ids, by_numbers}
 use Rattle.gc_field.specs.Simulator.{ends}
 use Rattle.gc_world.specs.Order.{Each}
 use Rattle.gc_world.specs.Record.{IsBooked, IsOneForOne}
-use Rattle.gc_field.specs.World.{Ends, Numbered, Request, Sent, Up_deliver, Wire, World}
-use Rattle.gc_field.specs.Begin.{AreLines, AreTurns, Model, Turn, UnderWay, begins, ids_under_way, turned}
-use Rattle.gc_field.specs.Field.{Move, Comes, OnLine, Sends, ArePossible, AsksTheTable, moved, moves, seen}
+use Rattle.gc_field.specs.World.{Ends, Numbered, Request, Sent, Wire, World}
+use Rattle.gc_field.specs.Begin.{IsWellFormed, AreTurns, Model, Turn, UnderWay, begins, ids_under_way, turned}
+use Rattle.gc_field.specs.Field.{Move, Comes, Sends, ArePossible, AsksTheTable, moved, moves, seen}
 use Rattle.gc_field.specs.Instrument.{AnyState, IsAnInstrument, KeepsItsReply, TreatsRawsAlike}
 use Rattle.gc_field.specs.Laws.{WasExecuted, asked, kept_of}
+use Rattle.gc_field.specs.Made as making
 use Rattle.gc_field.specs.Once.{ActsOnce, IsInOrder}
 use Rattle.gc_catalogue.specs.Asked.{is_of_table}
 
@@ -30,7 +31,7 @@ use Rattle.gc_catalogue.specs.Asked.{is_of_table}
 abbrev pub eighth : Request
 eighth = record { id = 7; call = Table NullProc }
 
--- what the instrument retains in this state, if it retains anything, has the id of the eighth null procedure
+-- what the instrument retains in this state, if it retains anything, has the id of the eighth null procedure (7)
 abbrev pub IsOfEighth : {State : Type 0} → (State → Option KeptReply) → State → Type 0
 IsOfEighth kept state = (k : KeptReply) → kept state ≡ Some k → k.id ≡ 7
 
@@ -47,7 +48,7 @@ pub record HasBegunCleanly {State : Type 0} (kept : State → Option KeptReply) 
 abbrev pub BeginsCleanly : Type 0 → Type 0
 BeginsCleanly State =
     (ends : Ends State) (kept : State → Option KeptReply) → IsAnInstrument ends AnyState kept →
-    (u : UnderWay State) (ts : List (Turn State)) → AreLines AnyState u → AreTurns ends AnyState kept ts (begins u) →
+    (u : UnderWay State) (ts : List (Turn State)) → IsWellFormed AnyState u → AreTurns ends AnyState kept ts (begins u) →
     (IsSubsequence the_word (ids_under_way u) → ⊥) → (turned ends ts (begins u)).left ≡ [] → HasBegunCleanly kept (turned ends ts (begins u))
 
 -- The client after a synchronization.
@@ -112,7 +113,7 @@ IsEnded w j =
     ⊎ ((r : Sent) × (s : Settlement Asked) × (slice_get w.sent j ≡ Some r) × (is_of_table r.call ≡ true) × (slice_get w.settled j ≡ Some s) × IsByReply s.outcome)
 
 -- the request that is sent next is sent after the table: one of the seven requests before it is a call of the table that a
--- reply ended, or the eighth null procedure
+-- reply ended, or the eighth null procedure of the synchronization
 abbrev pub IsBehindTheTable : {State : Type 0} → Wire State → Type 0
 IsBehindTheTable w = (j : ℕ) × (j < length w.sent) × (length w.sent ≤ j + 7) × IsEnded w j
 
@@ -125,19 +126,14 @@ module _ {State : Type 0} (width : ℕ) (ends : Ends State) (u : UnderWay State)
   abbrev pub behind_by_numbers : List (Move State) → Wire State
   behind_by_numbers ms = (moved ends (by_numbers width) ms (numbers_begun u)).wire
 
-  -- at one of these moves request m, with this call, reaches the instrument; it executes the call, in the state in which it is by then;
-  -- and this line is its reply
-  pub record WasMadeOn (ms : List (Move State)) (m : ℕ) (call : Asked) (line : List ℕ) : Type 0 where
-    pub front : List (Move State)
-    pub later : List (Move State)
-    pub split : ms ≡ front ++ OnLine Up_deliver ∷ later
-    pub id : ℕ
-    pub rest : List (Numbered Request)
-    pub reaches : (behind front).wire.up ≡ record { number = m; line = record { id = id; call = call } } ∷ rest
-    pub executed : (ends.handed (behind front).wire.state id call).executed ≡ true
-    pub reply : line ≡ (ends.handed (behind front).wire.state id call).reply
+  -- at one of these moves, after the synchronization, request m, with this call, reaches the instrument, which executes the call;
+  -- and this line is the instrument's reply
+  abbrev pub WasMadeOn : List (Move State) → ℕ → Asked → List ℕ → Type 0
+  WasMadeOn ms m call line = making.WasMadeOn width ends (ids_begun u) ms m call line
 
-  -- at one of these moves request m was sent after the table
+  -- among these moves is a send before which m requests were sent, the null procedures of the synchronization counted, and at which
+  -- the next request, number m, is sent after the table (`IsBehindTheTable`). The client may refuse that send; request m is then sent
+  -- later, if at all
   pub record WentOutBehindTheTable (ms : List (Move State)) (m : ℕ) : Type 0 where
     pub front : List (Move State)
     pub later : List (Move State)
@@ -146,10 +142,10 @@ module _ {State : Type 0} (width : ℕ) (ends : Ends State) (u : UnderWay State)
     pub deadline : ℕ
     pub split : ms ≡ front ++ Sends target call deadline ∷ later
     pub number : length (behind front).wire.sent ≡ m
-    pub is : IsBehindTheTable (behind front).wire
+    pub behind_table : IsBehindTheTable (behind front).wire
 
-  -- the answer to request m is its own: each request of these moves is a call of the table; or a request that is none is to the
-  -- instrument as all others; or request m was sent after the table
+  -- one of the three conditions holds under which the answer to request m is its own: each request of these moves is a call of the table;
+  -- or the instrument retains its own reply, or none, after every request (`TreatsRawsAlike`); or request m was sent after the table
   abbrev pub IsSafe : (State → Type 0) → (State → Option KeptReply) → List (Move State) → ℕ → Type 0
   IsSafe Good kept ms m = AsksTheTable ms ⊎ (TreatsRawsAlike ends Good kept ⊎ WentOutBehindTheTable ms m)
 
@@ -162,15 +158,14 @@ module _ {State : Type 0} (width : ℕ) (ends : Ends State) (u : UnderWay State)
     -- m has the target and the call of request m
     pub accounted : map of_settled (behind ms).wire.settled ++ map of_pending (behind ms).client.waiting ≡ map asked (behind ms).wire.sent
     pub one_for_one : IsOneForOne (behind ms).wire.sent (behind ms).wire.settled
-    -- its own, from the first request on, if it is `IsSafe`: an answer is among the lines that the instrument made for that request, and is its
-    -- reply to that very call
+    -- its own, from the client's first request on (number 8), if the request is `IsSafe`: an answer is among the lines that the
+    -- instrument made for that request, and is its reply to that very call
     pub booked : (m : ℕ) (s : Settlement Asked) → 8 ≤ m → IsSafe Good kept ms m → slice_get (behind ms).wire.settled m ≡ Some s → IsBooked ends Good (behind ms).wire.made m s
     -- and the instrument executed request m at one of these moves, not before the client synchronized
     pub executed :
         (m : ℕ) (s : Settlement Asked) (line : List ℕ) → 8 ≤ m → IsSafe Good kept ms m → slice_get (behind ms).wire.settled m ≡ Some s → s.outcome ≡ Answered line
         → WasExecuted (behind ms).wire.executed m
-    -- made on it: its line was made on executing request m. At one of these moves that request, with this call, reached the instrument,
-    -- which executed it, and this line was its reply
+    -- made on it: its line was made on executing request m, by `WasMadeOn`
     pub made_on :
         (m : ℕ) (s : Settlement Asked) (line : List ℕ) → 8 ≤ m → IsSafe Good kept ms m → slice_get (behind ms).wire.settled m ≡ Some s → s.outcome ≡ Answered line
         → WasMadeOn ms m s.call line

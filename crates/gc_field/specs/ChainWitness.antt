@@ -29,7 +29,7 @@ use Rattle.gc_field.specs.Laws.{kept_of}
 use Rattle.gc_field.specs.Pointing.{AreStill}
 use Rattle.gc_field.specs.Runs.{IsInField}
 use Rattle.gc_field.specs.Shown.{Stretch}
-use Rattle.gc_field.specs.Witness.{plan, at, begun_with, eight, replies}
+use Rattle.gc_field.specs.Witness.{plan, at, begun_with, eight_answered, replies}
 
 -- the horizontal direction of a target, in radians
 abbrev pub hz : Decimal
@@ -64,16 +64,16 @@ abbrev pub scope : Scope
 scope = record { turns = 100; reads = λ call line. Value (Long (pos 0)) }
 
 -- the simulator's reply to the first command
-abbrev pub first : List ℕ
-first = codes "%R1P,0,0:0"
+abbrev pub first_reply : List ℕ
+first_reply = codes "%R1P,0,0:0"
 
 -- the simulator's reply to the second command
-abbrev pub second : List ℕ
-second = codes "%R1P,0,1:0"
+abbrev pub second_reply : List ℕ
+second_reply = codes "%R1P,0,1:0"
 
 -- the simulator's reply to the third command
-abbrev pub third : List ℕ
-third = codes "%R1P,0,2:0,2.25,1.625,110.0625"
+abbrev pub third_reply : List ℕ
+third_reply = codes "%R1P,0,2:0,2.25,1.625,110.0625"
 
 -- the acts of the run: the station synchronizes, with `answers` as the replies to its null procedures; then the three commands
 -- are sent one after the other, each once the one before it is answered, with the replies a, b and c; and the connection is
@@ -127,30 +127,30 @@ records_with a b c =
 
 -- the acts of the run over the simulator
 abbrev pub acts : List Act
-acts = acts_with replies first second third
+acts = acts_with replies first_reply second_reply third_reply
 
 -- what the line does meanwhile, once the run has synchronized
 abbrev pub moves : List (Move State)
-moves = moves_with first second third
+moves = moves_with first_reply second_reply third_reply
 
 -- at the start of the run nothing is in flight
-abbrev pub before : UnderWay State
-before = none_under_way simulator_opening
+abbrev pub at_start : UnderWay State
+at_start = none_under_way simulator_opening
 
 -- the run as one stretch
 abbrev pub stretch : Stretch State
-stretch = record { from = leaves (turned ends eight (begins before)); moves = moves }
+stretch = record { from = leaves (turned ends eight_answered (begins at_start)); moves = moves }
 
 -- what happens on the line: in this run, and after its end in one more, in which nothing happens
 abbrev pub runs : List (Run State)
-runs = record { turns = eight; moves = moves } ∷ record { turns = []; moves = [] } ∷ []
+runs = record { turns = eight_answered; moves = moves } ∷ record { turns = []; moves = [] } ∷ []
 
 -- this is a run in the field that recorded all three answers; the third command is of the first one's chain, no command between
 -- the two turns the telescope, and nothing disturbs the instrument. So when the third is executed, after both others, the
 -- telescope points where the first pointed it
 pub record IsPointedInField : Type 0 where
-  pub field : IsInField ends IsFittingState kept_of plan commands scope acts before runs
-  pub records : (state_after plan commands scope acts).records ≡ records_with first second third
+  pub field : IsInField ends IsFittingState kept_of plan commands scope acts at_start runs
+  pub records : (state_after plan commands scope acts).records ≡ records_with first_reply second_reply third_reply
   pub chained : AreChained commands 0 2
   pub still : AreStill commands 0 2
   pub undisturbed : IsUndisturbed moves

@@ -50,7 +50,7 @@ HasNoStartBetween (Anew ∷ ms) = ⊥
 HasNoStartBetween (Changes state ∷ ms) = HasNoStartBetween ms
 HasNoStartBetween (Joins line ∷ ms) = HasNoStartBetween ms
 
--- the instrument neither starts again nor changes by itself among these moves
+-- among these moves the instrument neither starts again nor changes by itself, and no two requests reach it as one line (`Joins`)
 abbrev pub IsUndisturbed : {State : Type 0} → List (Move State) → Type 0
 IsUndisturbed [] = Unit {0}
 IsUndisturbed (Sends target call deadline ∷ ms) = IsUndisturbed ms
@@ -68,7 +68,7 @@ AreCalls sent [] [] = Unit {0}
 AreCalls sent (n ∷ ns) (call ∷ calls) = ((r : Sent) × (slice_get sent n ≡ Some r) × (r.call ≡ call)) × AreCalls sent ns calls
 AreCalls sent _ _ = ⊥
 
--- the instrument's state after these calls, one after the other, if one call changes it by this function
+-- the instrument's state after these calls, one after the other, if executing a call changes the state by `effect`
 abbrev pub executing : {State : Type 0} → (State → Asked → State) → State → List Asked → State
 executing effect s [] = s
 executing effect s (call ∷ calls) = executing effect (effect s call) calls
@@ -119,8 +119,8 @@ module _ {State : Type 0} (ends : Ends State) (Good : State → Type 0) (kept : 
   -- the same cycle
   pub record IsChainedTo (reads : Asked → List ℕ → Reading) (commands : List Task) (ps : List Part) (ss : List (Stretch State))
       (records : List Record) (a : ℕ) (b : Record) (line_b : List ℕ) : Type 0 where
-    -- the command at place a has a record, too, which is an answer of a good quality: with both codes 0 and values that read, or with a return code that is
-    -- accepted of that command
+    -- the command at place a has a record, too, which is an answer of a good quality: with both codes 0 and values that read, or
+    -- with a return code that is accepted of that command
     pub k : ℕ
     pub record_a : Record
     pub among : slice_get records k ≡ Some record_a
@@ -161,8 +161,8 @@ module _ {State : Type 0} (ends : Ends State) (Good : State → Type 0) (kept : 
   abbrev pub AreExecutedInChain : Plan → List Task → Scope → List Act → UnderWay State → List (Run State) → Type 0
   AreExecutedInChain plan commands scope acts u rs = AllByRecursion (IsExecutedInChain plan commands scope acts u rs) (state_after plan commands scope acts).records
 
--- each record is `IsExecutedInChain`: for any instrument, every plan, all commands, every run of the station, and all that the line and the
--- instrument may do meanwhile
+-- each record is `IsExecutedInChain`: for any instrument, every plan, all commands, every run of the station, and all that the
+-- line and the instrument may do meanwhile
 abbrev pub ChainsAreExecuted : Type 0 → Type 0
 ChainsAreExecuted State =
     (ends : Ends State) (kept : State → Option KeptReply) → IsAnInstrument ends AnyState kept →

@@ -20,7 +20,7 @@ use Rattle.gc_field.specs.Instrument.{IsAnInstrument, KeepsItsReply, AnyState, a
 use Rattle.gc_field.specs.Needed.{Keeper, held, kept, value}
 use Rattle.gc_field.specs.Runs.{IsInField}
 use Rattle.gc_field.specs.Shown.{Stretch}
-use Rattle.gc_field.specs.Witness.{plan, eight}
+use Rattle.gc_field.specs.Witness.{plan, eight_answered}
 
 -- the state of this instrument: how many requests it has executed since it started, and what it retains: the last request's id,
 -- and the count by then
@@ -57,51 +57,51 @@ null_replies =
     ∷ codes "%R1P,0,0:0,34" ∷ codes "%R1P,0,7:0,35" ∷ []
 
 -- the reply to the first command
-abbrev pub first : List ℕ
-first = codes "%R1P,0,0:0,36"
+abbrev pub first_reply : List ℕ
+first_reply = codes "%R1P,0,0:0,36"
 
 -- the reply to the second command
-abbrev pub second : List ℕ
-second = codes "%R1P,0,1:0,37"
+abbrev pub second_reply : List ℕ
+second_reply = codes "%R1P,0,1:0,37"
 
 -- the reply to the third command
-abbrev pub third : List ℕ
-third = codes "%R1P,0,2:0,38"
+abbrev pub third_reply : List ℕ
+third_reply = codes "%R1P,0,2:0,38"
 
 -- the acts of the run
 abbrev pub acts : List Act
-acts = acts_with null_replies first second third
+acts = acts_with null_replies first_reply second_reply third_reply
 
 -- what the line does once the run has synchronized
 abbrev pub moves : List (Move Counter)
-moves = moves_with first second third
+moves = moves_with first_reply second_reply third_reply
 
 -- at the start of the run nothing is in flight
-abbrev pub before : UnderWay Counter
-before = none_under_way (record { count = 27; keeps = None })
+abbrev pub at_start : UnderWay Counter
+at_start = none_under_way (record { count = 27; keeps = None })
 
 -- the run as one stretch
 abbrev pub stretch : Stretch Counter
-stretch = record { from = leaves (turned counting eight (begins before)); moves = moves }
+stretch = record { from = leaves (turned counting eight_answered (begins at_start)); moves = moves }
 
 -- what happens on the line: in this run, and after its end in one more, in which nothing happens
 abbrev pub runs : List (Run Counter)
-runs = record { turns = eight; moves = moves } ∷ record { turns = []; moves = [] } ∷ []
+runs = record { turns = eight_answered; moves = moves } ∷ record { turns = []; moves = [] } ∷ []
 
 -- this run meets all premises of the law of chains: `counting` is an instrument in each of its states, retains its reply, and a
 -- call has the effect `counts` on its state. The run is in the field, its third command is of the first one's chain, and
 -- nothing disturbs the instrument. So both answers were made on executing their requests, and the count at the third command is
 -- what the first and the second made of it
 pub record IsCountedInField : Type 0 where
-  pub is : IsAnInstrument counting AnyState kept_by
+  pub instrument : IsAnInstrument counting AnyState kept_by
   pub keeps : KeepsItsReply counting AnyState kept_by all_known
   pub effect : HasEffect counting bare counts
-  pub field : IsInField counting AnyState kept_by plan commands scope acts before runs
-  pub records : (state_after plan commands scope acts).records ≡ records_with first second third
+  pub field : IsInField counting AnyState kept_by plan commands scope acts at_start runs
+  pub records : (state_after plan commands scope acts).records ≡ records_with first_reply second_reply third_reply
   pub chained : AreChained commands 0 2
   pub undisturbed : IsUndisturbed moves
-  pub first_made_on : WasMadeOn WINDOW counting stretch.from moves 8 points first
-  pub third_made_on : WasMadeOn WINDOW counting stretch.from moves 10 reads_all third
+  pub first_made_on : WasMadeOn WINDOW counting stretch.from moves 8 points first_reply
+  pub third_made_on : WasMadeOn WINDOW counting stretch.from moves 10 reads_all third_reply
   pub before_first : (behind counting stretch (take 3 moves)).executed ≡ []
   pub before_third : (behind counting stretch (take 13 moves)).executed ≡ 8 ∷ 9 ∷ []
   pub count_at_first : (behind counting stretch (take 3 moves)).state.count ≡ 35

@@ -31,7 +31,7 @@ use Rattle.gc_field.specs.Begun.{WasMadeOn}
 use Rattle.gc_field.specs.Field.{Move, Sends, Tells, Comes, OnLine, Anew, Changes}
 use Rattle.gc_field.specs.Instrument.{IsAnInstrument, AnyState, nothing}
 use Rattle.gc_field.specs.Runs.{IsInField}
-use Rattle.gc_field.specs.Witness.{asked, at, eight, exchanged}
+use Rattle.gc_field.specs.Witness.{null_lines, at, eight_answered, exchanged}
 
 -- the instrument: its state is the number that it measures, with which it answers every request; a start sets it to 0
 abbrev pub drifting : Ends ℕ
@@ -43,7 +43,7 @@ drifting =
       joint = false;
     }
 
--- the plan of this run: one request at a time, deadlines of 100 ms, one cycle, a quiet time of 10 ms, and three new tries
+-- the plan of this run: one request at a time, deadlines of 100 ms, one cycle, a quiet time of 10 ms, and three retries
 abbrev pub plan : Plan
 plan = record { width = 1; deadline = 100; every = 0; cycles = 1; quiet = 10; retries = 3; setup = 0; stale = 0; watched = false }
 
@@ -54,7 +54,7 @@ commands raw =
     ∷ plain_task (record { target = 8; call = Raw raw }) 100 false
     ∷ []
 
--- the scope of this run: at most a hundred acts; every reply is taken to say what the reply to the second command says, whose parameters nobody reads
+-- the scope of this run: at most a hundred acts; the parameters of replies aren't read, so each reply says nothing
 abbrev pub scope : Scope
 scope = record { turns = 100; reads = λ call line. Value Nothing }
 
@@ -88,7 +88,7 @@ acts raw =
     ∷ Opened
     ∷ Put (10 ∷ [])
     ∷ Told (at 210)
-    ∷ exchanged 215 asked null_replies (
+    ∷ exchanged 215 null_lines null_replies (
     Told (at 220)
     ∷ Put (with_end (codes "%R1Q,5003,0:"))
     ∷ Told (at 220)
@@ -111,7 +111,7 @@ acts raw =
 -- what the line does while the station synchronizes: it loses the first reply to the first null procedure, and that procedure's
 -- second request
 abbrev pub turns : List (Turn ℕ)
-turns = Asks ∷ Reaches ∷ turn.Down_lose 0 ∷ Asks ∷ turn.Up_lose 0 ∷ turn.Changes 12 ∷ eight
+turns = Asks ∷ Reaches ∷ turn.Down_lose 0 ∷ Asks ∷ turn.Up_lose 0 ∷ turn.Changes 12 ∷ eight_answered
 
 -- what the line does once the station has synchronized: the first command is answered, and that reply is lost; the second
 -- command reaches the instrument after a start, and is answered with what it measures by then, over another connection
@@ -144,7 +144,7 @@ runs raw = record { turns = turns; moves = moves raw } ∷ record { turns = []; 
 -- `drifting` is an instrument, and this is a run in the field, after which no act follows. The run recorded the first command
 -- as lost, and the second one's answer, which was made on executing the second command's request
 pub record IsAnsweredByDrifting (raw : RawCall) : Type 0 where
-  pub is : IsAnInstrument drifting AnyState nothing
+  pub instrument : IsAnInstrument drifting AnyState nothing
   pub field : IsInField drifting AnyState nothing plan (commands raw) scope (acts raw) (none_under_way 5) (runs raw)
   pub over : is_over (state_after plan (commands raw) scope (acts raw)).progress ≡ true
   pub records :
@@ -154,6 +154,6 @@ pub record IsAnsweredByDrifting (raw : RawCall) : Type 0 where
       ∷ []
   pub made_on : WasMadeOn WINDOW drifting (leaves (turned drifting turns (begins (none_under_way 5)))) (moves raw) 9 (Raw raw) answer
 
--- so it is whichever procedure the second command asks for
+-- `IsAnsweredByDrifting` holds whichever procedure the second command asks for
 abbrev pub SomeRunIsOverADriftingInstrument : Type 0
 SomeRunIsOverADriftingInstrument = (raw : RawCall) → IsAnsweredByDrifting raw

@@ -26,8 +26,8 @@ pub data Move (State : Type 0) : Type 0 where
   Anew : Move State
   -- the instrument's state changes by itself, to this one
   Changes : (state : State) → Move State
-  -- the line feed that clears the front of a request that was cut is lost: that front and the next request reach the instrument as one line,
-  -- and this is its reply
+  -- the line feed that clears the front of a request that was cut is lost: that front and the next request reach the instrument as
+  -- one line, and this is its reply
   Joins : (line : List ℕ) → Move State
 
 -- a step of the line alone: the client has no part in it, and nothing starts again
@@ -79,7 +79,7 @@ module _ {Client State : Type 0} where
   IsPossible Good kept w (OnLine step) = IsOfLine step
   IsPossible Good kept w Anew = Unit {0}
   IsPossible Good kept w (Changes state) = MayBecome Good kept w.wire.state state
-  -- a line feed arrives after the front of a request, before the next request does
+  -- never, because a line feed arrives after the front of a request, before the next request does
   IsPossible Good kept w (Joins line) = ⊥
 
   -- each of these moves is possible when its turn comes
@@ -129,8 +129,8 @@ AsksOnly knows (Joins line ∷ ms) = AsksOnly knows ms
 abbrev pub AsksTheTable : {State : Type 0} → List (Move State) → Type 0
 AsksTheTable ms = AsksOnly is_of_table ms
 
--- from a new client on, and with nothing in flight, these moves are possible, whatever the instrument keeps; the requests are
--- calls of the table; and the first one is sent alone
+-- from a new client on, and with nothing in flight, these moves are possible, whatever reply the instrument retains; the requests
+-- are calls of the table; and the first one is sent alone
 pub record IsField {State : Type 0} (width : ℕ) (ends : Ends State) (Good : State → Type 0) (kept : State → Option KeptReply) (state : State) (ms : List (Move State)) : Type 0 where
   pub possible : ArePossible ends Good kept (by_ids width ends) ms (ids_open state)
   pub table : AsksTheTable ms

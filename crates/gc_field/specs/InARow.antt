@@ -11,14 +11,15 @@ use Rattle.gc_station.specs.Scopes.{Scope}
 use Rattle.gc_station.specs.Model.{Runs, opening}
 use Rattle.gc_field.specs.Simulator.{ends}
 use Rattle.gc_field.specs.World.{Ends}
-use Rattle.gc_field.specs.Begin.{AreLines, Turn, UnderWay}
+use Rattle.gc_field.specs.Begin.{IsWellFormed, Turn, UnderWay}
 use Rattle.gc_field.specs.Beginnings.{AreRuns, IsRow, Run, killed_if, left_by_run, after_turns}
 use Rattle.gc_field.specs.Instrument.{AnyState, IsAnInstrument}
 use Rattle.gc_field.specs.Laws.{kept_of}
 use Rattle.gc_field.specs.Runs.{IsRunFaithful}
 use Rattle.gc_field.specs.Shown.{AreShownAs}
 
--- a station with its plan, its commands and its acts, and what happens on the line in each part of its run
+-- a station's run as a program: its plan, its commands, its scope and its acts, and what happens on the line in each part of the
+-- run (`runs`)
 pub record Program (State : Type 0) : Type 0 where
   pub plan : Plan
   pub commands : List Task
@@ -32,11 +33,11 @@ module _ {State : Type 0} (ends : Ends State) where
   left_over u [] = u
   left_over u (r ∷ rs) = left_over (left_by_run WINDOW ends u r) rs
 
-  -- how many runs in a row were killed while they synchronized, up to this one, where `n` were before. A run without turns, in
-  -- which nothing happened, doesn't count
+  -- how many runs in a row were killed while they synchronized, up to the run r, where `n` were before it. The list is the run's
+  -- turns: a run without turns, in which nothing happened, leaves the count as it was
   abbrev pub killed_by : ℕ → UnderWay State → Run State → List (Turn State) → ℕ
   killed_by n u r [] = n
-  killed_by n u r (t ∷ ts) = killed_if WINDOW ends (after_turns WINDOW ends u r).left n
+  killed_by n u r (t ∷ ts) = killed_if (after_turns ends u r).left n
 
   -- how many runs in a row were killed while they synchronized, at the end of these, where `n` were before
   abbrev pub killed_over : ℕ → UnderWay State → List (Run State) → ℕ
@@ -44,40 +45,40 @@ module _ {State : Type 0} (ends : Ends State) where
   killed_over n u (r ∷ rs) = killed_over (killed_by n u r r.turns) (left_by_run WINDOW ends u r) rs
 
   -- at the end of each of these runs, at most five in a row have been killed while they synchronized, counted with the `n`
-  -- before the first
-  abbrev pub AreFew : ℕ → UnderWay State → List (Run State) → Type 0
-  AreFew n u [] = Unit {0}
-  AreFew n u (r ∷ rs) = (killed_by n u r r.turns ≤ 5) × AreFew (killed_by n u r r.turns) (left_by_run WINDOW ends u r) rs
+  -- before the first. Unlike in `AreFewKilled`, a run in which nothing happened doesn't count
+  abbrev pub AreFewKilledWithTurns : ℕ → UnderWay State → List (Run State) → Type 0
+  AreFewKilledWithTurns n u [] = Unit {0}
+  AreFewKilledWithTurns n u (r ∷ rs) = (killed_by n u r r.turns ≤ 5) × AreFewKilledWithTurns (killed_by n u r r.turns) (left_by_run WINDOW ends u r) rs
 
   module _ (Good : State → Type 0) (kept : State → Option KeptReply) where
     -- a program is a run of its station over what is in flight, where `n` runs in a row were killed before while they
     -- synchronized
-    pub record IsNext (n : ℕ) (u : UnderWay State) (x : Program State) : Type 0 where
+    pub record IsNextProgram (n : ℕ) (u : UnderWay State) (x : Program State) : Type 0 where
       pub runs : Runs x.plan x.commands (opening x.plan x.scope) x.acts
       pub shown : AreShownAs ends u x.runs (parts_of x.plan x.commands (opening x.plan x.scope) x.acts)
       pub possible : AreRuns WINDOW ends Good kept u x.runs
-      pub few : AreFew n u x.runs
+      pub few : AreFewKilledWithTurns n u x.runs
 
-    -- each of these programs is `IsNext`, over what the one before it left
+    -- each of these programs is `IsNextProgram`, over what the one before it left
     abbrev pub AreInARow : ℕ → UnderWay State → List (Program State) → Type 0
     AreInARow n u [] = Unit {0}
-    AreInARow n u (x ∷ xs) = IsNext n u x × AreInARow (killed_over n u x.runs) (left_over u x.runs) xs
+    AreInARow n u (x ∷ xs) = IsNextProgram n u x × AreInARow (killed_over n u x.runs) (left_over u x.runs) xs
 
     -- each of these programs is a faithful run, over what the one before it left
     abbrev pub AreFaithful : UnderWay State → List (Program State) → Type 0
     AreFaithful u [] = Unit {0}
     AreFaithful u (x ∷ xs) = IsRunFaithful ends Good kept x.plan x.commands x.scope x.acts u x.runs × AreFaithful (left_over u x.runs) xs
 
--- for any instrument, after a run that measured, or over a line with nothing in flight: as long as fewer than six runs in a row
--- end while they synchronize, each program is a faithful run
+-- for any instrument, after a run that had synchronized, or over a line with nothing in flight (`IsRow`): as long as fewer than
+-- six runs in a row end while they synchronize, each program is a faithful run
 abbrev pub StationsInARowAreFaithful : Type 0 → Type 0
 StationsInARowAreFaithful State =
     (ends : Ends State) (kept : State → Option KeptReply) → IsAnInstrument ends AnyState kept →
-    (u : UnderWay State) → AreLines AnyState u → IsRow u →
+    (u : UnderWay State) → IsWellFormed AnyState u → IsRow u →
     (xs : List (Program State)) → AreInARow ends AnyState kept 0 u xs → AreFaithful ends AnyState kept u xs
 
 -- `StationsInARowAreFaithful` for the simulated instrument: its `ends` and its retained reply, in any state that fits
 abbrev pub SimulatorsStationsInARowAreFaithful : Type 0
 SimulatorsStationsInARowAreFaithful =
-    (u : UnderWay State) → AreLines IsFittingState u → IsRow u →
+    (u : UnderWay State) → IsWellFormed IsFittingState u → IsRow u →
     (xs : List (Program State)) → AreInARow ends IsFittingState kept_of 0 u xs → AreFaithful ends IsFittingState kept_of u xs

@@ -12,58 +12,86 @@ use Rattle.gc_instrument.specs.State.{KeptReply}
 use Rattle.gc_field.specs.World.{Ends}
 use Rattle.gc_catalogue.specs.Asked.{is_of_table}
 
-module _ {State : Type 0} (ends : Ends State) (Good : State → Type 0) (kept : State → Option KeptReply) where
-  -- after this request it retains its reply to that request, or nothing
-  abbrev pub KeepsItsOwn : State → ℕ → Asked → Type 0
-  KeepsItsOwn state id call = (kept (ends.handed state id call).state ≡ None) ⊎ (kept (ends.handed state id call).state ≡ Some (record { id = id; line = (ends.handed state id call).reply }))
+module _ {State : Type 0} (ends : Ends State) where
+  -- The clauses on an instrument.
 
-  -- `ends` is an instrument: what it does with a request (`handed`) and at a start (`restarted`), and how its lines are read
-  -- (`heard`). `Good` says which of its states are good, and `kept` what it retains in each: the line that it sent for a
-  -- request, with that request's id, or nothing. After each request that `knows` names it retains its own reply to that, or
-  -- nothing
-  pub record IsAnInstrumentFor (knows : Asked → Bool) : Type 0 where
-    -- a client reads its lines by the grammar of replies
-    pub hears : (line : List ℕ) → ends.heard line ≡ heard line
-    -- its line for a request is a reply with the request's id
-    pub replies : (state : State) (id : ℕ) (call : Asked) → Good state → id < IDS → heard (ends.handed state id call).reply ≡ Some id
-    -- if it sends an older line again (`executed` is false), that line is the one that it retains, and it retains it for this
-    -- very id
-    pub repeats :
-        (state : State) (id : ℕ) (call : Asked) → Good state → id < IDS → (ends.handed state id call).executed ≡ false →
-        kept state ≡ Some (record { id = id; line = (ends.handed state id call).reply })
-    -- after a request it retains its reply to that request, or nothing; or, if it doesn't know the request, what it retained
-    -- before
-    pub keeps :
-        (state : State) (id : ℕ) (call : Asked) → Good state → id < IDS →
-        KeepsItsOwn state id call ⊎ ((knows call ≡ false) × (kept (ends.handed state id call).state ≡ kept state))
-    -- after a start it retains what it retained before, or nothing
-    pub starts : (state : State) → Good state → (kept (ends.restarted state) ≡ None) ⊎ (kept (ends.restarted state) ≡ kept state)
-    -- a good state stays one
-    pub stays_good : (state : State) (id : ℕ) (call : Asked) → Good state → id < IDS → Good (ends.handed state id call).state
-    pub starts_good : (state : State) → Good state → Good (ends.restarted state)
+  -- a client reads the instrument's lines by the grammar of replies
+  abbrev pub ReadsByGrammar : Type 0
+  ReadsByGrammar = (line : List ℕ) → ends.heard line ≡ heard line
 
-  -- an instrument, of which it is known of calls of the table that after each of them it retains its own reply, or nothing
-  abbrev pub IsAnInstrument : Type 0
-  IsAnInstrument = IsAnInstrumentFor is_of_table
+  module _ (Good : State → Type 0) where
+    -- in a good state, the instrument's line for a request is a reply with the request's id
+    abbrev pub RepliesWithItsId : Type 0
+    RepliesWithItsId = (state : State) (id : ℕ) (call : Asked) → Good state → id < IDS → heard (ends.handed state id call).reply ≡ Some id
 
-  -- a request that is no call of the table is to it as all others: after it, too, it retains its own reply, or nothing
-  abbrev pub TreatsRawsAlike : Type 0
-  TreatsRawsAlike = (state : State) (id : ℕ) (call : Asked) → Good state → id < IDS → KeepsItsOwn state id call
+    -- the state after a request in a good state is good
+    abbrev pub StaysGoodOverRequests : Type 0
+    StaysGoodOverRequests = (state : State) (id : ℕ) (call : Asked) → Good state → id < IDS → Good (ends.handed state id call).state
 
-  -- an instrument that retains its reply to each request that it knows (`knows`), and sends that reply again if the next
-  -- request has the same id
-  pub record KeepsItsReply (knows : Asked → Bool) : Type 0 where
-    -- it doesn't execute a request that it knows and that has the id of the line that it retains
-    pub again :
-        (state : State) (id : ℕ) (call : Asked) (line : List ℕ) → Good state → id < IDS → knows call ≡ true → kept state ≡ Some (record { id = id; line = line }) →
-        (ends.handed state id call).executed ≡ false
-    -- after each request that it knows it retains its reply to that request
-    pub always :
-        (state : State) (id : ℕ) (call : Asked) → Good state → id < IDS → knows call ≡ true →
-        kept (ends.handed state id call).state ≡ Some (record { id = id; line = (ends.handed state id call).reply })
+    -- the state after a start from a good state is good
+    abbrev pub StaysGoodOverStarts : Type 0
+    StaysGoodOverStarts = (state : State) → Good state → Good (ends.restarted state)
 
--- an instrument's state may change by itself between two requests, as by a hand at its keys, a clock, or the noise of a measurement: into any
--- good state that keeps the same line
+    module _ (kept : State → Option KeptReply) where
+      -- in a good state, if the instrument sends an older line again (`executed` is false), that line is the one that it retains,
+      -- and it retains it for this very id
+      abbrev pub RepeatsWhatIsRetained : Type 0
+      RepeatsWhatIsRetained =
+          (state : State) (id : ℕ) (call : Asked) → Good state → id < IDS → (ends.handed state id call).executed ≡ false →
+          kept state ≡ Some (record { id = id; line = (ends.handed state id call).reply })
+
+      -- after this request the instrument retains its reply to that request, or nothing
+      abbrev pub KeepsItsOwn : State → ℕ → Asked → Type 0
+      KeepsItsOwn state id call =
+          (kept (ends.handed state id call).state ≡ None)
+          ⊎ (kept (ends.handed state id call).state ≡ Some (record { id = id; line = (ends.handed state id call).reply }))
+
+      -- after a request in a good state the instrument retains its reply to that request, or nothing; or, if it doesn't know the
+      -- request (`knows`), what it retained before
+      abbrev pub RetainsItsOwn : (Asked → Bool) → Type 0
+      RetainsItsOwn knows =
+          (state : State) (id : ℕ) (call : Asked) → Good state → id < IDS →
+          KeepsItsOwn state id call ⊎ ((knows call ≡ false) × (kept (ends.handed state id call).state ≡ kept state))
+
+      -- after a start from a good state the instrument retains what it retained before, or nothing
+      abbrev pub RetainsOverStarts : Type 0
+      RetainsOverStarts = (state : State) → Good state → (kept (ends.restarted state) ≡ None) ⊎ (kept (ends.restarted state) ≡ kept state)
+
+      -- `ends` is an instrument: what it does with a request (`handed`) and at a start (`restarted`), and how its lines are read
+      -- (`heard`). `Good` says which of its states are good, and `kept` what it retains in each: the line that it sent for a
+      -- request, with that request's id, or nothing. `knows` names requests after each of which it retains its own reply, or
+      -- nothing
+      pub record IsAnInstrumentFor (knows : Asked → Bool) : Type 0 where
+        pub hears : ReadsByGrammar
+        pub replies : RepliesWithItsId
+        pub repeats : RepeatsWhatIsRetained
+        pub keeps : RetainsItsOwn knows
+        pub starts : RetainsOverStarts
+        pub stays_good : StaysGoodOverRequests
+        pub starts_good : StaysGoodOverStarts
+
+      -- `ends` is an instrument that after each call of the table retains its own reply to that call, or nothing
+      abbrev pub IsAnInstrument : Type 0
+      IsAnInstrument = IsAnInstrumentFor is_of_table
+
+      -- after each request, also one that is no call of the table (a raw one), the instrument retains its own reply, or nothing
+      abbrev pub TreatsRawsAlike : Type 0
+      TreatsRawsAlike = (state : State) (id : ℕ) (call : Asked) → Good state → id < IDS → KeepsItsOwn state id call
+
+      -- an instrument that retains its reply to each request that it knows (`knows`), and sends that reply again if the next
+      -- request has the same id
+      pub record KeepsItsReply (knows : Asked → Bool) : Type 0 where
+        -- it doesn't execute a request that it knows and that has the id of the line that it retains
+        pub again :
+            (state : State) (id : ℕ) (call : Asked) (line : List ℕ) → Good state → id < IDS → knows call ≡ true → kept state ≡ Some (record { id = id; line = line }) →
+            (ends.handed state id call).executed ≡ false
+        -- after each request that it knows it retains its reply to that request
+        pub always :
+            (state : State) (id : ℕ) (call : Asked) → Good state → id < IDS → knows call ≡ true →
+            kept (ends.handed state id call).state ≡ Some (record { id = id; line = (ends.handed state id call).reply })
+
+-- an instrument's state may change by itself between two requests, as by a hand at its keys, a clock, or the noise of a
+-- measurement: into any good state that retains the same line
 abbrev pub MayBecome : {State : Type 0} → (State → Type 0) → (State → Option KeptReply) → State → State → Type 0
 MayBecome Good kept before after = Good after × (kept after ≡ kept before)
 

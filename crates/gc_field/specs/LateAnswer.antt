@@ -21,7 +21,7 @@ use Rattle.gc_field.specs.Begun.{WasMadeOn}
 use Rattle.gc_field.specs.Field.{Move, Sends, Tells, Comes, OnLine}
 use Rattle.gc_field.specs.Laws.{kept_of}
 use Rattle.gc_field.specs.Runs.{IsInField}
-use Rattle.gc_field.specs.Witness.{plan, scope, at, begun_with, eight, replies}
+use Rattle.gc_field.specs.Witness.{plan, scope, at, begun_with, eight_answered, replies}
 
 -- two requests for the instrument's number
 abbrev pub commands : List Task
@@ -75,20 +75,20 @@ moves =
 
 -- what happens on the line: in this run, and after its end in one more, in which nothing happens
 abbrev pub runs : List (Run State)
-runs = record { turns = eight; moves = moves } ∷ record { turns = []; moves = [] } ∷ []
+runs = record { turns = eight_answered; moves = moves } ∷ record { turns = []; moves = [] } ∷ []
 
 -- at the start of the run nothing is in flight
-abbrev pub before : UnderWay State
-before = none_under_way simulator_opening
+abbrev pub at_start : UnderWay State
+at_start = none_under_way simulator_opening
 
 -- what is in flight once the run has synchronized
 abbrev pub from : UnderWay State
-from = leaves (turned ends eight (begins before))
+from = leaves (turned ends eight_answered (begins at_start))
 
 -- this is a run in the field, after which no act follows. It recorded the first command as late, and the second one's answer;
 -- and each of these lines was made on executing its own request
 pub record IsLateInField : Type 0 where
-  pub field : IsInField ends IsFittingState kept_of plan commands scope acts before runs
+  pub field : IsInField ends IsFittingState kept_of plan commands scope acts at_start runs
   pub over : is_over (state_after plan commands scope acts).progress ≡ true
   pub records :
       (state_after plan commands scope acts).records

@@ -47,21 +47,22 @@ module _ {State : Type 0} (width : ℕ) (ends : Ends State) (state : State) (ms 
     pub accounted : map of_settled left.wire.settled ++ map of_pending left.client.waiting ≡ map asked left.wire.sent
     pub one_for_one : IsOneForOne left.wire.sent left.wire.settled
     -- its own: an answer at place m is among the lines that the instrument made for request m, and is its reply to that very
-    -- call; but for the first request, which an instrument that retained an older reply with its id may have answered with that
+    -- call. The first request is excepted: an instrument that retained an older reply with its id may have sent that reply again
     pub booked :
         (m : ℕ) (s : Settlement Asked) → 0 < m → slice_get left.wire.settled m ≡ Some s → IsBooked ends Good left.wire.made m s
-    -- and the instrument executed request m at one of these moves, not before the client synchronized
+    -- and the instrument executed request m at one of these moves
     pub executed :
         (m : ℕ) (s : Settlement Asked) (line : List ℕ) → 0 < m → slice_get left.wire.settled m ≡ Some s → s.outcome ≡ Answered line → WasExecuted left.wire.executed m
-    -- made on it: its line was made on executing request m. At one of these moves that request, with this call, reached the instrument,
-    -- which executed it, and this line was its reply
+    -- made on it: its line was made on executing request m, by `WasMadeOn`
     pub made_on :
-        (m : ℕ) (s : Settlement Asked) (line : List ℕ) → 0 < m → slice_get left.wire.settled m ≡ Some s → s.outcome ≡ Answered line → WasMadeOn width ends state ms m s.call line
+        (m : ℕ) (s : Settlement Asked) (line : List ℕ) → 0 < m → slice_get left.wire.settled m ≡ Some s → s.outcome ≡ Answered line
+        → WasMadeOn width ends (ids_open state) ms m s.call line
     -- in order: requests are executed in the order of sending, over starts too
     pub in_order : IsInOrder left.wire.executed
     -- late: the instrument executed the request, though its reply came too late
     pub late :
-        (m : ℕ) (s : Settlement Asked) → 0 < m → slice_get left.wire.settled m ≡ Some s → s.outcome ≡ Late → (line : List ℕ) × WasMadeOn width ends state ms m s.call line
+        (m : ℕ) (s : Settlement Asked) → 0 < m → slice_get left.wire.settled m ≡ Some s → s.outcome ≡ Late
+        → (line : List ℕ) × WasMadeOn width ends (ids_open state) ms m s.call line
     -- acts once: if the instrument retains its reply to each request that it knows, between two of its starts each of these is
     -- executed at most once
     pub once : (knows : Asked → Bool) → KeepsItsReply ends Good kept knows → ActsOnce knows left.wire.sent left.wire.executed left.wire.starts
@@ -73,7 +74,8 @@ module _ {State : Type 0} (width : ℕ) (ends : Ends State) (state : State) (ms 
         (n : ℕ) (line : List ℕ) (rest : List (Numbered (List ℕ))) → left.wire.down ≡ record { number = n; line = line } ∷ rest → length left.wire.settled ≤ n →
         (moves ends (by_ids width ends) left (Comes line)).wire.settled ≡ left.wire.settled ++ settle (n - length left.wire.settled) line left.client.waiting
 
--- runs in the field are faithful: for any instrument in any state, whatever it keeps, and a client with a window of any width
+-- moves that meet `IsField` are faithful: for any instrument in any state, whatever reply it retains, and a client with a window
+-- of at most `WINDOW` requests
 abbrev pub AnswersAreTheirOwn : Type 0 → Type 0
 AnswersAreTheirOwn State =
     (ends : Ends State) (kept : State → Option KeptReply) → IsAnInstrument ends AnyState kept →
@@ -84,12 +86,14 @@ abbrev pub kept_of : State → Option KeptReply
 kept_of s = s.kept
 
 -- the simulator is an instrument, in any state that fits, and one that retains its reply to each call of its table. It refuses
--- other requests, and its refusals leave what it retains
+-- other requests, and its refusals leave the retained reply
 pub record SimulatorIsAnInstrument : Type 0 where
-  pub is : IsAnInstrument ends IsFittingState kept_of
+  pub instrument : IsAnInstrument ends IsFittingState kept_of
   pub keeps : KeepsItsReply ends IsFittingState kept_of is_of_table
-  -- that is what the simulated instrument does with the line of such a request
-  pub refuses : (state : State) (id : ℕ) (raw : RawCall) → id < IDS → IsReplied state (asked_line (Some id) (Raw raw)) (handed state id (Raw raw)).state (Some (handed state id (Raw raw)).reply)
+  -- `handed` is what the simulated instrument does with the line of a request that isn't in its table
+  pub refuses :
+      (state : State) (id : ℕ) (raw : RawCall) → id < IDS
+      → IsReplied state (asked_line (Some id) (Raw raw)) (handed state id (Raw raw)).state (Some (handed state id (Raw raw)).reply)
 
 -- `AnswersAreTheirOwn` for the simulator, in any state that fits
 abbrev pub SimulatorsAnswersAreTheirOwn : Type 0

@@ -29,23 +29,23 @@ joint = codes "%R1Q,5003,1:%R1Q,0,2:"
 
 -- the moves before: a client that has synchronized sends a null procedure, which is answered; and then two requests, of which
 -- the first is cut
-abbrev pub before : List (Move State)
-before = Sends 0 (Table NullProc) 9 ∷ OnLine Up_deliver ∷ Comes (codes "%R1P,0,0:0") ∷ Sends 7 (Table InstrumentNo) 9 ∷ Sends 8 (Table NullProc) 9 ∷ []
+abbrev pub moves_before : List (Move State)
+moves_before = Sends 0 (Table NullProc) 9 ∷ OnLine Up_deliver ∷ Comes (codes "%R1P,0,0:0") ∷ Sends 7 (Table InstrumentNo) 9 ∷ Sends 8 (Table NullProc) 9 ∷ []
 
 -- the moves after that: the front of the first request and the second request reach the simulator as one line, whose reply comes
-abbrev pub behind : List (Move State)
-behind = Joins refusal ∷ Comes refusal ∷ []
+abbrev pub moves_after : List (Move State)
+moves_after = Joins refusal ∷ Comes refusal ∷ []
 
 -- the moves before are possible, and the reply to that one line is booked for the request that was cut
 pub record IsBookedJoined : Type 0 where
   -- the first twelve bytes of the one request and the whole of the other are one line, and a request with the id of the first
   pub line : lines (take 12 (with_end (codes "%R1Q,5003,1:")) ++ with_end (codes "%R1Q,0,2:")) ≡ joint ∷ []
   pub reads : request_at joint ≡ Ok (record { rpc = 5003; id = Some 1; params = codes "%R1Q,0,2:" })
-  pub possible : ArePossible ends IsFittingState kept_of (by_ids WINDOW ends) before (ids_begun (none_under_way simulator_opening))
+  pub possible : ArePossible ends IsFittingState kept_of (by_ids WINDOW ends) moves_before (ids_begun (none_under_way simulator_opening))
   -- the simulator, as it is by then, answers that line with this refusal, and nothing changes
-  pub replied : IsReplied (begun.behind WINDOW ends (none_under_way simulator_opening) before).wire.state joint
-      (begun.behind WINDOW ends (none_under_way simulator_opening) before).wire.state (Some refusal)
+  pub replied : IsReplied (begun.behind WINDOW ends (none_under_way simulator_opening) moves_before).wire.state joint
+      (begun.behind WINDOW ends (none_under_way simulator_opening) moves_before).wire.state (Some refusal)
   -- the reply is booked for the request that was cut, which wasn't executed
-  pub settled : slice_get (begun.behind WINDOW ends (none_under_way simulator_opening) (before ++ behind)).wire.settled 9 ≡ Some
+  pub settled : slice_get (begun.behind WINDOW ends (none_under_way simulator_opening) (moves_before ++ moves_after)).wire.settled 9 ≡ Some
       (record { target = 7; call = Table InstrumentNo; outcome = Answered refusal })
-  pub executed : (begun.behind WINDOW ends (none_under_way simulator_opening) (before ++ behind)).wire.executed ≡ 8 ∷ []
+  pub executed : (begun.behind WINDOW ends (none_under_way simulator_opening) (moves_before ++ moves_after)).wire.executed ≡ 8 ∷ []

@@ -1,17 +1,18 @@
 -- A line that was made on executing a request, this project's own.
 use Rattle.std.specs.Prelude.{◌≡◌, ℕ, true, List, ◌∷◌, ◌++◌}
 use Rattle.gc_catalogue.specs.declared.asked.Asked.{Asked}
-use Rattle.gc_world.specs.Clients.{by_ids, ids_open}
-use Rattle.gc_field.specs.World.{Ends, Numbered, Request, Up_deliver, Wire}
+use Rattle.gc_client.specs.Rule.{ById}
+use Rattle.gc_world.specs.Clients.{by_ids}
+use Rattle.gc_field.specs.World.{Ends, Numbered, Request, Up_deliver, Wire, World}
 use Rattle.gc_field.specs.Field.{Move, OnLine, moved}
 
-module _ {State : Type 0} (width : ℕ) (ends : Ends State) (state : State) where
-  -- the wire as these moves leave it
+module _ {State : Type 0} (width : ℕ) (ends : Ends State) (start : World (ById Asked) State) where
+  -- the wire after these moves of the world `start`, whose client knows ids and has a window of this width
   abbrev pub wire_behind : List (Move State) → Wire State
-  wire_behind ms = (moved ends (by_ids width ends) ms (ids_open state)).wire
+  wire_behind ms = (moved ends (by_ids width ends) ms start).wire
 
-  -- at one of these moves request m, with this call, reaches the instrument; it executes the call, in the state in which it is by then;
-  -- and this line is its reply
+  -- at one of these moves request m, with this call, reaches the instrument, which executes the call in the state that it has by
+  -- then; and this line is the instrument's reply
   pub record WasMadeOn (ms : List (Move State)) (m : ℕ) (call : Asked) (line : List ℕ) : Type 0 where
     -- the moves before that one, and those after it
     pub front : List (Move State)

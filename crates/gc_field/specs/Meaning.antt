@@ -7,7 +7,7 @@ use Rattle.gc_lines.specs.Lines.{with_end}
 use Rattle.gc_catalogue.specs.declared.asked.Asked.{Asked}
 use Rattle.gc_catalogue.specs.Asked.{asked_line}
 use Rattle.gc_client.specs.declared.window.TheConstants.{WINDOW}
-use Rattle.gc_client.specs.OneForOne.{Step, Send, Hear, Expire, goes}
+use Rattle.gc_client.specs.OneForOne.{Step, Send, Hear, Expire, course_after}
 use Rattle.gc_client.specs.Rule.{ById, Sending, sends}
 use Rattle.gc_links.specs.declared.link.Moment.{Moment}
 use Rattle.gc_links.specs.Acts.{Act, Told, Untold, Put, Cut, Gave, Silent, Ended, Broke, Closed, Opened, Unopened}
@@ -59,7 +59,7 @@ Means client before Unopened steps behind = (steps ≡ []) × (behind ≡ before
 
 -- a client after a step, by its rule with the window of seven
 abbrev pub stepped : ById Asked → Step Asked → ById Asked
-stepped client step = (goes WINDOW (record { sent = []; settlements = []; client = client }) step).client
+stepped client step = (course_after WINDOW (record { sent = []; settlements = []; client = client }) step).client
 
 -- a client after several steps, in order
 abbrev pub client_after : ById Asked → List (Step Asked) → ById Asked

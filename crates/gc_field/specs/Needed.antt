@@ -1,5 +1,5 @@
--- What is asked of an instrument is needed, this project's own: for each clause an instrument that lacks that one alone, and a run in which
--- an answer is booked for a request that it never executed.
+-- What is asked of an instrument is needed, this project's own: for each clause an instrument that lacks that one alone, and a
+-- run in which an answer is booked for a request that it never executed.
 use Rattle.std.specs.Prelude.{◌≡◌, ℕ, zero, suc, ◌+◌, ◌<◌, ◌≤◌, ◌⊎◌, Bool, true, false, List, [], ◌∷◌, Option, Some, None, slice_get, if◌then◌else◌, nat_eq}
 use Rattle.std.specs.Fmt.{decimal}
 use Rattle.std.specs.Option.{option_map}
@@ -8,7 +8,7 @@ use Rattle.gc_catalogue.specs.declared.asked.Asked.{Asked}
 use Rattle.gc_catalogue.specs.declared.asked.Asked.TheVariants.{Table, Raw}
 use Rattle.gc_catalogue.specs.declared.call.Call.TheVariants.{NullProc, InstrumentNo}
 use Rattle.gc_catalogue.specs.declared.raw.RawCall.{RawCall}
-use Rattle.gc_client.specs.declared.window.TheConstants.{WINDOW, IDS}
+use Rattle.gc_client.specs.declared.window.TheConstants.{WINDOW}
 use Rattle.gc_client.specs.Rule.{Answered, heard}
 use Rattle.gc_instrument.specs.Replying.{Handed}
 use Rattle.gc_instrument.specs.State.{KeptReply}
@@ -17,12 +17,12 @@ use Rattle.gc_field.specs.World.{Ends, Up_deliver, Up_repeat}
 use Rattle.gc_field.specs.Begin.{none_under_way}
 use Rattle.gc_field.specs.Begun.{IsClean, behind, ids_begun}
 use Rattle.gc_field.specs.Field.{Move, Sends, Comes, OnLine, Anew, Changes, ArePossible}
-use Rattle.gc_field.specs.Instrument.{IsAnInstrument, AnyState, KeepsItsOwn, nothing}
+use Rattle.gc_field.specs.Instrument.{IsAnInstrument, AnyState, ReadsByGrammar, RepliesWithItsId, RepeatsWhatIsRetained, RetainsItsOwn, RetainsOverStarts, StaysGoodOverRequests, StaysGoodOverStarts, nothing}
 use Rattle.gc_field.specs.Laws.{WasExecuted}
 use Rattle.gc_field.specs.Once.{ActsOnce}
 use Rattle.gc_catalogue.specs.Asked.{asked_request, is_of_table}
 
--- the clauses of what is asked of an instrument
+-- the clauses of what is asked of an instrument (`IsAnInstrumentFor`), each with the name of its field there
 pub data Clause : Type 0 where
   Hears : Clause
   Replies : Clause
@@ -32,24 +32,18 @@ pub data Clause : Type 0 where
   StaysGood : Clause
   StartsGood : Clause
 
--- this instrument meets every clause, but perhaps this one
+-- this instrument meets every clause, but perhaps the clause x
 pub record IsAllBut {State : Type 0} (x : Clause) (ends : Ends State) (Good : State → Type 0) (kept : State → Option KeptReply) : Type 0 where
-  pub hears : (x ≡ Hears) ⊎ ((line : List ℕ) → ends.heard line ≡ heard line)
-  pub replies : (x ≡ Replies) ⊎ ((state : State) (id : ℕ) (call : Asked) → Good state → id < IDS → heard (ends.handed state id call).reply ≡ Some id)
-  pub repeats :
-      (x ≡ Repeats)
-      ⊎ ((state : State) (id : ℕ) (call : Asked) → Good state → id < IDS → (ends.handed state id call).executed ≡ false
-      → kept state ≡ Some (record { id = id; line = (ends.handed state id call).reply }))
-  pub keeps :
-      (x ≡ Keeps)
-      ⊎ ((state : State) (id : ℕ) (call : Asked) → Good state → id < IDS →
-      KeepsItsOwn ends Good kept state id call ⊎ ((is_of_table call ≡ false) × (kept (ends.handed state id call).state ≡ kept state)))
-  pub starts : (x ≡ Starts) ⊎ ((state : State) → Good state → (kept (ends.restarted state) ≡ None) ⊎ (kept (ends.restarted state) ≡ kept state))
-  pub stays_good : (x ≡ StaysGood) ⊎ ((state : State) (id : ℕ) (call : Asked) → Good state → id < IDS → Good (ends.handed state id call).state)
-  pub starts_good : (x ≡ StartsGood) ⊎ ((state : State) → Good state → Good (ends.restarted state))
+  pub hears : (x ≡ Hears) ⊎ ReadsByGrammar ends
+  pub replies : (x ≡ Replies) ⊎ RepliesWithItsId ends Good
+  pub repeats : (x ≡ Repeats) ⊎ RepeatsWhatIsRetained ends Good kept
+  pub keeps : (x ≡ Keeps) ⊎ RetainsItsOwn ends Good kept is_of_table
+  pub starts : (x ≡ Starts) ⊎ RetainsOverStarts ends Good kept
+  pub stays_good : (x ≡ StaysGood) ⊎ StaysGoodOverRequests ends Good
+  pub starts_good : (x ≡ StartsGood) ⊎ StaysGoodOverStarts ends Good
 
--- after a clean synchronization, with nothing in flight, these moves are possible, and the client's request m, with this call,
--- is answered with this line though it wasn't executed
+-- after a clean synchronization, with nothing in flight, these moves are possible, and request m of the client (from number 8
+-- on), with this call, is answered with this line though it wasn't executed
 pub record IsBookedUnexecuted {State : Type 0} (ends : Ends State) (Good : State → Type 0) (kept : State → Option KeptReply) (state : State)
     (ms : List (Move State)) (m : ℕ) (call : Asked) (line : List ℕ) : Type 0 where
   pub beyond : 8 ≤ m
@@ -58,7 +52,8 @@ pub record IsBookedUnexecuted {State : Type 0} (ends : Ends State) (Good : State
   pub settled : slice_get (behind WINDOW ends (none_under_way state) ms).wire.settled m ≡ Some (record { target = 7; call = call; outcome = Answered line })
   pub executed : WasExecuted (behind WINDOW ends (none_under_way state) ms).wire.executed m → ⊥
 
--- this clause is needed: the instrument meets every other one, and has an answer booked for a request that it never executed
+-- the clause x is needed: this instrument meets every other one, and in these moves the client books its line as the answer to
+-- request m, which it never executed
 pub record IsNeeded {State : Type 0} (x : Clause) (ends : Ends State) (Good : State → Type 0) (kept : State → Option KeptReply) (state : State)
     (ms : List (Move State)) (m : ℕ) (call : Asked) (line : List ℕ) : Type 0 where
   pub all_but : IsAllBut x ends Good kept
@@ -73,7 +68,7 @@ value id n = reply_text (record { rc_com = 0; id = Some id; rc = 0; params = dec
 abbrev pub refusal : ℕ → List ℕ
 refusal id = reply_text (record { rc_com = 3081; id = Some id; rc = 0; params = [] })
 
--- the moves by which a request is sent, reaches the instrument, and is answered with this line; then these moves
+-- the moves by which this request is sent, reaches the instrument, and is answered with this line; and then the moves `ms`
 abbrev pub asks : {State : Type 0} → Asked → List ℕ → List (Move State) → List (Move State)
 asks call line ms = Sends 7 call 9 ∷ OnLine Up_deliver ∷ Comes line ∷ ms
 
@@ -92,13 +87,13 @@ abbrev pub kept : Keeper → Option KeptReply
 kept None = None
 kept (Some x) = Some (record { id = x.0; line = value x.0 x.1 })
 
--- the number that is kept for this id, if one is
+-- the number that is retained for this id, if one is
 abbrev pub held : Keeper → ℕ → Option ℕ
 held None id = None
 held (Some x) id = if nat_eq x.0 id then Some x.1 else None
 
--- what an instrument that retains a reply does with a request: it sends the number again that it retains for the request's id;
--- or, if it retains none, it deals with the request and retains its reply
+-- what an instrument that retains a reply does with a request, by the number that it retains for the request's id: it sends that
+-- number again; or, if there is none (None), it executes the request, answers 0, and retains that reply
 abbrev pub again_or : ℕ → Keeper → Option ℕ → Handed Keeper
 again_or id k (Some n) = record { state = k; reply = value id n; executed = false }
 again_or id k None = record { state = Some (id, 0); reply = value id 0; executed = true }
@@ -107,19 +102,21 @@ again_or id k None = record { state = Some (id, 0); reply = value id 0; executed
 abbrev pub keeper : Ends Keeper
 keeper = record { handed = λ k id call. again_or id k (held k id); restarted = λ k. None; heard = heard; joint = true }
 
--- what an instrument does with a request that it knows (true), or refuses because it doesn't (false): after a refusal it still
--- retains an older reply
+-- what an instrument does with a request that it knows (true), as `again_or` says; or with one that it doesn't know (false): it
+-- refuses that, and still retains its older reply
 abbrev pub refuses_or : Bool → Keeper → ℕ → Handed Keeper
 refuses_or true k id = again_or id k (held k id)
 refuses_or false k id = record { state = k; reply = refusal id; executed = true }
 
--- an instrument that knows the null procedure alone: its older reply comes again at the ninth request
+-- an instrument that knows the null procedure alone: it refuses any other request, and still retains its reply to the last null
+-- procedure
 abbrev pub keeps_older : Ends Keeper
 keeps_older = record keeper { handed = λ k id call. refuses_or (nat_eq (asked_request None call).rpc 0) k id }
 
--- nine requests, each answered before the next one; the first one's id comes again
-abbrev pub nine : List (Move Keeper)
-nine =
+-- the moves of nine requests, each answered before the next one is sent: the first and the last, whose id is the same, are null
+-- procedures, and the seven between are refused
+abbrev pub nine_requests : List (Move Keeper)
+nine_requests =
     asks (Table NullProc) (value 0 0) (asks (Table InstrumentNo) (refusal 1) (asks (Table InstrumentNo) (refusal 2) (asks (Table InstrumentNo) (refusal 3) (asks (Table InstrumentNo) (refusal 4)
     (asks (Table InstrumentNo) (refusal 5) (asks (Table InstrumentNo) (refusal 6) (asks (Table InstrumentNo) (refusal 7) (asks (Table NullProc) (value 0 0) []))))))))
 
@@ -128,8 +125,8 @@ nine =
 abbrev pub refuses_raws : Ends Keeper
 refuses_raws = record keeper { handed = λ k id call. refuses_or (is_of_table call) k id }
 
--- nine requests, each answered before the next one: the first and the last, whose id is the same, are calls of the table, and the seven between
--- are none
+-- the moves of nine requests, each answered before the next one is sent: the first and the last, whose id is the same, are calls of
+-- the table, and the seven between are this raw request, which is refused
 abbrev pub nine_raw : RawCall → List (Move Keeper)
 nine_raw raw =
     asks (Table NullProc) (value 0 0) (asks (Raw raw) (refusal 1) (asks (Raw raw) (refusal 2) (asks (Raw raw) (refusal 3) (asks (Raw raw) (refusal 4)
@@ -140,16 +137,16 @@ abbrev pub remembers : Ends Keeper
 remembers = record keeper { restarted = λ k. Some (1, 27) }
 
 -- the moves of two requests, between which `remembers` starts
-abbrev pub started : List (Move Keeper)
-started = asks (Table NullProc) (value 0 0) (Anew ∷ asks (Table InstrumentNo) (value 1 27) [])
+abbrev pub start_between : List (Move Keeper)
+start_between = asks (Table NullProc) (value 0 0) (Anew ∷ asks (Table InstrumentNo) (value 1 27) [])
 
--- the moves of an instrument to which another client sends, too, so that what it retains changes by itself
-abbrev pub shared : List (Move Keeper)
-shared = asks (Table NullProc) (value 0 0) (Changes (Some (1, 27)) ∷ asks (Table InstrumentNo) (value 1 27) [])
+-- the moves of two requests, between which another client's request changes what the instrument retains
+abbrev pub changed_between : List (Move Keeper)
+changed_between = asks (Table NullProc) (value 0 0) (Changes (Some (1, 27)) ∷ asks (Table InstrumentNo) (value 1 27) [])
 
 -- Instruments that retain no reply: their state says whether they are out of order.
 
--- another id than this one: the next; but 0 stays 0
+-- the next id; but 0 stays 0, so that the first request of a run is answered
 abbrev pub other_id : ℕ → ℕ
 other_id zero = 0
 other_id (suc id) = id + 2
@@ -159,8 +156,8 @@ abbrev pub id_of : Bool → ℕ → ℕ
 id_of false id = id
 id_of true id = other_id id
 
--- what an instrument that may be out of order does with a request: it executes the request, and its reply has another id if it
--- is out of order (`broken`). `behind` is its state afterwards
+-- what an instrument that may be out of order does with a request: it executes the request, and its reply has the request's id,
+-- or another one if the instrument is out of order (`broken`). `behind` is its state afterwards
 abbrev pub answers_in : Bool → ℕ → Bool → Handed Bool
 answers_in broken id behind = record { state = behind; reply = value (id_of broken id) 0; executed = true }
 
@@ -172,7 +169,7 @@ InOrder broken = broken ≡ false
 abbrev pub mistaken : Ends Bool
 mistaken = record { handed = λ b id call. answers_in true id b; restarted = λ b. b; heard = heard; joint = true }
 
--- an instrument whose lines are read by another grammar
+-- an instrument in whose replies the client reads another id (`other_id`), not by the grammar of replies
 abbrev pub misheard : Ends Bool
 misheard = record mistaken { handed = λ b id call. answers_in false id b; heard = λ line. option_map other_id (heard line) }
 
@@ -194,11 +191,12 @@ sound = record mistaken { handed = λ b id call. answers_in b id b }
 
 -- Acts once.
 
--- the moves of a request that comes twice
-abbrev pub comes_twice : {State : Type 0} → List (Move State)
-comes_twice = asks (Table NullProc) (value 0 0) (Sends 7 (Table InstrumentNo) 9 ∷ OnLine (Up_repeat 0) ∷ OnLine Up_deliver ∷ OnLine Up_deliver ∷ [])
+-- the moves by which a null procedure is sent and answered, and then one request is sent, is repeated by the line, and reaches the
+-- instrument twice
+abbrev pub repeated_request : {State : Type 0} → List (Move State)
+repeated_request = asks (Table NullProc) (value 0 0) (Sends 7 (Table InstrumentNo) 9 ∷ OnLine (Up_repeat 0) ∷ OnLine Up_deliver ∷ OnLine Up_deliver ∷ [])
 
--- an instrument that retains its reply, and deals with each request again
+-- an instrument that retains its reply, but executes also a request that comes again
 abbrev pub deals_anew : Ends Keeper
 deals_anew = record keeper { handed = λ k id call. again_or id k None }
 
@@ -207,23 +205,24 @@ abbrev pub forgets : Ends Bool
 forgets = record mistaken { handed = λ b id call. answers_in false id b }
 
 -- `ends` is an instrument that meets every clause, and yet, if one request reaches it twice without a start between (the moves
--- `comes_twice`), it executes that request both times
+-- `repeated_request`), it executes that request both times
 pub record IsExecutedTwice {State : Type 0} (ends : Ends State) (Good : State → Type 0) (kept : State → Option KeptReply) (state : State) : Type 0 where
-  pub is : IsAnInstrument ends Good kept
+  pub instrument : IsAnInstrument ends Good kept
   pub good : Good state
   pub clean : IsClean Good kept (none_under_way state)
-  pub field : ArePossible ends Good kept (by_ids WINDOW ends) comes_twice (ids_begun (none_under_way state))
+  pub field : ArePossible ends Good kept (by_ids WINDOW ends) repeated_request (ids_begun (none_under_way state))
   pub twice :
-      ActsOnce is_of_table (behind WINDOW ends (none_under_way state) comes_twice).wire.sent (behind WINDOW ends (none_under_way state) comes_twice).wire.executed
-      (behind WINDOW ends (none_under_way state) comes_twice).wire.starts → ⊥
+      ActsOnce is_of_table (behind WINDOW ends (none_under_way state) repeated_request).wire.sent (behind WINDOW ends (none_under_way state) repeated_request).wire.executed
+      (behind WINDOW ends (none_under_way state) repeated_request).wire.starts → ⊥
 
--- each clause on instruments is needed
+-- each clause of what is asked of an instrument (`IsAnInstrumentFor`) is needed; and so are the rule when a client sends, the limits
+-- of what may change by itself, and both clauses of `KeepsItsReply`
 pub record IsAllNeeded : Type 0 where
   pub hears : IsNeeded Hears misheard AnyState nothing false (asks (Table NullProc) (value 0 0) (asks_two (value 1 0))) 10 (Table InstrumentNo) (value 1 0)
   pub replies : IsNeeded Replies mistaken AnyState nothing false (asks (Table NullProc) (value 0 0) (asks_two (value 2 0))) 10 (Table InstrumentNo) (value 2 0)
   pub repeats : IsNeeded Repeats idle AnyState nothing false (asks (Table NullProc) (value 0 0) (asks (Table InstrumentNo) (value 1 0) [])) 9 (Table InstrumentNo) (value 1 0)
-  pub keeps : IsNeeded Keeps keeps_older AnyState kept None nine 16 (Table NullProc) (value 0 0)
-  pub starts : IsNeeded Starts remembers AnyState kept None started 9 (Table InstrumentNo) (value 1 27)
+  pub keeps : IsNeeded Keeps keeps_older AnyState kept None nine_requests 16 (Table NullProc) (value 0 0)
+  pub starts : IsNeeded Starts remembers AnyState kept None start_between 9 (Table InstrumentNo) (value 1 27)
   pub stays_good : IsNeeded StaysGood wears_out InOrder nothing false (asks (Table NullProc) (value 0 0) (asks_two (value 2 0))) 10 (Table InstrumentNo) (value 2 0)
   pub starts_good : IsNeeded StartsGood starts_broken InOrder nothing false (asks (Table NullProc) (value 0 0) (Anew ∷ asks_two (value 2 0))) 10 (Table InstrumentNo) (value 2 0)
   -- when a client sends is needed, too: an instrument meets every clause, and the last request, which wasn't sent after the
@@ -233,7 +232,7 @@ pub record IsAllNeeded : Type 0 where
   -- two limits of what may change by itself are needed: what is retained may not change, as it does if another client sends;
   -- and the new state has to be a good one
   pub shared_is : IsAnInstrument keeper AnyState kept
-  pub changes_kept : IsBookedUnexecuted keeper AnyState nothing None shared 9 (Table InstrumentNo) (value 1 27)
+  pub changes_kept : IsBookedUnexecuted keeper AnyState nothing None changed_between 9 (Table InstrumentNo) (value 1 27)
   pub sound_is : IsAnInstrument sound InOrder nothing
   pub changes_good : IsBookedUnexecuted sound AnyState nothing false (asks (Table NullProc) (value 0 0) (Changes true ∷ asks_two (value 2 0))) 10 (Table InstrumentNo) (value 2 0)
   -- an instrument that retains its reply executes a request that comes twice only once (`ActsOnce`), and both clauses on that

@@ -15,8 +15,8 @@ HasNoStart starts j k = Each (λ s. (s ≤ j) ⊎ (k < s)) starts
 abbrev pub IsInOrder : List ℕ → Type 0
 IsInOrder executed = (j k m n : ℕ) → j < k → slice_get executed j ≡ Some m → slice_get executed k ≡ Some n → m ≤ n
 
--- of two executions with no start between them the later one is of a request that was sent later, if it is of one that the instrument knows
--- (`knows`)
+-- of two executions with no start between them, the later one is of a request that was sent later, if it is of a request that the
+-- instrument knows (`knows`)
 abbrev pub ActsOnce : (Asked → Bool) → List Sent → List ℕ → List ℕ → Type 0
 ActsOnce knows sent executed starts =
     (j k m n : ℕ) (r : Sent) → j < k → HasNoStart starts j k → slice_get executed j ≡ Some m → slice_get executed k ≡ Some n →

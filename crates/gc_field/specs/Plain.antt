@@ -1,5 +1,5 @@
--- Commands of a text that says nothing of them but what they ask, how long they wait, and whether they are chained: this project's
--- own. Runs that are computed take them.
+-- Plain commands, this project's own: commands of which the station's text says what they ask, their deadline, and whether they are
+-- chained, and nothing else. Runs that are computed have them.
 use Rattle.std.specs.Prelude.{ℕ, Bool, None, false}
 use Rattle.gc_texts.specs.Again.{no_again}
 use Rattle.gc_texts.specs.Codes.{no_codes}
@@ -8,15 +8,15 @@ use Rattle.gc_texts.specs.declared.tasks.Task.{Task}
 use Rattle.gc_texts.specs.declared.turn.Turn.{Turn}
 use Rattle.gc_texts.specs.declared.wish.Wish.{Wish}
 
--- the turn of such a command
+-- the turn of every plain command: place 0 of its section and of its chain, first attempt
 abbrev pub plain_turn : Turn
 plain_turn = record { place = 0; attempt = 1; link = 0 }
 
--- such a command, with its deadline and whether it is chained
+-- a plain command that asks this wish, with this deadline in milliseconds, chained to the command before it or not
 abbrev pub plain_task : Wish → ℕ → Bool → Task
 plain_task wish deadline chained =
     record { command = wish; deadline = deadline; chained = chained; near = None; accepted = no_codes; again = no_again; turn = plain_turn; others = 0; now = false }
 
--- what the text says of such a command beside that
+-- what the text says of the answer that it expects to a plain command: nothing
 abbrev pub plain_expected : Expected
 plain_expected = record { near = None; accepted = no_codes; again = no_again; turn = plain_turn }

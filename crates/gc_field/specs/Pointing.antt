@@ -30,9 +30,9 @@ use Rattle.gc_field.specs.Runs.{IsInField}
 use Rattle.gc_field.specs.Shown.{Stretch, stretches}
 
 -- the simulator's state after a request: a procedure that isn't in the table changes nothing
-abbrev pub behind_call : State → Asked → State
-behind_call s (Table call) = (exec s call).state
-behind_call s (Raw raw) = s
+abbrev pub after_call : State → Asked → State
+after_call s (Table call) = (exec s call).state
+after_call s (Raw raw) = s
 
 -- the simulator's state without the reply that it retains
 abbrev pub bare : State → State
@@ -54,12 +54,12 @@ pub record PointsAs (s t : State) : Type 0 where
   pub pointing : s.pointing ≡ t.pointing
   pub face : s.face ≡ t.face
 
--- when the command of record b was executed, after the command at place a, the telescope pointed where executing the latter had
--- left it; and if the latter was a positioning, in the direction that it commanded, in the face in which the telescope was
--- before
-pub record IsMeasuredWhereItPointed (reads : Asked → List ℕ → Reading) (commands : List Task) (ps : List Part) (ss : List (Stretch State)) (records : List Record) (a : ℕ) (b : Record) (line : List ℕ)
-    (h : IsChainedTo ends IsFittingState kept_of reads commands ps ss records a b line) : Type 0 where
-  pub as_left : PointsAs (behind ends h.stretch h.executed.second.front).state (behind_call (behind ends h.stretch h.executed.first.front).state h.record_a.command.call)
+-- when the command of record b was executed, after the command at place a (by `h`), the telescope pointed where executing the
+-- latter had left it; and if the latter was a positioning, in the direction that it commanded, in the face in which the telescope
+-- was before
+pub record IsMeasuredWhereItPointed (reads : Asked → List ℕ → Reading) (commands : List Task) (ps : List Part) (ss : List (Stretch State))
+    (records : List Record) (a : ℕ) (b : Record) (line : List ℕ) (h : IsChainedTo ends IsFittingState kept_of reads commands ps ss records a b line) : Type 0 where
+  pub as_left : PointsAs (behind ends h.stretch h.executed.second.front).state (after_call (behind ends h.stretch h.executed.first.front).state h.record_a.command.call)
   pub as_commanded :
       (hz v : Decimal) (pos_mode atr_mode dummy : _) → h.record_a.command.call ≡ Table (Position hz v pos_mode atr_mode dummy)
       → ((behind ends h.stretch h.executed.second.front).state.pointing ≡ record { hz = hz; v = v })
@@ -71,12 +71,13 @@ pub record IsMeasuredWhereItPointed (reads : Asked → List ℕ → Reading) (co
 abbrev pub IsPointedInChain : Plan → List Task → Scope → List Act → UnderWay State → List (Run State) → Record → Type 0
 IsPointedInChain plan commands scope acts u rs b =
     (line : List ℕ) (a : ℕ) → answer_of b.end ≡ Some line → 0 < b.cycle → plan.setup ≤ a → a < b.place → AreChained commands a b.place
-    → (h : IsChainedTo ends IsFittingState kept_of scope.reads commands (parts_of plan commands (opening plan scope) acts) (stretches ends u rs) (state_after plan commands scope acts).records a b line)
+    → (h : IsChainedTo ends IsFittingState kept_of scope.reads commands (parts_of plan commands (opening plan scope) acts) (stretches ends u rs)
+    (state_after plan commands scope acts).records a b line)
     × (AreStill commands a b.place → IsUndisturbed h.executed.between
     → IsMeasuredWhereItPointed scope.reads commands (parts_of plan commands (opening plan scope) acts) (stretches ends u rs) (state_after plan commands scope acts).records a b line h)
 
--- each record is `IsPointedInChain`: for every plan, all commands, every run of the station over the simulator, and all that the line and
--- the simulator may do meanwhile
+-- each record is `IsPointedInChain`: for every plan, all commands, every run of the station over the simulator, and all that the
+-- line and the simulator may do meanwhile
 abbrev pub ChainsAreMeasuredWhereTheyPointed : Type 0
 ChainsAreMeasuredWhereTheyPointed =
     (plan : Plan) (commands : List Task) (scope : Scope) (acts : List Act) (u : UnderWay State) (rs : List (Run State)) → IsInField ends IsFittingState kept_of plan commands scope acts u rs →
@@ -85,4 +86,4 @@ ChainsAreMeasuredWhereTheyPointed =
 -- executing a call of the table makes of the simulator's state what the execution table says, apart from the reply that is
 -- retained; another request changes nothing
 abbrev pub SimulatorHasItsEffect : Type 0
-SimulatorHasItsEffect = HasEffect ends bare behind_call
+SimulatorHasItsEffect = HasEffect ends bare after_call

@@ -22,7 +22,7 @@ use Rattle.gc_station.specs.Begun.{AreBegun, heard_in}
 use Rattle.gc_station.specs.Deciding.{has_begun}
 use Rattle.gc_station.specs.EachOnce.{EachOnce}
 use Rattle.gc_station.specs.Marks.{records_of}
-use Rattle.gc_station.specs.Parts.{Part, AreOf, acting, mark_of, parts_of, sent_at, sent_of, timeless}
+use Rattle.gc_station.specs.Parts.{Part, MarksAsk, acting, mark_of, parts_of, sent_at, sent_of, timeless}
 use Rattle.gc_station.specs.Records.{Record}
 use Rattle.gc_station.specs.Requests.{asked_at}
 use Rattle.gc_station.specs.Runs.{state_after}
@@ -32,7 +32,7 @@ use Rattle.gc_field.specs.Simulator.{ends}
 use Rattle.gc_world.specs.Record.{IsReplyTo}
 use Rattle.gc_field.specs.World.{Ends, Numbered, Sent, World}
 use Rattle.gc_field.specs.Asking.{MeansTurns}
-use Rattle.gc_field.specs.Begin.{AreLines, UnderWay, ids_under_way}
+use Rattle.gc_field.specs.Begin.{IsWellFormed, UnderWay, ids_under_way}
 use Rattle.gc_field.specs.Beginnings.{AreOwn, AreRuns, Run}
 use Rattle.gc_field.specs.Begun.{IsFaithful, WasMadeOn, behind}
 use Rattle.gc_field.specs.Field.{Move, Sends, Tells, Comes}
@@ -64,7 +64,7 @@ module _ {State : Type 0} (ends : Ends State) where
   -- the requests of each stretch are those of its part, one for one
   abbrev pub AreSentAs : List Task → List Part → List (Stretch State) → Type 0
   AreSentAs commands [] [] = Unit {0}
-  AreSentAs commands (p ∷ ps) (s ∷ ss) = AreOf commands p.marks (map asked (own_sent s)) × AreSentAs commands ps ss
+  AreSentAs commands (p ∷ ps) (s ∷ ss) = MarksAsk commands p.marks (map asked (own_sent s)) × AreSentAs commands ps ss
   AreSentAs commands _ _ = ⊥
 
   -- in time: if a request is sent, and later a reply to it comes while it isn't settled, that reply settles it. The request is
@@ -109,7 +109,7 @@ module _ {State : Type 0} (ends : Ends State) (Good : State → Type 0) (kept : 
   -- steps of its acts
   pub record IsInField (plan : Plan) (commands : List Task) (scope : Scope) (acts : List Act) (u : UnderWay State) (rs : List (Run State)) : Type 0 where
     pub runs : Runs plan commands (opening plan scope) acts
-    pub lines : AreLines Good u
+    pub lines : IsWellFormed Good u
     pub none : IsSubsequence the_word (ids_under_way u) → ⊥
     pub shown : AreShownAs ends u rs (parts_of plan commands (opening plan scope) acts)
     pub possible : AreRuns WINDOW ends Good kept u rs
@@ -181,27 +181,29 @@ module _ {State : Type 0} (ends : Ends State) (Good : State → Type 0) (kept : 
     -- one for one: the records and what is outstanding are the commands sent, and those recorded without being sent, in order,
     -- each once
     pub one_for_one : EachOnce plan commands scope acts
-    -- the requests of the stretches are these commands, and null procedures; and the records, but for those of commands that weren't sent, are
-    -- how they ended there, answered, late or lost
+    -- the requests of the stretches are these commands, and null procedures; and the records, but for those of commands that
+    -- weren't sent, are how they ended there, answered, late or lost
     pub sent : AreSentAs ends commands (parts_of plan commands (opening plan scope) acts) (stretches ends u rs)
     pub written : map timeless (sent_of (state_after plan commands scope acts).records) ≡ written_over ends scope.reads (parts_of plan commands (opening plan scope) acts) (stretches ends u rs)
     -- the turns and steps of a run are what its acts are to a synchronization and to a client: the bytes that are sent are the
     -- lines of these requests
     pub meant : AreMeant plan commands (opening plan scope) acts
-    -- in time: the first reply to a request that isn't settled settles it, as answered, or as late if its deadline was read before
+    -- in time: the first reply to a request that isn't settled settles it, as answered, or as late if its deadline was read
+    -- before
     pub in_time : AllByRecursion (IsInTime ends) (stretches ends u rs)
-    -- each stretch is faithful, and so acts once: between two starts of the instrument each request is executed at most once, in order
+    -- each stretch is faithful, and so acts once: between two starts of the instrument each request is executed at most once, in
+    -- order
     pub each : AllByRecursion IsFaithfulThroughout (stretches ends u rs)
 
--- every run in the field is faithful: for any instrument, every plan, all commands, every run of the station, and all that the line and the
--- instrument may do meanwhile
+-- every run in the field is faithful: for any instrument, every plan, all commands, every run of the station, and all that the
+-- line and the instrument may do meanwhile
 abbrev pub RunsAreFaithful : Type 0 → Type 0
 RunsAreFaithful State =
     (ends : Ends State) (kept : State → Option KeptReply) → IsAnInstrument ends AnyState kept →
     (plan : Plan) (commands : List Task) (scope : Scope) (acts : List Act) (u : UnderWay State) (rs : List (Run State)) → IsInField ends AnyState kept plan commands scope acts u rs →
     IsRunFaithful ends AnyState kept plan commands scope acts u rs
 
--- `RunsAreFaithful` for the simulator, in any state that fits
+-- `RunsAreFaithful` for the simulator, in any state whose values lie in their types (`IsFittingState`)
 abbrev pub SimulatorsRunsAreFaithful : Type 0
 SimulatorsRunsAreFaithful =
     (plan : Plan) (commands : List Task) (scope : Scope) (acts : List Act) (u : UnderWay State) (rs : List (Run State)) → IsInField ends IsFittingState kept_of plan commands scope acts u rs →

@@ -37,4 +37,6 @@ moves =
 pub record IsExecutedAgain : Type 0 where
   pub possible : ArePossible ends IsFittingState kept_of (by_ids WINDOW ends) moves (ids_begun (none_under_way simulator_opening))
   pub executed : (behind WINDOW ends (none_under_way simulator_opening) moves).wire.executed ≡ 8 ∷ 9 ∷ 10 ∷ 10 ∷ []
-  pub settled : slice_get (behind WINDOW ends (none_under_way simulator_opening) moves).wire.settled 10 ≡ Some (record { target = 7; call = Table GetPrism; outcome = Answered (codes "%R1P,0,2:0,0") })
+  pub settled :
+      slice_get (behind WINDOW ends (none_under_way simulator_opening) moves).wire.settled 10
+      ≡ Some (record { target = 7; call = Table GetPrism; outcome = Answered (codes "%R1P,0,2:0,0") })

@@ -5,12 +5,12 @@ use Rattle.gc_client.specs.declared.window.TheConstants.{WINDOW}
 use Rattle.gc_station.specs.Parts as part
 use Rattle.gc_station.specs.Parts.{Part}
 use Rattle.gc_field.specs.World.{Ends}
-use Rattle.gc_field.specs.Begin.{Aged, Model, Turn, Asks, Comes, Foreign, Reaches, Up_lose, Up_repeat, Down_lose, Down_repeat, Anew, Changes, UnderWay, begins, leaves, turned, turns}
+use Rattle.gc_field.specs.Begin.{InFlight, Model, Turn, Asks, Comes, Foreign, Reaches, Up_lose, Up_repeat, Down_lose, Down_repeat, Anew, Changes, UnderWay, begins, leaves, turned, turns}
 use Rattle.gc_field.specs.Beginnings.{Run, left_by_run}
 use Rattle.gc_field.specs.Field.{Move, seen}
 
 -- the turn at which the front one of these replies is heard; none if there is none
-abbrev pub first_heard : List (Aged (List ℕ)) → List part.Turn
+abbrev pub first_heard : List (InFlight (List ℕ)) → List part.Turn
 first_heard [] = []
 first_heard (x ∷ rest) = part.Hears x.line ∷ []
 

@@ -9,8 +9,8 @@ use Rattle.gc_instrument.specs.Replying.{Handed, refusal_line}
 use Rattle.gc_instrument.specs.State.{State, restarted}
 use Rattle.gc_field.specs.World.{Ends}
 
--- what handing over a request line gives: of a call of the table what the instrument does with it. Another procedure it doesn't know: it refuses
--- the request (communication code 3081), and nothing changes
+-- what the simulator does with a request: its state afterwards, its reply, and whether it executed the request. A request that is
+-- no call of the table is refused (communication code 3081), which counts as executed, and changes nothing
 abbrev pub handed : State → ℕ → Asked → Handed State
 handed s id (Table call) = calls.handed s id call
 handed s id (Raw raw) = record { state = s; reply = refusal_line id Unknown; executed = true }

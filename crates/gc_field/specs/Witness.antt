@@ -49,8 +49,8 @@ abbrev pub at : ℕ → Moment
 at now = record { elapsed = now; utc = now; stops = false }
 
 -- the lines of a synchronization's null procedures, in order
-abbrev pub asked : List (List ℕ)
-asked = codes "%R1Q,0,6:" ∷ codes "%R1Q,0,5:" ∷ codes "%R1Q,0,4:" ∷ codes "%R1Q,0,3:" ∷ codes "%R1Q,0,2:" ∷ codes "%R1Q,0,1:" ∷ codes "%R1Q,0,0:" ∷ codes "%R1Q,0,7:" ∷ []
+abbrev pub null_lines : List (List ℕ)
+null_lines = codes "%R1Q,0,6:" ∷ codes "%R1Q,0,5:" ∷ codes "%R1Q,0,4:" ∷ codes "%R1Q,0,3:" ∷ codes "%R1Q,0,2:" ∷ codes "%R1Q,0,1:" ∷ codes "%R1Q,0,0:" ∷ codes "%R1Q,0,7:" ∷ []
 
 -- the simulator's replies to a synchronization's null procedures, in order
 abbrev pub replies : List (List ℕ)
@@ -62,20 +62,20 @@ abbrev pub exchanged : ℕ → List (List ℕ) → List (List ℕ) → List Act 
 exchanged now (line ∷ others) (reply ∷ later) acts = Put (with_end line) ∷ Told (at now) ∷ Gave (with_end reply) (at now) ∷ exchanged now others later acts
 exchanged now _ _ acts = acts
 
--- the acts of a synchronization, and these acts after it: a connection is made and cleared, and all eight null procedures are
--- answered at once
+-- the acts of a synchronization, and then `acts`: a connection is made and cleared, and the eight null procedures are answered at
+-- once, with the replies `answers`
 abbrev pub begun_with : List (List ℕ) → List Act → List Act
-begun_with answers acts = Opened ∷ Put (10 ∷ []) ∷ Told (at 0) ∷ exchanged 10 asked answers acts
+begun_with answers acts = Opened ∷ Put (10 ∷ []) ∷ Told (at 0) ∷ exchanged 10 null_lines answers acts
 
 -- what the line does in a synchronization: each null procedure reaches the instrument, and its reply comes
-abbrev pub eight : {S : Type 0} → List (Turn S)
-eight =
+abbrev pub eight_answered : {S : Type 0} → List (Turn S)
+eight_answered =
     Asks ∷ Reaches ∷ turn.Comes ∷ Asks ∷ Reaches ∷ turn.Comes ∷ Asks ∷ Reaches ∷ turn.Comes ∷ Asks ∷ Reaches ∷ turn.Comes
     ∷ Asks ∷ Reaches ∷ turn.Comes ∷ Asks ∷ Reaches ∷ turn.Comes ∷ Asks ∷ Reaches ∷ turn.Comes ∷ Asks ∷ Reaches ∷ turn.Comes ∷ []
 
 -- in flight at the start: a reply with id 0, and a request with that id, which the first command will have too
-abbrev pub before : UnderWay State
-before = record { up = record { id = 0; call = Table InstrumentNo } ∷ []; down = codes "%R1P,0,0:0,654321" ∷ []; state = simulator_opening }
+abbrev pub at_start : UnderWay State
+at_start = record { up = record { id = 0; call = Table InstrumentNo } ∷ []; down = codes "%R1P,0,0:0,654321" ∷ []; state = simulator_opening }
 
 -- the reply to the command; the one to the request from before has the same bytes
 abbrev pub answer : List ℕ
@@ -93,7 +93,7 @@ acts =
     ∷ Gave (with_end (codes "%R1P,0,0:0,654321")) (at 5)
     ∷ Gave (with_end answer) (at 5)
     ∷ Gave (with_end (codes "%R1P,0,6:0")) (at 10)
-    ∷ exchanged 10 (drop 1 asked) (drop 1 replies) (
+    ∷ exchanged 10 (drop 1 null_lines) (drop 1 replies) (
     Told (at 15)
     ∷ Put (with_end (codes "%R1Q,5003,0:"))
     ∷ Told (at 15)
@@ -105,7 +105,7 @@ acts =
 -- what the line does while the station synchronizes: each request reaches the simulator, the old one first, and each reply
 -- comes
 abbrev pub turns : List (Turn State)
-turns = Asks ∷ turn.Comes ∷ Reaches ∷ turn.Comes ∷ Reaches ∷ turn.Comes ∷ drop 3 eight
+turns = Asks ∷ turn.Comes ∷ Reaches ∷ turn.Comes ∷ Reaches ∷ turn.Comes ∷ drop 3 eight_answered
 
 -- what the line does once the station has synchronized: the command reaches the simulator, and its reply comes
 abbrev pub moves : List (Move State)
@@ -117,8 +117,8 @@ runs = record { turns = turns; moves = moves } ∷ record { turns = []; moves = 
 
 -- this is a run in the field, after which no act follows; it recorded the command's answer, which was made on executing the
 -- command's request
-pub record IsAnsweredInField : Type 0 where
-  pub field : IsInField ends IsFittingState kept_of plan commands scope acts before runs
+pub record SomeRunIsInField : Type 0 where
+  pub field : IsInField ends IsFittingState kept_of plan commands scope acts at_start runs
   pub over : is_over (state_after plan commands scope acts).progress ≡ true
   pub records :
       (state_after plan commands scope acts).records
@@ -131,8 +131,4 @@ pub record IsAnsweredInField : Type 0 where
         command = record { target = 7; call = Table InstrumentNo };
         end = end.Answered Fine (Some (Long (pos 123456))) answer;
       } ∷ []
-  pub made_on : WasMadeOn WINDOW ends (leaves (turned ends turns (begins before))) moves 8 (Table InstrumentNo) answer
-
--- some run is one in the field
-abbrev pub SomeRunIsInField : Type 0
-SomeRunIsInField = IsAnsweredInField
+  pub made_on : WasMadeOn WINDOW ends (leaves (turned ends turns (begins at_start))) moves 8 (Table InstrumentNo) answer

@@ -1,5 +1,5 @@
--- The world, this project's own: a client and an instrument, the line between them, what may happen on it, and a run. A client of this world
--- asks for calls of the table and for procedures that aren't in it.
+-- The world, this project's own: a client and an instrument, the line between them, what may happen on it, and a run. A client of
+-- this world asks for calls of the table and for procedures that aren't in it.
 use Rattle.std.specs.Prelude.{ℕ, List, Option, Some}
 use Rattle.gc_catalogue.specs.Asked.{asked_line}
 use Rattle.gc_catalogue.specs.declared.asked.Asked.{Asked}
@@ -46,7 +46,8 @@ abbrev pub Step : Type 0
 Step = Worlds.Step Asked
 
 module _ {Client State : Type 0} where
-  -- the world after a call of the client's send: the request is sent, and goes to the back of the upward queue, or a refusal is counted
+  -- the world after a call of the client's send: the request is sent, and goes to the back of the upward queue; or, if the client
+  -- refused it (None), a refusal is counted
   abbrev pub requested : World Client State → ℕ → Asked → Option (Sending Client) → World Client State
   requested w target call sending = Worlds.requested written w target call sending
 

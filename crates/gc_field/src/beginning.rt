@@ -16,8 +16,8 @@ pub fn begins_cleanly<State>()
 
 /// After a clean synchronization each answer that a new client settles was made on executing that very request, from its first
 /// request on, however many are sent at once, if all are calls of the table, or the instrument retains after each request its
-/// own reply or none, or that very request follows the table closely (`IsSafe`); and the rest of what `answers_are_their_own`
-/// says holds as well.
+/// own reply or none, or one of the seven requests before it is a call of the table that a reply ended (`IsSafe`); and the rest
+/// of what `answers_are_their_own` says holds as well.
 pub fn answers_are_their_own_once_begun<State>()
     ensures { AnswersAreTheirOwnOnceBegun State }
 {}
@@ -41,7 +41,7 @@ pub fn runs_leave_rows<State>()
 
 /// One run after the other, each killed at any time. At the start nothing is in flight, or what a run that had synchronized may
 /// leave (`IsRow`). As long as fewer than six in a row end while they synchronize, each run that has synchronized has done so
-/// cleanly, and each answer of a command was made on executing that command's request.
+/// cleanly, and all that `answers_are_their_own_once_begun` says holds of it.
 pub fn runs_are_their_own<State>()
     ensures { RunsAreTheirOwn State }
 {}

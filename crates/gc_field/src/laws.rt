@@ -31,8 +31,9 @@ pub fn answers_are_their_own<State>()
     ensures { AnswersAreTheirOwn State }
 {}
 
-/// For any instrument, and the acts of a station that has synchronized cleanly: each answer was made on executing its very
-/// request, from the first request on, if that follows the table closely, or all requests are calls of the table (`IsSafe`).
+/// For any instrument, and the acts of a station that has synchronized cleanly: each answer, from the first request on, was made
+/// on executing its very request, if all requests are calls of the table, or the instrument retains after each request its own
+/// reply or none, or one of the seven requests before it is a call of the table that a reply ended (`IsSafe`).
 pub fn stations_answers_are_their_own<State>()
     ensures { StationsAnswersAreTheirOwn State }
 {}
@@ -64,8 +65,8 @@ pub fn simulators_stations_in_a_row_are_faithful()
 
 /// In every run that `runs_are_faithful` speaks of, for any instrument: a command of a chain that is answered was executed
 /// after each earlier command of the chain, in the same stretch, and the answers of both are the replies to these executions.
-/// What was executed between the two was sent between them, of requests to which the instrument retains its reply, if it didn't
-/// restart between. And if it neither restarted nor changed by itself between, its state at the later execution is what the
+/// If the instrument didn't restart between the two executions, each request that it executed between them, and to which it
+/// retains its reply, was sent between them. If it didn't change by itself either, its state at the later execution is what the
 /// executions from the earlier one on made of it.
 pub fn chains_are_executed<State>()
     ensures { ChainsAreExecuted State }

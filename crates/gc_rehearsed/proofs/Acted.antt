@@ -19,6 +19,7 @@ use Rattle.gc_links.specs.declared.link.Moment.{Moment}
 use Rattle.gc_links.specs.Acts.{Act, Told, Untold, Put, Cut, Gave, Silent, Ended, Broke, Closed, Opened, Unopened}
 use Rattle.gc_scenes.specs.SceneState.{SceneState}
 use Rattle.gc_station.proofs.Booking.{client_after, course_at, sending_of, sends_with_room}
+use Rattle.gc_station.proofs.Lists.{cons_head, cons_tail}
 use Rattle.gc_station.specs.Beginnings.{unanswered_after}
 use Rattle.gc_station.specs.Begun.{heard_in}
 use Rattle.gc_station.specs.Model.{lines_completed, null_text}
@@ -28,11 +29,11 @@ use Rattle.gc_world.specs.Clients.{by_ids}
 use Rattle.gc_world.specs.Order.{Each}
 use Rattle.gc_field.specs.Asking.{IsAskedFor, IsTaken, MeansTurns}
 use Rattle.gc_field.specs.Begin as begin
-use Rattle.gc_field.specs.Begin.{Aged, Model, UnderWay, leaves, turns}
+use Rattle.gc_field.specs.Begin.{InFlight, Model, UnderWay, leaves, turns}
 use Rattle.gc_field.specs.Beginnings.{on_line}
 use Rattle.gc_field.specs.Field as field
 use Rattle.gc_field.specs.Meaning.{IsHeard, IsDiscarded}
-use Rattle.gc_field.specs.SceneField.{KeepsAReply, scene_ends, scene_kept}
+use Rattle.gc_field.specs.SceneField.{RetainedReads, scene_ends, scene_kept}
 use Rattle.gc_field.specs.Shown.{first_heard, shows}
 use Rattle.gc_field.specs.World.{Numbered, Request, World, down_delivered, requested, with_settled, without}
 use Rattle.gc_rehearsal.specs.Carrying.{Lines, Does, IsGiven, IsPut}
@@ -61,17 +62,9 @@ feed_no_line line e =
 pub same_line : (line other : List ℕ) → with_end line ≡ with_end other → line ≡ other
 same_line line other e = append_cancel_right line other (13 ∷ 10 ∷ []) e
 
--- equal lists of lines have the same first line
-heads : (x y : List ℕ) (xs ys : List (List ℕ)) → x ∷ xs ≡ y ∷ ys → x ≡ y
-heads x y xs ys e = cc
-
--- equal lists of lines have the same lines after the first
-tails : (x y : List ℕ) (xs ys : List (List ℕ)) → x ∷ xs ≡ y ∷ ys → xs ≡ ys
-tails x y xs ys e = cc
-
--- an empty list of lines isn't one with a line
-no_none : (x : List ℕ) (xs : List (List ℕ)) → [] ≡ x ∷ xs → ⊥
-no_none x xs e = cc
+-- an empty list isn't one with an element
+pub nil_not_cons : {A : Type 0} (x : A) (xs : List A) → [] ≡ x ∷ xs → ⊥
+nil_not_cons x xs e = cc
 
 -- what is in flight in the field is what is in flight on the line (`Holds`), also once the front reply is lost in both
 dropped : (u : UnderWay SceneState) (l : Lines) (line : List ℕ) (rest : List (List ℕ)) → Holds u l → l.down ≡ line ∷ rest → Holds (stepped u (Lose_down zero)) (record l { down = rest })
@@ -110,22 +103,27 @@ abbrev once_asked : Model SceneState → ℕ → Model SceneState
 once_asked b id = record b { up = b.up ++ record { old = false; line = asked_next id } ∷ [] }
 
 -- an act that sends the null procedure of the first id comes to the turn `Asks`, and one more if the request is lost
-turns_asks : (b : Model SceneState) (asked : ℕ) (rest : List ℕ) (line : List ℕ) (l n : Lines) → b.left ≡ asked ∷ rest → IsSmall (asked ∷ rest) → line ≡ request_line (Some asked) NullProc
-    → Holds (leaves b) l → (n ≡ l) ⊎ (n ≡ record l { up = l.up ++ line ∷ [] }) → TurnsTo b (part.Asks ∷ []) (asked ∷ rest) n
+turns_asks : (b : Model SceneState) (asked : ℕ) (rest : List ℕ) (line : List ℕ) (l n : Lines) → b.left ≡ asked ∷ rest → IsSmall (asked ∷ rest)
+    → line ≡ request_line (Some asked) NullProc → Holds (leaves b) l → (n ≡ l) ⊎ (n ≡ record l { up = l.up ++ line ∷ [] }) → TurnsTo b (part.Asks ∷ []) (asked ∷ rest) n
 turns_asks b asked rest line l n left ids is holds came show steps others m done on =
     turn_first b begin.Asks show steps others m done tt (subst (λ (x : Model SceneState). FromBegin x show steps others m done) (sym out) (by_came came)) where
+      -- what the turn `Asks` leads to
       out : turns scene_ends b begin.Asks ≡ once_asked b asked
       out = ap (λ word. begin.asks b word) left
 
-      up_is : map (λ (x : Aged Request). x.line) (once_asked b asked).up ≡ (leaves b).up ++ asked_next asked ∷ []
-      up_is = map-append (λ (x : Aged Request). x.line) b.up (record { old = false; line = asked_next asked } ∷ [])
+      -- the requests in flight then are those before, and the null procedure
+      up_is : map (λ (x : InFlight Request). x.line) (once_asked b asked).up ≡ (leaves b).up ++ asked_next asked ∷ []
+      up_is = map-append (λ (x : InFlight Request). x.line) b.up (record { old = false; line = asked_next asked } ∷ [])
 
+      -- the line is that of the null procedure
       of_line : IsLineOf (asked_next asked) line
       of_line = record { text = is; id = ids.0; fits = tt }
 
+      -- once its last request is lost, the requests in flight are those before
       lost : without (length (leaves b).up) (leaves (once_asked b asked)).up ≡ (leaves b).up
       lost = ap (without (length (leaves b).up)) up_is ∙ without_last (leaves b).up (asked_next asked)
 
+      -- the lemma above from there on, by whether the request is lost or is in flight
       by_came : (n ≡ l) ⊎ (n ≡ record l { up = l.up ++ line ∷ [] }) → FromBegin (once_asked b asked) show steps others m done
       by_came (inl same) =
           steps_turn (Lose_up (length (leaves b).up) ∷ []) (once_asked b asked) show steps others m done (tt, tt)
@@ -153,36 +151,43 @@ turns_put b (asked ∷ rest) bytes ts l n left ids holds (inr asks) (inr sent) s
     (turns_asks b asked rest sent.0 l n left ids (same_line sent.0 (request_line (Some asked) NullProc) (sym sent.1 ∙ asks.0)) holds (inr sent.2))
 
 -- the state of a synchronization once the front one of these replies came
-abbrev once_came : Model SceneState → Aged (List ℕ) → List (Aged (List ℕ)) → Model SceneState
+abbrev once_came : Model SceneState → InFlight (List ℕ) → List (InFlight (List ℕ)) → Model SceneState
 once_came b x q = record b { down = q; left = left_by b.left (heard x.line) }
 
 -- an act that brings a reply while the station synchronizes comes to the turn that hears it
-turns_comes : (b : Model SceneState) (word : List ℕ) (q : List (Aged (List ℕ))) (line : List ℕ) (rest : List (List ℕ)) (l n : Lines) → b.down ≡ q → b.left ≡ word → Holds (leaves b) l
+turns_comes : (b : Model SceneState) (word : List ℕ) (q : List (InFlight (List ℕ))) (line : List ℕ) (rest : List (List ℕ)) (l n : Lines) → b.down ≡ q → b.left ≡ word → Holds (leaves b) l
     → l.down ≡ line ∷ rest → n ≡ record l { down = rest } → TurnsTo b (part.Hears line ∷ []) (left_by word (heard line)) n
 turns_comes b word [] line rest l n is left holds front new show steps others m done on =
-    let none : [] ≡ line ∷ rest = sym (ap (λ (d : List (Aged (List ℕ))). map (λ x. x.line) d) is) ∙ holds.down ∙ front in
-    absurd (no_none line rest none)
+    let none : [] ≡ line ∷ rest = sym (ap (λ (d : List (InFlight (List ℕ))). map (λ x. x.line) d) is) ∙ holds.down ∙ front in
+    absurd (nil_not_cons line rest none)
 turns_comes b word (x ∷ q) line rest l n is left holds front new show steps others m done on =
     subst (λ (t : List part.Turn). FromBegin b (t ++ show) steps others m done) (shows_is ∙ ap (λ z. part.Hears z ∷ []) line_is)
     (turn_first b begin.Comes show steps others m done tt (subst (λ (c : Model SceneState). FromBegin c show steps others m done) (sym came) (on (once_came b x q) holds_next left_next))) where
-      lines_are : x.line ∷ map (λ (y : Aged (List ℕ)). y.line) q ≡ line ∷ rest
-      lines_are = sym (ap (λ (d : List (Aged (List ℕ))). map (λ y. y.line) d) is) ∙ holds.down ∙ front
+      -- the replies in flight in the field are those on the line
+      lines_are : x.line ∷ map (λ (y : InFlight (List ℕ)). y.line) q ≡ line ∷ rest
+      lines_are = sym (ap (λ (d : List (InFlight (List ℕ))). map (λ y. y.line) d) is) ∙ holds.down ∙ front
 
+      -- the front ones are the same line
       line_is : x.line ≡ line
-      line_is = heads x.line line (map (λ (y : Aged (List ℕ)). y.line) q) rest lines_are
+      line_is = cons_head x.line line (map (λ (y : InFlight (List ℕ)). y.line) q) rest lines_are
 
-      rest_is : map (λ (y : Aged (List ℕ)). y.line) q ≡ rest
-      rest_is = tails x.line line (map (λ (y : Aged (List ℕ)). y.line) q) rest lines_are
+      -- those after the front one are the same lines
+      rest_is : map (λ (y : InFlight (List ℕ)). y.line) q ≡ rest
+      rest_is = cons_tail x.line line (map (λ (y : InFlight (List ℕ)). y.line) q) rest lines_are
 
+      -- what the turn `Comes` leads to
       came : turns scene_ends b begin.Comes ≡ once_came b x q
       came = ap (λ d. begin.comes b d) is
 
+      -- the turn `Comes` shows the front reply
       shows_is : shows b begin.Comes ≡ part.Hears x.line ∷ []
       shows_is = ap (λ d. first_heard d) is
 
+      -- the ids that are left then are those that the line leaves
       left_next : (once_came b x q).left ≡ left_by word (heard line)
       left_next = ap (λ w. left_by w (heard x.line)) left ∙ ap (λ z. left_by word (heard z)) line_is
 
+      -- what is in flight then is what is in flight on the line
       holds_next : Holds (leaves (once_came b x q)) n
       holds_next = subst (Holds (leaves (once_came b x q))) (sym new) (record {
         up = holds.up;
@@ -269,32 +274,39 @@ abbrev once_heard : World7 → Numbered (List ℕ) → List (Numbered (List ℕ)
 once_heard w x q = with_settled (record w.wire { down = q }) ((by_ids WINDOW scene_ends).reply w.client x)
 
 -- an act that brings a reply comes to the step that hears it
-moves_comes : (w : World7) (c : ById Asked) (q : List (Numbered (List ℕ))) (line : List ℕ) (rest : List (List ℕ)) (l n : Lines) → w.wire.down ≡ q → w.client ≡ c → Holds (on_line w.wire) l
-    → l.down ≡ line ∷ rest → n ≡ record l { down = rest } → MovesTo w (client.Hear line ∷ []) (client_after c (client.Hear line ∷ [])) n
+moves_comes : (w : World7) (c : ById Asked) (q : List (Numbered (List ℕ))) (line : List ℕ) (rest : List (List ℕ)) (l n : Lines) → w.wire.down ≡ q → w.client ≡ c
+    → Holds (on_line w.wire) l → l.down ≡ line ∷ rest → n ≡ record l { down = rest } → MovesTo w (client.Hear line ∷ []) (client_after c (client.Hear line ∷ [])) n
 moves_comes w c [] line rest l n is same holds front new steps others m done on =
     let none : [] ≡ line ∷ rest = sym (ap (λ (d : List (Numbered (List ℕ))). map (λ x. x.line) d) is) ∙ holds.down ∙ front in
-    absurd (no_none line rest none)
+    absurd (nil_not_cons line rest none)
 moves_comes w c (x ∷ q) line rest l n is same holds front new steps others m done on =
     move_first w (field.Comes line) steps others m done (x.number, q, is ∙ front_is)
     (subst (λ (v : World7). FromClient v steps others m done) (sym came) (on (once_heard w x q) holds_next client_next)) where
+      -- the replies in flight in the field are those on the line
       lines_are : x.line ∷ map (λ (y : Numbered (List ℕ)). y.line) q ≡ line ∷ rest
       lines_are = sym (ap (λ (d : List (Numbered (List ℕ))). map (λ y. y.line) d) is) ∙ holds.down ∙ front
 
+      -- the front ones are the same line
       line_is : x.line ≡ line
-      line_is = heads x.line line (map (λ (y : Numbered (List ℕ)). y.line) q) rest lines_are
+      line_is = cons_head x.line line (map (λ (y : Numbered (List ℕ)). y.line) q) rest lines_are
 
+      -- those after the front one are the same lines
       rest_is : map (λ (y : Numbered (List ℕ)). y.line) q ≡ rest
-      rest_is = tails x.line line (map (λ (y : Numbered (List ℕ)). y.line) q) rest lines_are
+      rest_is = cons_tail x.line line (map (λ (y : Numbered (List ℕ)). y.line) q) rest lines_are
 
+      -- the front reply in flight is this line, with its number
       front_is : x ∷ q ≡ record { number = x.number; line = line } ∷ q
       front_is = ap (λ z. record { number = x.number; line = z } ∷ q) line_is
 
+      -- what the move `Comes` leads to
       came : move7 w (field.Comes line) ≡ once_heard w x q
       came = ap (λ d. down_delivered (by_ids WINDOW scene_ends) w d) is
 
+      -- the client then is the one that has heard the line
       client_next : (once_heard w x q).client ≡ client_after c (client.Hear line ∷ [])
       client_next = ap (λ y. (hears y x.line (heard x.line)).client) same ∙ ap (λ z. (hears c z (heard z)).client) line_is
 
+      -- what is in flight then is what is in flight on the line
       holds_next : Holds (on_line (once_heard w x q).wire) n
       holds_next = subst (Holds (on_line (once_heard w x q).wire)) (sym new) (record {
         up = holds.up;
@@ -322,7 +334,8 @@ moves_gave w c piece moment ss behind l n is holds (inl heard) given =
       behind_is,
       subst (λ (t : List (client.Step Asked)). MovesTo w t (client_after c t) n) (sym ss_is)
           (moves_told w c moment.elapsed (client.Hear given.0 ∷ []) n is
-          (λ v wire k. moves_comes v (client_after c (client.Expire moment.elapsed ∷ [])) v.wire.down given.0 given.1 l n refl k (subst (λ x. Holds (on_line x) l) (sym wire) holds) given.2 given.4)),
+          (λ v wire k. moves_comes v (client_after c (client.Expire moment.elapsed ∷ [])) v.wire.down given.0 given.1 l n refl k
+          (subst (λ x. Holds (on_line x) l) (sym wire) holds) given.2 given.4)),
     )
 moves_gave w c piece moment ss behind l n is holds (inr dropped) given = (
   dropped.rest,
@@ -340,26 +353,32 @@ abbrev once_sent : World7 → ById Asked → ℕ → Asked → ℕ → World7
 once_sent w c target call deadline = requested w target call (Some (sending_of c target call deadline))
 
 -- an act that sends a request comes to the step that sends it; and the line loses the request if it is lost
-pub moves_sends : (w : World7) (c : ById Asked) (target : ℕ) (call : Asked) (deadline : ℕ) (line : List ℕ) (l n : Lines) → w.client ≡ c → length c.waiting < 7 → c.next < 8 → IsAskedFitting call
-    → line ≡ asked_line (Some c.next) call → Holds (on_line w.wire) l → (n ≡ l) ⊎ (n ≡ record l { up = l.up ++ line ∷ [] })
+pub moves_sends : (w : World7) (c : ById Asked) (target : ℕ) (call : Asked) (deadline : ℕ) (line : List ℕ) (l n : Lines) → w.client ≡ c → length c.waiting < 7
+    → c.next < 8 → IsAskedFitting call → line ≡ asked_line (Some c.next) call → Holds (on_line w.wire) l → (n ≡ l) ⊎ (n ≡ record l { up = l.up ++ line ∷ [] })
     → MovesTo w (client.Send target call deadline ∷ []) (client_after c (client.Send target call deadline ∷ [])) n
 moves_sends w c target call deadline line l n is room digit fits text holds came steps others m done on =
     move_first w (field.Sends target call deadline) steps others m done tt (subst (λ (v : World7). FromClient v steps others m done) (sym out) (by_came came)) where
+      -- what the move `Sends` leads to
       out : move7 w (field.Sends target call deadline) ≡ once_sent w c target call deadline
       out = ap (λ o. requested w target call o) (ap (λ x. sends 7 x target call deadline) is ∙ sends_with_room c target call deadline room)
 
+      -- the requests in flight then are those before, and this one
       up_is : (on_line (once_sent w c target call deadline).wire).up ≡ (on_line w.wire).up ++ (sent_next w c call).line ∷ []
       up_is = map-append (λ (x : Numbered Request). x.line) w.wire.up (sent_next w c call ∷ [])
 
+      -- the line is that of the request
       of_line : IsLineOf (sent_next w c call).line line
       of_line = record { text = text; id = digit; fits = fits }
 
+      -- once its last request is lost, the requests in flight are those before
       lost : without (length (on_line w.wire).up) (on_line (once_sent w c target call deadline).wire).up ≡ (on_line w.wire).up
       lost = ap (without (length (on_line w.wire).up)) up_is ∙ without_last (on_line w.wire).up (sent_next w c call).line
 
+      -- the client then is the one that has sent the request
       client_is : (once_sent w c target call deadline).client ≡ client_after c (client.Send target call deadline ∷ [])
       client_is = sym (ap (λ o. (client.sent_on (course_at c) target call o).client) (sends_with_room c target call deadline room))
 
+      -- the lemma above from there on, by whether the request is lost or is in flight
       by_came : (n ≡ l) ⊎ (n ≡ record l { up = l.up ++ line ∷ [] }) → FromClient (once_sent w c target call deadline) steps others m done
       by_came (inl same) =
           steps_move (Lose_up (length (on_line w.wire).up) ∷ []) (once_sent w c target call deadline) steps others m done (tt, tt)

@@ -16,42 +16,44 @@ use Rattle.gc_field.specs.Beginnings.{ArePossibleIf, AreRuns, Run, killed_if, le
 use Rattle.gc_field.specs.Begun.{ids_begun}
 use Rattle.gc_field.specs.Field as field
 use Rattle.gc_field.specs.Field.{Move, ArePossible, IsPossible, moved, moves, seen}
-use Rattle.gc_field.specs.InARow.{AreFew, killed_by, killed_over, left_over}
+use Rattle.gc_field.specs.InARow.{AreFewKilledWithTurns, killed_by, killed_over, left_over}
 use Rattle.gc_rehearsed.specs.Rehearsals.{unbegun}
-use Rattle.gc_field.specs.SceneField.{KeepsAReply, scene_ends, scene_kept}
+use Rattle.gc_field.specs.SceneField.{RetainedReads, scene_ends, scene_kept}
 use Rattle.gc_field.specs.Shown.{AreShownAs, shown, shows}
 use Rattle.gc_field.specs.World.{Numbered, Request, World}
 use Rattle.gc_rehearsal.specs.Carrying.{Lines}
 use Rattle.gc_rehearsed.proofs.Sides.{client_move, is_move, is_turn, leaves_turn, left_turn, line_move, move_of, seen_none, shows_none, turn_of}
 use Rattle.gc_rehearsed.proofs.Steps.{AreSteps, Holds, Step, all_stepped, flow, stepped}
 use Rattle.gc_field.proofs.InARow.{same_lines}
-use Rattle.gc_field.proofs.BeginWords.{not_over}
+use Rattle.gc_field.proofs.BeginWords.{cons_not_nil}
 
--- a client's rule with the window of seven
+-- a world whose client knows ids, and whose instrument is that of a scene
 abbrev pub World7 : Type 0
 World7 = World (ById Asked) SceneState
 
--- the world after a move, over a scene's instrument
+-- the world after a move, with a client's window of seven
 abbrev pub move7 : World7 → Move SceneState → World7
 move7 w m = moves scene_ends (by_ids WINDOW scene_ends) w m
 
--- the world after these moves, in order, over a scene's instrument
+-- the world after these moves, in order, with a client's window of seven
 abbrev pub moved7 : List (Move SceneState) → World7 → World7
 moved7 ms w = moved scene_ends (by_ids WINDOW scene_ends) ms w
 
--- runs over what is in flight show these parts, are possible, and lead to these lines. At the end of the last one the station has
--- synchronized (`done`), or is killed while it synchronizes, and then counts as one more
+-- runs over what is in flight show these parts, are possible, and lead to these lines; at most five in a row are killed while they
+-- synchronize. At the end of the last one the station has synchronized (`done`), or is killed while it synchronizes, and counts as one
+-- more
 pub record Later (u : UnderWay SceneState) (rs : List (Run SceneState)) (ps : List Part) (m : Lines) (done : Bool) : Type 0 where
   pub show : AreShownAs scene_ends u rs ps
-  pub may : AreRuns WINDOW scene_ends KeepsAReply scene_kept u rs
+  pub may : AreRuns WINDOW scene_ends RetainedReads scene_kept u rs
   pub holds : Holds (left_over scene_ends u rs) m
-  pub few : AreFew scene_ends 0 u rs
+  pub few : AreFewKilledWithTurns scene_ends 0 u rs
   pub ends : killed_over scene_ends 0 u rs ≤ unbegun 0 done
 
--- if some ids of a synchronization aren't answered, no run follows it, and the station hasn't synchronized at the end
-abbrev pub Rest : List ℕ → Bool → List (Run SceneState) → Type 0
-Rest [] done rs = Unit {0}
-Rest (asked ∷ word) done rs = (rs ≡ []) × (done ≡ false)
+-- if some ids of a run's synchronization aren't answered, no other run (`rs`) follows, and the station hasn't synchronized at the end
+-- (`done`)
+abbrev pub IsLastUnlessBegun : List ℕ → Bool → List (Run SceneState) → Type 0
+IsLastUnlessBegun [] done rs = Unit {0}
+IsLastUnlessBegun (asked ∷ word) done rs = (rs ≡ []) × (done ≡ false)
 
 -- from a synchronization on: its turns show `turns`, and the moves after it `steps`; later runs show the other parts, and lead to
 -- these lines
@@ -61,24 +63,24 @@ pub record FromBegin (b : Model SceneState) (turns : List part.Turn) (steps : Li
   pub rs : List (Run SceneState)
   pub show : shown scene_ends ts b ≡ turns
   pub see : seen ms ≡ steps
-  pub are : AreTurns scene_ends KeepsAReply scene_kept ts b
-  pub may : ArePossibleIf WINDOW scene_ends KeepsAReply scene_kept (turned scene_ends ts b).left (turned scene_ends ts b) ms
+  pub are : AreTurns scene_ends RetainedReads scene_kept ts b
+  pub may : ArePossibleIf WINDOW scene_ends RetainedReads scene_kept (turned scene_ends ts b).left (turned scene_ends ts b) ms
   pub later : Later (left_if WINDOW scene_ends (turned scene_ends ts b).left (turned scene_ends ts b) ms) rs others m done
-  pub rest : Rest (turned scene_ends ts b).left done rs
+  pub rest : IsLastUnlessBegun (turned scene_ends ts b).left done rs
 
 -- from a client on: its moves show `steps`; later runs show the other parts, and lead to these lines
 pub record FromClient (w : World7) (steps : List (client.Step Asked)) (others : List Part) (m : Lines) (done : Bool) : Type 0 where
   pub ms : List (Move SceneState)
   pub rs : List (Run SceneState)
   pub see : seen ms ≡ steps
-  pub may : ArePossible scene_ends KeepsAReply scene_kept (by_ids WINDOW scene_ends) ms w
+  pub may : ArePossible scene_ends RetainedReads scene_kept (by_ids WINDOW scene_ends) ms w
   pub later : Later (on_line (moved7 ms w).wire) rs others m done
 
 -- One thing more before what follows.
 
--- one more turn before what follows a synchronization
+-- `FromBegin` is preserved if a possible turn t is put before it: what t shows comes before the other turns
 pub turn_first : (b : Model SceneState) (t : begin.Turn SceneState) (xs : List part.Turn) (steps : List (client.Step Asked)) (others : List Part) (m : Lines) (done : Bool)
-    → IsTurn KeepsAReply scene_kept b t → FromBegin (turns scene_ends b t) xs steps others m done → FromBegin b (shows b t ++ xs) steps others m done
+    → IsTurn RetainedReads scene_kept b t → FromBegin (turns scene_ends b t) xs steps others m done → FromBegin b (shows b t ++ xs) steps others m done
 turn_first b t xs steps others m done is f = record {
   ts = t ∷ f.ts;
   ms = f.ms;
@@ -92,7 +94,7 @@ turn_first b t xs steps others m done is f = record {
   rest = f.rest;
 }
 
--- steps of the line before what follows a synchronization
+-- `FromBegin` is preserved if possible steps of the line are put before it, in which the client has no part: they show nothing
 pub steps_turn : (xs : List Step) (b : Model SceneState) (show : List part.Turn) (steps : List (client.Step Asked)) (others : List Part) (m : Lines) (done : Bool) → AreSteps xs (leaves b)
     → ((c : Model SceneState) → leaves c ≡ all_stepped xs (leaves b) → c.left ≡ b.left → FromBegin c show steps others m done) → FromBegin b show steps others m done
 steps_turn [] b show steps others m done are on = on b refl refl
@@ -103,7 +105,7 @@ steps_turn (x ∷ xs) b show steps others m done are on =
     (steps_turn xs (turns scene_ends b (turn_of x)) show steps others m done (subst (AreSteps xs) (sym one) are.1)
     (λ c e l. on c (e ∙ ap (all_stepped xs) one) (l ∙ left_turn b x))))
 
--- what the client sees of a move and the moves after it
+-- what the client sees of moves is what it sees of the first, and then what it sees of the others
 seen_first : (m : Move SceneState) (ms : List (Move SceneState)) → seen (m ∷ ms) ≡ seen (m ∷ []) ++ seen ms
 seen_first (field.Sends target call deadline) ms = refl
 seen_first (field.Tells now) ms = refl
@@ -114,12 +116,12 @@ seen_first field.Anew ms = refl
 seen_first (field.Changes state) ms = refl
 seen_first (field.Joins line) ms = refl
 
--- one more move before what follows a client
-pub move_first : (w : World7) (x : Move SceneState) (steps : List (client.Step Asked)) (others : List Part) (m : Lines) (done : Bool) → IsPossible KeepsAReply scene_kept w x
+-- `FromClient` is preserved if a possible move x is put before it: what the client sees of x comes before the other steps
+pub move_first : (w : World7) (x : Move SceneState) (steps : List (client.Step Asked)) (others : List Part) (m : Lines) (done : Bool) → IsPossible RetainedReads scene_kept w x
     → FromClient (move7 w x) steps others m done → FromClient w (seen (x ∷ []) ++ steps) others m done
 move_first w x steps others m done is f = record { ms = x ∷ f.ms; rs = f.rs; see = seen_first x f.ms ∙ ap (λ l. seen (x ∷ []) ++ l) f.see; may = (is, f.may); later = f.later }
 
--- steps of the line before what follows a client
+-- `FromClient` is preserved if possible steps of the line are put before it: the client sees nothing of them
 pub steps_move : (xs : List Step) (w : World7) (steps : List (client.Step Asked)) (others : List Part) (m : Lines) (done : Bool) → AreSteps xs (on_line w.wire)
     → ((v : World7) → on_line v.wire ≡ all_stepped xs (on_line w.wire) → v.client ≡ w.client → FromClient v steps others m done) → FromClient w steps others m done
 steps_move [] w steps others m done are on = on w refl refl
@@ -145,7 +147,7 @@ begun_line u = ap (λ q. flow q (on_line (ids_begun u).wire).down u.state) (with
 pub begins_line : (u : UnderWay SceneState) → leaves (begins u) ≡ u
 begins_line u = ap (λ q. flow q (leaves (begins u)).down u.state) (same_lines u.up) ∙ ap (λ q. flow u.up q u.state) (same_lines u.down)
 
--- if all ids are answered, what follows the client follows the synchronization
+-- if all ids are answered, `FromClient` of the client that has synchronized gives `FromBegin`, which shows no further turns
 pub begun_from : (b : Model SceneState) (show : List part.Turn) (steps : List (client.Step Asked)) (others : List Part) (m : Lines) (done : Bool) → b.left ≡ [] → show ≡ []
     → FromClient (ids_begun (leaves b)) steps others m done → FromBegin b show steps others m done
 begun_from b show steps others m done none quiet f = record {
@@ -155,9 +157,9 @@ begun_from b show steps others m done none quiet f = record {
   show = sym quiet;
   see = f.see;
   are = tt;
-  may = subst (λ left. ArePossibleIf WINDOW scene_ends KeepsAReply scene_kept left b f.ms) (sym none) f.may;
+  may = subst (λ left. ArePossibleIf WINDOW scene_ends RetainedReads scene_kept left b f.ms) (sym none) f.may;
   later = subst (λ left. Later (left_if WINDOW scene_ends left b f.ms) f.rs others m done) (sym none) f.later;
-  rest = subst (λ left. Rest left done f.rs) (sym none) tt;
+  rest = subst (λ left. IsLastUnlessBegun left done f.rs) (sym none) tt;
 }
 
 -- a run with these turns and moves
@@ -166,48 +168,55 @@ run ts ms = record { turns = ts; moves = ms }
 
 -- how many are killed in a row where one run follows `n`, by the ids that it leaves and its turns
 killed_first : (n : ℕ) (u : UnderWay SceneState) (r : Run SceneState) (left : List ℕ) (ts : List (begin.Turn SceneState)) (done : Bool) (rs : List (Run SceneState))
-    → (turned scene_ends ts (begins u)).left ≡ left → r.turns ≡ ts → Rest left done rs
+    → (turned scene_ends ts (begins u)).left ≡ left → r.turns ≡ ts → IsLastUnlessBegun left done rs
     → ((left ≡ []) × (killed_by scene_ends n u r ts ≡ 0)) ⊎ ((rs ≡ []) × (done ≡ false) × (killed_by scene_ends n u r ts ≤ n + 1))
-killed_first n u r [] [] done rs e same rest = absurd (not_over _ _ e)
-killed_first n u r [] (t ∷ ts) done rs e same rest = inl (refl, ap (λ l. killed_if WINDOW scene_ends l n) (ap (λ xs. (turned scene_ends xs (begins u)).left) same ∙ e))
+killed_first n u r [] [] done rs e same rest = absurd (cons_not_nil _ _ e)
+killed_first n u r [] (t ∷ ts) done rs e same rest = inl (refl, ap (λ l. killed_if l n) (ap (λ xs. (turned scene_ends xs (begins u)).left) same ∙ e))
 killed_first n u r (asked ∷ word) [] done rs e same rest = inr (rest.0, rest.1, omega arith)
 killed_first n u r (asked ∷ word) (t ∷ ts) done rs e same rest =
-    let one : killed_by scene_ends n u r (t ∷ ts) ≡ n + 1 = ap (λ l. killed_if WINDOW scene_ends l n) (ap (λ xs. (turned scene_ends xs (begins u)).left) same ∙ e) in
+    let one : killed_by scene_ends n u r (t ∷ ts) ≡ n + 1 = ap (λ l. killed_if l n) (ap (λ xs. (turned scene_ends xs (begins u)).left) same ∙ e) in
     inr (rest.0, rest.1, omega (arith, one))
 
--- of runs from a synchronization on, at most five in a row are killed while they synchronize, if that is so counting the station as
--- one that has synchronized at its end (`done`) or hasn't
+-- if `n` stations in a row, and the next one too where it hasn't synchronized at its end (`done` is false), are at most five, at most
+-- five in a row are killed while they synchronize in the runs from a synchronization on
 pub few_from : (n : ℕ) (u : UnderWay SceneState) (show : List part.Turn) (steps : List (client.Step Asked)) (others : List Part) (m : Lines) (done : Bool)
     → (f : FromBegin (begins u) show steps others m done) → unbegun n done ≤ 5
-    → AreFew scene_ends n u (run f.ts f.ms ∷ f.rs) × (killed_over scene_ends n u (run f.ts f.ms ∷ f.rs) ≤ unbegun n done)
+    → AreFewKilledWithTurns scene_ends n u (run f.ts f.ms ∷ f.rs) × (killed_over scene_ends n u (run f.ts f.ms ∷ f.rs) ≤ unbegun n done)
 few_from n u show steps others m done f small = by_end (killed_first n u (run f.ts f.ms) (turned scene_ends f.ts (begins u)).left f.ts done f.rs refl refl f.rest) where
+  -- no killed station is at most five
   none_killed : killed_by scene_ends n u (run f.ts f.ms) f.ts ≡ 0 → killed_by scene_ends n u (run f.ts f.ms) f.ts ≤ 5
   none_killed none = omega (arith, none)
 
+  -- a bound of the count of killed stations with 0 before is one with `n` before, whether the station has synchronized at the end (`d`) or not
   by_done : (d : Bool) → killed_over scene_ends 0 (left_by_run WINDOW scene_ends u (run f.ts f.ms)) f.rs ≤ unbegun 0 d
       → killed_over scene_ends 0 (left_by_run WINDOW scene_ends u (run f.ts f.ms)) f.rs ≤ unbegun n d
   by_done true h = h
   by_done false h = omega (arith, h)
 
+  -- the lemma above, by whether the first run has synchronized
   by_end : (((turned scene_ends f.ts (begins u)).left ≡ []) × (killed_by scene_ends n u (run f.ts f.ms) f.ts ≡ 0))
       ⊎ ((f.rs ≡ []) × (done ≡ false) × (killed_by scene_ends n u (run f.ts f.ms) f.ts ≤ n + 1))
-      → AreFew scene_ends n u ((run f.ts f.ms) ∷ f.rs) × (killed_over scene_ends n u ((run f.ts f.ms) ∷ f.rs) ≤ unbegun n done)
+      → AreFewKilledWithTurns scene_ends n u ((run f.ts f.ms) ∷ f.rs) × (killed_over scene_ends n u ((run f.ts f.ms) ∷ f.rs) ≤ unbegun n done)
   by_end (inl begun) = (
-    (none_killed begun.1, subst (λ k. AreFew scene_ends k (left_by_run WINDOW scene_ends u (run f.ts f.ms)) f.rs) (sym begun.1) f.later.few),
+    (none_killed begun.1, subst (λ k. AreFewKilledWithTurns scene_ends k (left_by_run WINDOW scene_ends u (run f.ts f.ms)) f.rs) (sym begun.1) f.later.few),
     subst (λ k. killed_over scene_ends k (left_by_run WINDOW scene_ends u (run f.ts f.ms)) f.rs ≤ unbegun n done) (sym begun.1) (by_done done f.later.ends),
   )
   by_end (inr killed) =
       let count : killed_by scene_ends n u (run f.ts f.ms) f.ts ≤ unbegun n done = subst (λ d. killed_by scene_ends n u (run f.ts f.ms) f.ts ≤ unbegun n d) (sym killed.1) killed.2 in (
-        (omega (arith, count, small), subst (λ rs. AreFew scene_ends (killed_by scene_ends n u (run f.ts f.ms) f.ts) (left_by_run WINDOW scene_ends u (run f.ts f.ms)) rs) (sym killed.0) tt),
+        (
+          omega (arith, count, small),
+          subst (λ rs. AreFewKilledWithTurns scene_ends (killed_by scene_ends n u (run f.ts f.ms) f.ts) (left_by_run WINDOW scene_ends u (run f.ts f.ms)) rs) (sym killed.0) tt,
+        ),
         subst (λ rs. killed_over scene_ends (killed_by scene_ends n u (run f.ts f.ms) f.ts) (left_by_run WINDOW scene_ends u (run f.ts f.ms)) rs ≤ unbegun n done) (sym killed.0) count,
       )
 
--- a first station, killed or not, makes at most five in a row
+-- one station, killed or not, counts as at most five in a row
 one_few : (done : Bool) → unbegun 0 done ≤ 5
 one_few true = omega arith
 one_few false = omega arith
 
--- where a part ends, what follows the next synchronization follows the client
+-- `FromBegin` of a synchronization over what is in flight in this world, which shows the part p, gives `FromClient`, which shows p and the
+-- parts after it as other parts
 pub ended_from : (w : World7) (p : Part) (others : List Part) (m : Lines) (done : Bool) → FromBegin (begins (on_line w.wire)) p.turns p.steps others m done → FromClient w [] (p ∷ others) m done
 ended_from w p others m done f =
     let few = few_from 0 (on_line w.wire) p.turns p.steps others m done f (one_few done) in
@@ -218,6 +227,11 @@ ended_from w p others m done f =
       may = tt;
       later = record { show = (f.show, f.see, f.later.show); may = ((f.are, f.may), f.later.may); holds = f.later.holds; few = few.0; ends = few.1 };
     }
+
+-- no number of killed stations is below 0
+none_below : (done : Bool) → 0 ≤ unbegun 0 done
+none_below true = omega arith
+none_below false = omega arith
 
 -- at the end of a run that has synchronized and is over, nothing more happens
 pub ended_over : (w : World7) (m : Lines) (done : Bool) → Holds (on_line w.wire) m → FromClient w [] (nothing ∷ []) m done
@@ -232,23 +246,18 @@ ended_over w m done holds =
         may = ((tt, refl), tt);
         holds = subst (λ u. Holds u m) (sym (begins_line (on_line w.wire))) holds;
         few = (omega arith, tt);
-        ends = by_done done;
+        ends = none_below done;
       };
-    } where
-      by_done : (d : Bool) → 0 ≤ unbegun 0 d
-      by_done true = omega arith
-      by_done false = omega arith
+    }
 
 -- with no steps and no further parts, nothing more happens to a client
 pub ends_client : (w : World7) (m : Lines) (done : Bool) → Holds (on_line w.wire) m → FromClient w [] [] m done
-ends_client w m done holds = record { ms = []; rs = []; see = refl; may = tt; later = record { show = tt; may = tt; holds = holds; few = tt; ends = by_done done } } where
-  by_done : (d : Bool) → 0 ≤ unbegun 0 d
-  by_done true = omega arith
-  by_done false = omega arith
+ends_client w m done holds = record { ms = []; rs = []; see = refl; may = tt; later = record { show = tt; may = tt; holds = holds; few = tt; ends = none_below done } }
 
 -- with no turns and no further parts, nothing more happens in a synchronization
 pub ends_begin : (b : Model SceneState) (m : Lines) → (b.left ≡ [] → ⊥) → Holds (leaves b) m → FromBegin b [] [] [] m false
 ends_begin b m some holds = by_left b.left refl where
+  -- the lemma above, by the ids that are left
   by_left : (left : List ℕ) → b.left ≡ left → FromBegin b [] [] [] m false
   by_left [] e = absurd (some e)
   by_left (asked ∷ rest) e = record {
@@ -258,7 +267,7 @@ ends_begin b m some holds = by_left b.left refl where
     show = refl;
     see = refl;
     are = tt;
-    may = subst (λ left. ArePossibleIf WINDOW scene_ends KeepsAReply scene_kept left b []) (sym e) refl;
+    may = subst (λ left. ArePossibleIf WINDOW scene_ends RetainedReads scene_kept left b []) (sym e) refl;
     later = subst (λ left. Later (left_if WINDOW scene_ends left b []) [] [] m false) (sym e) (record { show = tt; may = tt; holds = holds; few = tt; ends = omega arith });
-    rest = subst (λ left. Rest left false []) (sym e) (refl, refl);
+    rest = subst (λ left. IsLastUnlessBegun left false []) (sym e) (refl, refl);
   }

@@ -18,12 +18,12 @@ use Rattle.gc_station.specs.Beginnings.{unanswered_after}
 use Rattle.gc_station.specs.Begun.{heard_in}
 use Rattle.gc_station.specs.Deciding.{has_begun, is_none_left}
 use Rattle.gc_station.specs.Model.{Model, Performs, Runs, action_at, after, after_all, losing, moved, opening, waiting_of, with_progress}
-use Rattle.gc_station.specs.Parts.{AreOf, IsOf, Part, acting, beginning, doing, ends_part, in_front, joined, nothing, parts_of, putting}
+use Rattle.gc_station.specs.Parts.{MarksAsk, MarkAsks, Part, acting, beginning, doing, ends_part, in_front, joined, nothing, parts_of, putting}
 use Rattle.gc_station.specs.Progressing.{is_over, loses_all, turned}
 use Rattle.gc_station.specs.Scopes.{Scope}
-use Rattle.gc_station.proofs.Asked.{FirstHasNone, goes_begun, no_turns, word_of}
+use Rattle.gc_station.proofs.Asked.{FirstHasNoTurns, goes_begun, no_turns, word_of}
 use Rattle.gc_station.proofs.Booking.{client_after, course_at, sends_with_room, sent_by}
-use Rattle.gc_station.proofs.EachRun.{fine_after, fine_opening}
+use Rattle.gc_station.proofs.EachRun.{invariant_after, invariant_opening}
 use Rattle.gc_station.proofs.Facts.{action_for}
 use Rattle.gc_station.proofs.Invariant.{Invariant}
 use Rattle.gc_station.proofs.Meant.{put_is}
@@ -39,13 +39,14 @@ use Rattle.gc_field.specs.Beginnings.{Run, on_line}
 use Rattle.gc_field.specs.Begun.{ids_begun}
 use Rattle.gc_field.specs.Runs.{IsInField, IsMeant, IsRunFaithful}
 use Rattle.gc_field.specs.Meaning.{IsHeard, IsDiscarded}
-use Rattle.gc_field.specs.SceneField.{KeepsAReply, scene_ends, scene_kept}
+use Rattle.gc_field.specs.SceneField.{RetainedReads, scene_ends, scene_kept}
 use Rattle.gc_field.specs.SceneField as scene
 use Rattle.gc_field.specs.Shown.{AreShownAs}
 use Rattle.gc_field.proofs.Joining.{run_faithful}
 use Rattle.gc_field.proofs.Meant.{is_meant}
 use Rattle.gc_field.proofs.SceneField.{scene_is_an_instrument}
 use Rattle.gc_field.proofs.BeginJoin.{IsSmall, word_small}
+use Rattle.gc_field.proofs.BeginWords.{cons_not_nil}
 use Rattle.gc_rehearsal.specs.Carrying.{Lines, Happening, Call, Reaches, Restarts, Passes, Repeats_up, Repeats_down, Loses_up, Loses_down, Loses_front, Does, IsOfLine, LeadAll, Leads, acts_of}
 use Rattle.gc_rehearsed.specs.Rehearsals.{AreAskable, IsRehearsed, RehearsalsAreFaithful}
 use Rattle.gc_rehearsed.proofs.Acted.{MovesTo, TurnsTo, feed_no_line, ids_left, moves_gave, moves_moment, moves_none, moves_sends, same_line, turns_act}
@@ -55,14 +56,14 @@ use Rattle.gc_rehearsed.proofs.Steps.{Holds, happens}
 -- The parts of acts, by the first one and the others.
 
 -- the first of these parts; where there is none, the one in which nothing happens
-abbrev pub first : List Part → Part
-first [] = nothing
-first (p ∷ ps) = p
+abbrev pub first_part : List Part → Part
+first_part [] = nothing
+first_part (p ∷ ps) = p
 
 -- the parts after the first
-abbrev pub others : List Part → List Part
-others [] = []
-others (p ∷ ps) = ps
+abbrev pub other_parts : List Part → List Part
+other_parts [] = []
+other_parts (p ∷ ps) = ps
 
 -- there is a part
 abbrev pub HasSome : List Part → Type 0
@@ -70,9 +71,9 @@ HasSome [] = ⊥
 HasSome (p ∷ ps) = Unit {0}
 
 -- where there is a part, the parts are the first and the others
-pub parted : (ps : List Part) → HasSome ps → ps ≡ first ps ∷ others ps
-parted [] some = absurd some
-parted (p ∷ ps) some = refl
+pub first_and_others : (ps : List Part) → HasSome ps → ps ≡ first_part ps ∷ other_parts ps
+first_and_others [] some = absurd some
+first_and_others (p ∷ ps) some = refl
 
 -- with one part before others there is a part
 some_front : (p : Part) (b : Bool) (ps : List Part) → HasSome (in_front p b ps)
@@ -88,32 +89,35 @@ some_parts plan commands s (act ∷ acts) =
 
 -- what follows a synchronization shows these parts
 abbrev pub OnBegin : begin.Model SceneState → Lines → List Part → Bool → Type 0
-OnBegin b m ps done = FromBegin b (first ps).turns (first ps).steps (others ps) m done
+OnBegin b m ps done = FromBegin b (first_part ps).turns (first_part ps).steps (other_parts ps) m done
 
 -- what follows a client shows these parts
 abbrev pub OnClient : World7 → Lines → List Part → Bool → Type 0
-OnClient w m ps done = FromClient w (first ps).steps (others ps) m done
+OnClient w m ps done = FromClient w (first_part ps).steps (other_parts ps) m done
 
--- an act while the station synchronizes comes before what follows the turns that it means
+-- `OnBegin` of an act's part, put in front of the later parts without ending, if the act comes to its turns (`TurnsTo`), and the later parts
+-- are `OnBegin` from there
 begin_first : (b : begin.Model SceneState) (p : Part) (word : List ℕ) (n m : Lines) (ps : List Part) (done : Bool) → HasSome ps → p.steps ≡ [] → TurnsTo b p.turns word n
     → ((c : begin.Model SceneState) → Holds (leaves c) n → c.left ≡ word → OnBegin c m ps done) → OnBegin b m (in_front p false ps) done
 begin_first b p word n m [] done some none to on = absurd some
 begin_first b p word n m (q ∷ ps) done some none to on =
     subst (λ (ss : List (client.Step Asked)). FromBegin b (p.turns ++ q.turns) (ss ++ q.steps) ps m done) (sym none) (to q.turns q.steps ps m done on)
 
--- an act of a client comes before what follows its steps
+-- `OnClient` of an act's part, put in front of the later parts without ending, if the act comes to its steps (`MovesTo`), and the later
+-- parts are `OnClient` from there
 client_first : (w : World7) (p : Part) (c : ById Asked) (n m : Lines) (ps : List Part) (done : Bool) → HasSome ps → MovesTo w p.steps c n
     → ((v : World7) → Holds (on_line v.wire) n → v.client ≡ c → OnClient v m ps done) → OnClient w m (in_front p false ps) done
 client_first w p c n m [] done some to on = absurd some
 client_first w p c n m (q ∷ ps) done some to on = to q.steps ps m done on
 
--- the last act of a part comes before the other parts
+-- `OnClient` of an act's part, put in front of the later parts and ended by the act, if the act comes to its steps (`MovesTo`), and the later
+-- parts are the other parts of `FromClient` from there
 client_last : (w : World7) (p : Part) (c : ById Asked) (n m : Lines) (ps : List Part) (done : Bool) → MovesTo w p.steps c n
     → ((v : World7) → Holds (on_line v.wire) n → FromClient v [] ps m done) → OnClient w m (in_front p true ps) done
 client_last w p c n m ps done to on =
     subst (λ (ss : List (client.Step Asked)). FromClient w ss ps m done) (append-nil p.steps) (to [] ps m done (λ v holds is. on v holds))
 
--- the next synchronization comes after the last act of a part
+-- where a part has ended, `OnBegin` of the parts of the next synchronization gives `FromClient`, of which they are the other parts
 client_anew : (v : World7) (m : Lines) (ps : List Part) (done : Bool) → HasSome ps → OnBegin (begins (on_line v.wire)) m ps done → FromClient v [] ps m done
 client_anew v m [] done some f = absurd some
 client_anew v m (q ∷ ps) done some f = ended_from v q ps m done f
@@ -121,13 +125,14 @@ client_anew v m (q ∷ ps) done some f = ended_from v q ps m done f
 -- What commands ask.
 
 -- what a request asks that is of its mark's command, or a null procedure, has numbers that lie in their types
-asked_fits : (commands : List Task) (mark : Option _) (a : Wanted Asked) → AreAskable commands → IsOf commands mark a → IsAskedFitting a.call
+asked_fits : (commands : List Task) (mark : Option _) (a : Wanted Asked) → AreAskable commands → MarkAsks commands mark a → IsAskedFitting a.call
 asked_fits commands None a askable is = subst (λ (x : Wanted Asked). IsAskedFitting x.call) (sym is) tt
 asked_fits commands (Some mark) a askable is =
     subst (λ (x : Wanted Asked). IsAskedFitting x.call) (sym is.2) (all_at (λ (task : Task). (utc : ℕ) → IsAskedFitting (call_at task utc)) commands mark.place is.0 askable is.1 mark.sent)
 
 -- what a client sends by one send, if its window has room
-sent_one : (c : ById Asked) (target : ℕ) (call : Asked) (deadline : ℕ) → length c.waiting < 7 → sent_by c (client.Send target call deadline ∷ []) ≡ record { target = target; call = call } ∷ []
+sent_one : (c : ById Asked) (target : ℕ) (call : Asked) (deadline : ℕ) → length c.waiting < 7
+    → sent_by c (client.Send target call deadline ∷ []) ≡ record { target = target; call = call } ∷ []
 sent_one c target call deadline room = ap (λ o. (client.sent_on (course_at c) target call o).sent ++ []) (sends_with_room c target call deadline room)
 
 -- the loss of what is outstanding, at the end of an act, changes nothing in whether all of it is lost
@@ -138,30 +143,33 @@ losing_loses false t = refl
 module _ (plan : Plan) (commands : List Task) (askable : AreAskable commands) where
   -- an act that puts bytes, once the station has synchronized, comes to the steps that it means
   moves_put : (s : Model) (act : Act) (bytes : List ℕ) (w : World7) (l n : Lines) → Invariant plan commands s → w.client ≡ s.client → Holds (on_line w.wire) l
-      → (let p = putting plan commands s (action_at plan s) in AreOf commands p.marks (sent_by s.client p.steps))
+      → (let p = putting plan commands s (action_at plan s) in MarksAsk commands p.marks (sent_by s.client p.steps))
       → meant.IsPut s bytes (putting plan commands s (action_at plan s)) → (n ≡ l) ⊎ ((line : List ℕ) × (bytes ≡ with_end line) × (n ≡ record l { up = l.up ++ line ∷ [] }))
       → MovesTo w (putting plan commands s (action_at plan s)).steps (client_after s.client (putting plan commands s (action_at plan s)).steps) n
   moves_put s act bytes w l n fine is holds of (inl feed) (inl same) =
       subst (λ (p : Part). MovesTo w p.steps (client_after s.client p.steps) n) (sym feed.1) (moves_none w s.client l n is holds same)
   moves_put s act bytes w l n fine is holds of (inl feed) (inr sent) = absurd (feed_no_line sent.0 (sym feed.0 ∙ sent.1))
   moves_put s act bytes w l n fine is holds of (inr x) came =
-      let one = subst (λ (p : Part). AreOf commands p.marks (sent_by s.client p.steps)) x.part of in
+      let one = subst (λ (p : Part). MarksAsk commands p.marks (sent_by s.client p.steps)) x.part of in
       let fits = asked_fits commands x.mark (record { target = x.target; call = x.call }) askable
-      (subst (AreOf commands (x.mark ∷ [])) (sent_one s.client x.target x.call x.deadline x.room) one).0 in
+      (subst (MarksAsk commands (x.mark ∷ [])) (sent_one s.client x.target x.call x.deadline x.room) one).0 in
       subst (λ (p : Part). MovesTo w p.steps (client_after s.client p.steps) n) (sym x.part) (by_came came fits) where
+        -- the steps that the send comes to, by whether the request is lost or is in flight
         by_came : (n ≡ l) ⊎ ((line : List ℕ) × (bytes ≡ with_end line) × (n ≡ record l { up = l.up ++ line ∷ [] })) → IsAskedFitting x.call
             → MovesTo w (client.Send x.target x.call x.deadline ∷ []) (client_after s.client (client.Send x.target x.call x.deadline ∷ [])) n
         by_came (inl same) fits = moves_sends w s.client x.target x.call x.deadline (asked_line (Some s.client.next) x.call) l n is x.room fine.digit fits refl holds (inl same)
         by_came (inr sent) fits =
-            moves_sends w s.client x.target x.call x.deadline sent.0 l n is x.room fine.digit fits (same_line sent.0 (asked_line (Some s.client.next) x.call) (sym sent.1 ∙ x.text)) holds (inr sent.2)
+            moves_sends w s.client x.target x.call x.deadline sent.0 l n is x.room fine.digit fits
+            (same_line sent.0 (asked_line (Some s.client.next) x.call) (sym sent.1 ∙ x.text)) holds (inr sent.2)
 
   -- what an act sends once the station has synchronized is of its mark's command, or a null procedure
   sends_of : (s : Model) (act : Act) → Invariant plan commands s → Performs commands s (action_at plan s) act → has_begun s.progress ≡ true
-      → AreOf commands (doing plan commands s (action_at plan s) act).marks (sent_by s.client (doing plan commands s (action_at plan s) act).steps)
+      → MarksAsk commands (doing plan commands s (action_at plan s) act).marks (sent_by s.client (doing plan commands s (action_at plan s) act).steps)
   sends_of s act fine obeys begun =
       let o = action_at plan s in
       let books = leads plan commands s o act fine (action_for plan s.progress (waiting_of s)) obeys in
-      subst (λ (b : Bool). AreOf commands (if b then doing plan commands s o act else beginning s o act).marks (sent_by s.client (if b then doing plan commands s o act else beginning s o act).steps))
+      subst (λ (b : Bool). MarksAsk commands (if b then doing plan commands s o act else beginning s o act).marks
+      (sent_by s.client (if b then doing plan commands s o act else beginning s o act).steps))
       begun books.wrote.sent
 
   -- an act once the station has synchronized comes to the steps that it means
@@ -181,8 +189,14 @@ module _ (plan : Plan) (commands : List Task) (askable : AreAskable commands) wh
       let behind = (after plan commands s (Gave piece moment)).rest in
       let means = (is_meant plan commands s (Gave piece moment) true begun fine obeys).1 in
       moves_gave w s.client piece moment p.steps behind l n is holds (subst (λ r. IsHeard r piece moment p.steps behind ⊎ IsDiscarded r moment p.steps behind) rest means) does
-  moves_act s (Told moment) w l n fine obeys begun rest is holds does = ((is_meant plan commands s (Told moment) true begun fine obeys).1.1 ∙ rest, moves_moment w s.client moment.elapsed l n is holds does)
-  moves_act s (Silent moment) w l n fine obeys begun rest is holds does = ((is_meant plan commands s (Silent moment) true begun fine obeys).1.1 ∙ rest, moves_moment w s.client moment.elapsed l n is holds does)
+  moves_act s (Told moment) w l n fine obeys begun rest is holds does = (
+    (is_meant plan commands s (Told moment) true begun fine obeys).1.1 ∙ rest,
+    moves_moment w s.client moment.elapsed l n is holds does,
+  )
+  moves_act s (Silent moment) w l n fine obeys begun rest is holds does = (
+    (is_meant plan commands s (Silent moment) true begun fine obeys).1.1 ∙ rest,
+    moves_moment w s.client moment.elapsed l n is holds does,
+  )
   moves_act s Untold w l n fine obeys begun rest is holds does = ((is_meant plan commands s Untold true begun fine obeys).1.1 ∙ rest, moves_none w s.client l n is holds does)
   moves_act s Ended w l n fine obeys begun rest is holds does = ((is_meant plan commands s Ended true begun fine obeys).1.1 ∙ rest, moves_none w s.client l n is holds does)
   moves_act s Broke w l n fine obeys begun rest is holds does = ((is_meant plan commands s Broke true begun fine obeys).1.1 ∙ rest, moves_none w s.client l n is holds does)
@@ -210,9 +224,11 @@ module _ (plan : Plan) (commands : List Task) (askable : AreAskable commands) wh
   -- while the station synchronizes, an act leaves the client new
   client_new : (s : Model) (act : Act) → Invariant plan commands s → Performs commands s (action_at plan s) act → has_begun s.progress ≡ false → (after plan commands s act).client ≡ fresh
   client_new s act fine obeys begins = by_loss (loses_all (moved_by s act).progress) where
+    -- the act itself leaves the client new
     kept : (moved_by s act).client ≡ fresh
     kept = (keeps_action plan commands s (action_at plan s) act (action_for plan s.progress (waiting_of s)) obeys begins (fine.begins begins)).0
 
+    -- the client is new whether what is outstanding is lost (`b`) or not
     by_loss : (b : Bool) → (losing b (moved_by s act)).client ≡ fresh
     by_loss true = refl
     by_loss false = kept
@@ -222,27 +238,23 @@ module _ (plan : Plan) (commands : List Task) (askable : AreAskable commands) wh
   some_left [] e none = cc
   some_left (asked ∷ rest) e none = cc
 
-  -- a list with an act isn't empty
-  no_act : (act : Act) (acts : List Act) → act ∷ acts ≡ [] → ⊥
-  no_act act acts e = cc
-
-  -- what happens on the line without an act comes before what follows
+  -- `FromClient` is preserved if what happens on the line without an act is put before it
   goes_idly : (hs : List Happening) (w : World7) (l m : Lines) (steps : List (client.Step Asked)) (more : List Part) (done : Bool) → acts_of hs ≡ [] → Holds (on_line w.wire) l → LeadAll l hs m
       → ((v : World7) → Holds (on_line v.wire) m → FromClient v steps more m done) → FromClient w steps more m done
   goes_idly [] w l m steps more done none holds all on = on w (subst (Holds (on_line w.wire)) (sym all) holds)
-  goes_idly (Call act ∷ hs) w l m steps more done none holds all on = absurd (no_act act (acts_of hs) none)
+  goes_idly (Call act ∷ hs) w l m steps more done none holds all on = absurd (cons_not_nil act (acts_of hs) none)
   goes_idly (h ∷ hs) w l m steps more done none holds all on =
       let xs = happens (on_line w.wire) l all.0 h (λ act e. cc) holds all.1 in
       steps_move xs.steps w steps more m done xs.are (λ v e k. goes_idly hs v all.0 m steps more done none (subst (λ u. Holds u all.0) (sym e) xs.holds) all.2 on)
 
   -- From a synchronization and from a client on.
 
-  -- an empty word is a subsequence of any ids
+  -- once a station has synchronized, no id of its word is left
   word_none : (s : Model) → has_begun s.progress ≡ true → s.progress.word ≡ []
   word_none s begun = word_of s.progress.word begun
 
-  -- the first part has no turns
-  first_none : (ps : List Part) → FirstHasNone ps → (first ps).turns ≡ []
+  -- if these parts are `FirstHasNoTurns`, the first of them has no turns
+  first_none : (ps : List Part) → FirstHasNoTurns ps → (first_part ps).turns ≡ []
   first_none [] none = refl
   first_none (p ∷ ps) none = none
 
@@ -251,21 +263,23 @@ module _ (plan : Plan) (commands : List Task) (askable : AreAskable commands) wh
   none_over t [] over runs = refl
   none_over t (act ∷ acts) over runs = absurd (over_stays plan commands t act over runs.0)
 
-  -- from a synchronization on, what happens on the line shows what the station sees in a run
+  -- from each state b of a synchronization on that agrees with the station's model s, which synchronizes, and with the line: what happens on
+  -- the line shows the parts of the station's run by these acts
   abbrev FromBeginOf : List Happening → Lines → Type 0
   FromBeginOf hs m =
       (s : Model) (b : begin.Model SceneState) (l : Lines) → Invariant plan commands s → s.rest ≡ [] → has_begun s.progress ≡ false → b.left ≡ s.progress.word
       → IsSmall s.progress.word → Holds (leaves b) l → LeadAll l hs m → Runs plan commands s (acts_of hs)
       → OnBegin b m (parts_of plan commands s (acts_of hs)) (has_begun (after_all plan commands s (acts_of hs)).progress)
 
-  -- from a client on, what happens on the line shows what the station sees in a run
+  -- from each world w of a client on that agrees with the station's model s, which has synchronized, and with the line: what happens on the
+  -- line shows the parts of the station's run by these acts
   abbrev FromClientOf : List Happening → Lines → Type 0
   FromClientOf hs m =
       (s : Model) (w : World7) (l : Lines) → Invariant plan commands s → s.rest ≡ [] → has_begun s.progress ≡ true → w.client ≡ s.client
       → Holds (on_line w.wire) l → LeadAll l hs m → Runs plan commands s (acts_of hs)
       → OnClient w m (parts_of plan commands s (acts_of hs)) (has_begun (after_all plan commands s (acts_of hs)).progress)
 
-  -- an act while the station synchronizes, before what happens later
+  -- if what happens later is `FromBeginOf` and `FromClientOf`, it is `FromBeginOf` with one more act before it
   act_begin : (act : Act) (hs : List Happening) (m : Lines) → FromBeginOf hs m → FromClientOf hs m → FromBeginOf (Call act ∷ hs) m
   act_begin act hs m later_begin later_client s b l fine rest begins left ids holds all runs =
       let o = action_at plan s in
@@ -275,28 +289,31 @@ module _ (plan : Plan) (commands : List Task) (askable : AreAskable commands) wh
       subst (λ x. OnBegin b m (in_front (if x then doing plan commands s o act else beginning s o act) (x && loses_all t.progress) (parts_of plan commands t (acts_of hs))) done) (sym begins)
       (begin_first b p (unanswered_after s.progress.word (heard_in p.turns)) all.0 m (parts_of plan commands t (acts_of hs)) done (some_parts plan commands t (acts_of hs)) means.0 to.1
       (λ c h k. next c h (k ∙ sym means.2) (has_begun t.progress) refl)) where
+        -- the act means its part
         means : IsMeant false s act (beginning s (action_at plan s) act) (after plan commands s act)
         means = is_meant plan commands s act false begins fine runs.0
 
+        -- no bytes of an unfinished line are left, and the act comes to its turns
         to : ((after plan commands s act).rest ≡ [])
             × TurnsTo b (beginning s (action_at plan s) act).turns (unanswered_after s.progress.word (heard_in (beginning s (action_at plan s) act).turns)) all.0
         to = turns_act b s.progress.word act (beginning s (action_at plan s) act).turns (after plan commands s act).rest l all.0 left ids holds (some_left s.progress.word begins)
             (subst (λ r. MeansTurns s.progress.word r act (beginning s (action_at plan s) act).turns (after plan commands s act).rest) rest means.1) all.1
 
+        -- what happens later, from the state after the act, by whether the station has synchronized then (`x`)
         next : (c : begin.Model SceneState) → Holds (leaves c) all.0 → c.left ≡ (after plan commands s act).progress.word → (x : Bool) → has_begun (after plan commands s act).progress ≡ x
             → OnBegin c m (parts_of plan commands (after plan commands s act) (acts_of hs)) (has_begun (after_all plan commands (after plan commands s act) (acts_of hs)).progress)
         next c h k false e =
-            later_begin (after plan commands s act) c all.0 (fine_after plan commands s act fine) to.0 e k
+            later_begin (after plan commands s act) c all.0 (invariant_after plan commands s act fine) to.0 e k
             (subst IsSmall (sym means.2) (ids_left s.progress.word (heard_in (beginning s (action_at plan s) act).turns) ids)) h all.2 runs.1
         next c h k true e =
             let u = after plan commands s act in
             let ps = parts_of plan commands u (acts_of hs) in
-            begun_from c (first ps).turns (first ps).steps (others ps) m (has_begun (after_all plan commands u (acts_of hs)).progress)
+            begun_from c (first_part ps).turns (first_part ps).steps (other_parts ps) m (has_begun (after_all plan commands u (acts_of hs)).progress)
             (k ∙ word_none u e) (first_none ps (no_turns plan commands u (acts_of hs) e))
-            (later_client u (ids_begun (leaves c)) all.0 (fine_after plan commands s act fine) to.0 e (sym (client_new s act fine runs.0 begins))
+            (later_client u (ids_begun (leaves c)) all.0 (invariant_after plan commands s act fine) to.0 e (sym (client_new s act fine runs.0 begins))
             (subst (λ v. Holds v all.0) (sym (begun_line (leaves c))) h) all.2 runs.1)
 
-  -- an act once the station has synchronized, before what happens later
+  -- if what happens later is `FromBeginOf` and `FromClientOf`, it is `FromClientOf` with one more act before it
   act_client : (act : Act) (hs : List Happening) (m : Lines) → FromBeginOf hs m → FromClientOf hs m → FromClientOf (Call act ∷ hs) m
   act_client act hs m later_begin later_client s w l fine rest begun is holds all runs =
       let o = action_at plan s in
@@ -304,27 +321,33 @@ module _ (plan : Plan) (commands : List Task) (askable : AreAskable commands) wh
       let done = has_begun (after_all plan commands t (acts_of hs)).progress in
       subst (λ x. OnClient w m (in_front (if x then doing plan commands s o act else beginning s o act) (x && loses_all t.progress) (parts_of plan commands t (acts_of hs))) done) (sym begun)
       (by_loss (loses_all t.progress) refl) where
-        to : ((after plan commands s act).rest ≡ []) × MovesTo w (doing plan commands s (action_at plan s) act).steps (client_after s.client (doing plan commands s (action_at plan s) act).steps) all.0
+        -- no bytes of an unfinished line are left, and the act comes to its steps
+        to : ((after plan commands s act).rest ≡ [])
+            × MovesTo w (doing plan commands s (action_at plan s) act).steps (client_after s.client (doing plan commands s (action_at plan s) act).steps) all.0
         to = moves_act s act w l all.0 fine runs.0 begun rest is holds all.1
 
-        over_of : (x : Bool) → has_begun (after plan commands s act).progress ≡ true → loses_all (after plan commands s act).progress ≡ true → is_over (after plan commands s act).progress ≡ true
-        over_of x e f = subst (λ y. (not y || is_over (after plan commands s act).progress) ≡ true) e f
+        -- a station that loses all, and isn't synchronizing again, is over
+        over_of : has_begun (after plan commands s act).progress ≡ true → loses_all (after plan commands s act).progress ≡ true
+            → is_over (after plan commands s act).progress ≡ true
+        over_of e f = subst (λ y. (not y || is_over (after plan commands s act).progress) ≡ true) e f
 
+        -- what happens later, where the part has ended, by whether the station has synchronized after the act (`x`): then the run is over
         anew : (v : World7) → Holds (on_line v.wire) all.0 → loses_all (after plan commands s act).progress ≡ true → (x : Bool) → has_begun (after plan commands s act).progress ≡ x
             → FromClient v [] (parts_of plan commands (after plan commands s act) (acts_of hs)) m (has_begun (after_all plan commands (after plan commands s act) (acts_of hs)).progress)
         anew v h lost false e =
             let u = after plan commands s act in
             let word = word_anew plan commands s act runs.0 begun e in
             client_anew v m (parts_of plan commands u (acts_of hs)) (has_begun (after_all plan commands u (acts_of hs)).progress) (some_parts plan commands u (acts_of hs))
-            (later_begin u (begins (on_line v.wire)) all.0 (fine_after plan commands s act fine) to.0 e (sym word) (subst IsSmall (sym word) word_small)
+            (later_begin u (begins (on_line v.wire)) all.0 (invariant_after plan commands s act fine) to.0 e (sym word) (subst IsSmall (sym word) word_small)
             (subst (λ q. Holds q all.0) (sym (begins_line (on_line v.wire))) h) all.2 runs.1)
         anew v h lost true e =
             let u = after plan commands s act in
-            let none = none_over u (acts_of hs) (over_of true e lost) runs.1 in
+            let none = none_over u (acts_of hs) (over_of e lost) runs.1 in
             subst (λ acts. FromClient v [] (parts_of plan commands u acts) m (has_begun (after_all plan commands u (acts_of hs)).progress)) (sym none)
             (goes_idly hs v all.0 m [] (nothing ∷ []) (has_begun (after_all plan commands u (acts_of hs)).progress) none h all.2
             (λ x g. ended_over x m (has_begun (after_all plan commands u (acts_of hs)).progress) g))
 
+        -- the lemma above, by whether the part ends with the act (`x`)
         by_loss : (x : Bool) → loses_all (after plan commands s act).progress ≡ x
             → OnClient w m (in_front (doing plan commands s (action_at plan s) act) x (parts_of plan commands (after plan commands s act) (acts_of hs)))
             (has_begun (after_all plan commands (after plan commands s act) (acts_of hs)).progress)
@@ -333,23 +356,23 @@ module _ (plan : Plan) (commands : List Task) (askable : AreAskable commands) wh
             let p = doing plan commands s (action_at plan s) act in
             client_first w p (client_after s.client p.steps) all.0 m (parts_of plan commands u (acts_of hs)) (has_begun (after_all plan commands u (acts_of hs)).progress)
             (some_parts plan commands u (acts_of hs)) to.1
-            (λ v h k. later_client u v all.0 (fine_after plan commands s act fine) to.0 (goes_begun plan commands u e) (k ∙ sym (client_on s act fine runs.0 begun e)) h all.2 runs.1)
+            (λ v h k. later_client u v all.0 (invariant_after plan commands s act fine) to.0 (goes_begun plan commands u e) (k ∙ sym (client_on s act fine runs.0 begun e)) h all.2 runs.1)
         by_loss true e =
             let u = after plan commands s act in
             let p = doing plan commands s (action_at plan s) act in
             client_last w p (client_after s.client p.steps) all.0 m (parts_of plan commands u (acts_of hs)) (has_begun (after_all plan commands u (acts_of hs)).progress) to.1
             (λ v h. anew v h e (has_begun u.progress) refl)
 
-  -- what happens on the line shows what the station sees in a run
-  pub both : (hs : List Happening) (m : Lines) → FromBeginOf hs m × FromClientOf hs m
-  both [] m = (
+  -- whatever happens on the line is `FromBeginOf` and `FromClientOf`: it shows what the station sees in a run
+  pub shows_the_run : (hs : List Happening) (m : Lines) → FromBeginOf hs m × FromClientOf hs m
+  shows_the_run [] m = (
     λ s b l fine rest begins left ids holds all runs.
         subst (λ d. FromBegin b [] [] [] m d) (sym begins) (ends_begin b m (λ e. some_left s.progress.word begins (sym left ∙ e)) (subst (Holds (leaves b)) (sym all) holds)),
     λ s w l fine rest begun is holds all runs. ends_client w m (has_begun s.progress) (subst (Holds (on_line w.wire)) (sym all) holds),
   )
-  both (Call act ∷ hs) m = let later = both hs m in (act_begin act hs m later.0 later.1, act_client act hs m later.0 later.1)
-  both (h ∷ hs) m =
-      let later = both hs m in (
+  shows_the_run (Call act ∷ hs) m = let later = shows_the_run hs m in (act_begin act hs m later.0 later.1, act_client act hs m later.0 later.1)
+  shows_the_run (h ∷ hs) m =
+      let later = shows_the_run hs m in (
         λ s b l fine rest begins left ids holds all runs.
             let xs = happens (leaves b) l all.0 h (λ act e. cc) holds all.1 in
             steps_turn xs.steps b _ _ _ m _ xs.are (λ c e k. later.0 s c all.0 fine rest begins (k ∙ left) ids (subst (λ u. Holds u all.0) (sym e) xs.holds) all.2 runs),
@@ -358,9 +381,9 @@ module _ (plan : Plan) (commands : List Task) (askable : AreAskable commands) wh
             steps_move xs.steps w _ _ m _ xs.are (λ v e k. later.1 s v all.0 fine rest begun (k ∙ is) (subst (λ u. Holds u all.0) (sym e) xs.holds) all.2 runs),
       )
 
--- if the instrument retains no reply, its state is a good one (`KeepsAReply`)
-pub none_kept : (state : SceneState) → state.base.kept ≡ None → KeepsAReply state
-none_kept state none = subst scene.IsHeard (sym none) tt
+-- if the instrument retains no reply, its state is a good one (`RetainedReads`)
+pub none_kept : (state : SceneState) → state.base.kept ≡ None → RetainedReads state
+none_kept state none = subst scene.ReadsWithItsId (sym none) tt
 
 -- a run over a rehearsed line is one in the field, and faithful
 pub rehearsed : RehearsalsAreFaithful
@@ -370,11 +393,11 @@ rehearsed plan commands scope acts of_line askable runs =
     let start : Lines = record { up = []; down = []; state = c.start } in
     let good = none_kept c.start c.none in
     let s = opening plan scope in
-    let g = (both plan commands askable c.happened of_line.0).0 s (begins u) start (fine_opening plan commands scope) refl refl refl word_small
+    let g = (shows_the_run plan commands askable c.happened of_line.0).0 s (begins u) start (invariant_opening plan commands scope) refl refl refl word_small
     (record { up = tt; down = refl; one = tt; state = refl; good = good }) c.leads (subst (Runs plan commands s) (sym c.acts_are) runs) in
     let f = subst (λ told. OnBegin (begins u) of_line.0 (parts_of plan commands s told) (has_begun (after_all plan commands s told).progress)) c.acts_are g in
-    let parts = parted (parts_of plan commands s acts) (some_parts plan commands s acts) in
-    let field : IsInField scene_ends KeepsAReply scene_kept plan commands scope acts u (run f.ts f.ms ∷ f.rs) = record {
+    let parts = first_and_others (parts_of plan commands s acts) (some_parts plan commands s acts) in
+    let field : IsInField scene_ends RetainedReads scene_kept plan commands scope acts u (run f.ts f.ms ∷ f.rs) = record {
       runs = runs;
       lines = record { ids = tt; good = good };
       none = λ word. word;
@@ -385,5 +408,5 @@ rehearsed plan commands scope acts of_line askable runs =
       under_way = u;
       runs = run f.ts f.ms ∷ f.rs;
       field = field;
-      faithful = run_faithful scene_ends KeepsAReply scene_kept scene_is_an_instrument.is plan commands scope acts u (run f.ts f.ms ∷ f.rs) field;
+      faithful = run_faithful scene_ends RetainedReads scene_kept scene_is_an_instrument.instrument plan commands scope acts u (run f.ts f.ms ∷ f.rs) field;
     }

@@ -6,8 +6,8 @@ use Rattle.gc_client.specs.Beginning.{the_word}
 use Rattle.gc_client.specs.OneForOne as client
 use Rattle.gc_links.specs.Acts.{Act, Put, Gave}
 use Rattle.gc_scenes.specs.SceneState.{SceneState}
-use Rattle.gc_station.proofs.EachRun.{fine_opening}
-use Rattle.gc_station.proofs.SentAt.{act_head, act_tail}
+use Rattle.gc_station.proofs.EachRun.{invariant_opening}
+use Rattle.gc_station.proofs.Lists.{cons_head, cons_tail}
 use Rattle.gc_station.specs.Deciding.{has_begun}
 use Rattle.gc_station.specs.Model.{Runs, after_all, opening}
 use Rattle.gc_station.specs.Parts as part
@@ -15,16 +15,17 @@ use Rattle.gc_station.specs.Parts.{Part, parts_of}
 use Rattle.gc_field.specs.Begin as begin
 use Rattle.gc_field.specs.Begin.{UnderWay, begins, leaves, none_under_way}
 use Rattle.gc_field.specs.Beginnings.{IsRow, Run}
-use Rattle.gc_field.specs.InARow.{AreFew, AreInARow, killed_over, left_over}
-use Rattle.gc_field.specs.SceneField.{KeepsAReply, scene_ends, scene_kept}
+use Rattle.gc_field.specs.InARow.{AreFewKilledWithTurns, AreInARow, killed_over, left_over}
+use Rattle.gc_field.specs.SceneField.{RetainedReads, scene_ends, scene_kept}
 use Rattle.gc_field.specs.Shown.{AreShownAs}
 use Rattle.gc_field.proofs.InARow.{in_a_row}
 use Rattle.gc_field.proofs.SceneField.{scene_is_an_instrument}
 use Rattle.gc_field.proofs.BeginJoin.{word_small}
 use Rattle.gc_rehearsal.specs.Carrying.{Lines, Happening, Call, Reaches, Restarts, Passes, Repeats_up, Repeats_down, Loses_up, Loses_down, Loses_front, Does, IsOfLine, IsQuiet, LeadAll, acts_of}
 use Rattle.gc_rehearsed.specs.Rehearsals.{AreRehearsed, FewEndUnbegun, RunsAndStops, RowsOfRehearsalsAreFaithful, Station, has_begun_at_its_end, programs, acts_of_all, unbegun}
+use Rattle.gc_rehearsed.proofs.Acted.{nil_not_cons}
 use Rattle.gc_rehearsed.proofs.Courses.{FromBegin, begins_line, few_from, run, steps_turn}
-use Rattle.gc_rehearsed.proofs.Rehearsed.{OnBegin, both, first, none_kept, others, parted, some_parts}
+use Rattle.gc_rehearsed.proofs.Rehearsed.{OnBegin, first_and_others, first_part, none_kept, other_parts, shows_the_run, some_parts}
 use Rattle.gc_rehearsed.proofs.Steps.{Holds, happens}
 
 -- Cutting what happened.
@@ -39,21 +40,17 @@ record Cut (hs : List Happening) (xs ys : List Act) (l m : Lines) : Type 0 where
   leads : LeadAll l front middle
   later : LeadAll middle back m
 
--- an empty list of acts isn't one with an act
-none_act : (x : Act) (xs : List Act) → [] ≡ x ∷ xs → ⊥
-none_act x xs e = cc
-
 -- what happened can be cut after its first acts
 cut : (hs : List Happening) (xs ys : List Act) (l m : Lines) → acts_of hs ≡ xs ++ ys → LeadAll l hs m → Cut hs xs ys l m
 cut hs [] ys l m e all = record { front = []; back = hs; middle = l; fronts = refl; backs = e; leads = refl; later = all }
-cut [] (x ∷ xs) ys l m e all = absurd (none_act x (xs ++ ys) e)
+cut [] (x ∷ xs) ys l m e all = absurd (nil_not_cons x (xs ++ ys) e)
 cut (Call act ∷ hs) (x ∷ xs) ys l m e all =
-    let rest = cut hs xs ys all.0 m (act_tail act x (acts_of hs) (xs ++ ys) e) all.2 in
+    let rest = cut hs xs ys all.0 m (cons_tail act x (acts_of hs) (xs ++ ys) e) all.2 in
     record {
       front = Call act ∷ rest.front;
       back = rest.back;
       middle = rest.middle;
-      fronts = ap (λ a. a ∷ acts_of rest.front) (act_head act x (acts_of hs) (xs ++ ys) e) ∙ ap (λ told. x ∷ told) rest.fronts;
+      fronts = ap (λ a. a ∷ acts_of rest.front) (cons_head act x (acts_of hs) (xs ++ ys) e) ∙ ap (λ told. x ∷ told) rest.fronts;
       backs = rest.backs;
       leads = (all.0, all.1, rest.leads);
       later = rest.later;
@@ -85,39 +82,40 @@ idle_first (h ∷ hs) b l n show steps more m done quiet holds all on =
 -- The row.
 
 -- stations in a row are in the field: there is a list of runs for each, and these are programs in a row
-record Goes (n : ℕ) (u : UnderWay SceneState) (xs : List Station) : Type 0 where
+record AreInTheField (n : ℕ) (u : UnderWay SceneState) (xs : List Station) : Type 0 where
   runs : List (List (Run SceneState))
   each : length runs ≡ length xs
-  field : AreInARow scene_ends KeepsAReply scene_kept n u (programs xs runs)
+  field : AreInARow scene_ends RetainedReads scene_kept n u (programs xs runs)
 
 -- few stations in a row end while they synchronize, also if fewer were killed before the first
 fewer : (k n : ℕ) (xs : List Station) → k ≤ n → FewEndUnbegun n xs → FewEndUnbegun k xs
 fewer k n [] less few = tt
 fewer k n (x ∷ xs) less few = let one = fewer_one (has_begun_at_its_end x) in
     ((let f = few.0 in omega (arith, one, f)), fewer (unbegun k (has_begun_at_its_end x)) (unbegun n (has_begun_at_its_end x)) xs one few.1) where
+      -- one station more counts for at most as many after the lower number
       fewer_one : (b : Bool) → unbegun k b ≤ unbegun n b
       fewer_one true = omega arith
       fewer_one false = omega (arith, less)
 
--- stations one after the other over a rehearsed line are in the field (`Goes`), over what is in flight
-row : (n : ℕ) (xs : List Station) (hs : List Happening) (before : List Act) (u : UnderWay SceneState) (l m : Lines) → AllByRecursion IsQuiet before → Holds u l → LeadAll l hs m
-    → acts_of hs ≡ before ++ acts_of_all xs → AllByRecursion RunsAndStops xs → FewEndUnbegun n xs → Goes n u xs
-row n [] hs before u l m quiet holds all told lives few = record { runs = []; each = refl; field = tt }
-row n (x ∷ xs) hs before u l m quiet holds all told lives few =
+-- stations one after the other over a rehearsed line are in the field (`AreInTheField`), over what is in flight
+goes_in_a_row : (n : ℕ) (xs : List Station) (hs : List Happening) (before : List Act) (u : UnderWay SceneState) (l m : Lines) → AllByRecursion IsQuiet before → Holds u l → LeadAll l hs m
+    → acts_of hs ≡ before ++ acts_of_all xs → AllByRecursion RunsAndStops xs → FewEndUnbegun n xs → AreInTheField n u xs
+goes_in_a_row n [] hs before u l m quiet holds all told lives few = record { runs = []; each = refl; field = tt }
+goes_in_a_row n (x ∷ xs) hs before u l m quiet holds all told lives few =
     let s = opening x.plan x.scope in
     let ps = parts_of x.plan x.commands s x.acts in
     let done = has_begun_at_its_end x in
     let one = cut hs before (acts_of_all (x ∷ xs)) l m told all in
     let two = cut one.back x.acts (x.behind ++ acts_of_all xs) one.middle m one.backs one.later in
     let f : OnBegin (begins u) two.middle ps done =
-    idle_first one.front (begins u) l one.middle (first ps).turns (first ps).steps (others ps) two.middle done (subst (AllByRecursion IsQuiet) (sym one.fronts) quiet)
+    idle_first one.front (begins u) l one.middle (first_part ps).turns (first_part ps).steps (other_parts ps) two.middle done (subst (AllByRecursion IsQuiet) (sym one.fronts) quiet)
     (subst (λ v. Holds v l) (sym (begins_line u)) holds) one.leads
     (λ c h k. subst (λ acts. OnBegin c two.middle (parts_of x.plan x.commands s acts) (has_begun (after_all x.plan x.commands s acts).progress)) two.fronts
-    ((both x.plan x.commands lives.0.askable two.front two.middle).0 s c one.middle (fine_opening x.plan x.commands x.scope) refl refl k
+    ((shows_the_run x.plan x.commands lives.0.askable two.front two.middle).0 s c one.middle (invariant_opening x.plan x.commands x.scope) refl refl k
     word_small h two.leads (subst (Runs x.plan x.commands s) (sym two.fronts) lives.0.runs))) in
     let rs = run f.ts f.ms ∷ f.rs in
-    let killed = few_from n u (first ps).turns (first ps).steps (others ps) two.middle done f few.0 in
-    let rest = row (killed_over scene_ends n u rs) xs two.back x.behind (left_over scene_ends u rs) two.middle m lives.0.quiet f.later.holds two.later two.backs lives.1
+    let killed = few_from n u (first_part ps).turns (first_part ps).steps (other_parts ps) two.middle done f few.0 in
+    let rest = goes_in_a_row (killed_over scene_ends n u rs) xs two.back x.behind (left_over scene_ends u rs) two.middle m lives.0.quiet f.later.holds two.later two.backs lives.1
     (fewer (killed_over scene_ends n u rs) (unbegun n done) xs killed.1 few.1) in
     record {
       runs = rs ∷ rest.runs;
@@ -125,7 +123,7 @@ row n (x ∷ xs) hs before u l m quiet holds all told lives few =
       field = (
         record {
           runs = lives.0.runs;
-          shown = subst (AreShownAs scene_ends u rs) (sym (parted ps (some_parts x.plan x.commands s x.acts))) (f.show, f.see, f.later.show);
+          shown = subst (AreShownAs scene_ends u rs) (sym (first_and_others ps (some_parts x.plan x.commands s x.acts))) (f.show, f.see, f.later.show);
           possible = ((f.are, f.may), f.later.may);
           few = killed.0;
         },
@@ -138,17 +136,17 @@ none_row : (state : SceneState) → IsRow (none_under_way state)
 none_row state = record { low = 1; numbers = []; some = omega arith; rising = tt; few = tt; ids = refl }
 
 -- stations in a row over a rehearsed line are stations in a row in the field
-pub rows : RowsOfRehearsalsAreFaithful
-rows xs of_line lives few =
+pub rows_are_faithful : RowsOfRehearsalsAreFaithful
+rows_are_faithful xs of_line lives few =
     let c = of_line.1 in
     let u = none_under_way c.start in
     let good = none_kept c.start c.none in
     let start : Lines = record { up = []; down = []; state = c.start } in
-    let goes = row 0 xs c.happened [] u start of_line.0 tt (record { up = tt; down = refl; one = tt; state = refl; good = good }) c.leads c.acts_are lives few in
+    let goes = goes_in_a_row 0 xs c.happened [] u start of_line.0 tt (record { up = tt; down = refl; one = tt; state = refl; good = good }) c.leads c.acts_are lives few in
     record {
       start = c.start;
       runs = goes.runs;
       each = goes.each;
       field = goes.field;
-      faithful = in_a_row scene_ends KeepsAReply scene_kept scene_is_an_instrument.is u (record { ids = tt; good = good }) (none_row c.start) (programs xs goes.runs) goes.field;
+      faithful = in_a_row scene_ends RetainedReads scene_kept scene_is_an_instrument.instrument u (record { ids = tt; good = good }) (none_row c.start) (programs xs goes.runs) goes.field;
     }

@@ -11,11 +11,11 @@ use Rattle.gc_station.specs.Parts as part
 use Rattle.gc_world.specs.Clients.{by_ids}
 use Rattle.gc_world.proofs.Queues.{without_map, doubled_map, without_past, doubled_past}
 use Rattle.gc_field.specs.Begin as begin
-use Rattle.gc_field.specs.Begin.{Aged, Model, UnderWay, IsTurn, leaves, turns}
+use Rattle.gc_field.specs.Begin.{InFlight, Model, UnderWay, IsTurn, leaves, turns}
 use Rattle.gc_field.specs.Beginnings.{on_line}
 use Rattle.gc_field.specs.Field as field
 use Rattle.gc_field.specs.Field.{Move, IsPossible, moves, seen}
-use Rattle.gc_field.specs.SceneField.{KeepsAReply, scene_ends, scene_handed, scene_kept}
+use Rattle.gc_field.specs.SceneField.{RetainedReads, scene_ends, scene_handed, scene_kept}
 use Rattle.gc_field.specs.Shown.{shows}
 use Rattle.gc_field.specs.World as world
 use Rattle.gc_field.specs.World.{Numbered, Request, Wire, World, without, doubled, idle, up_delivered, with_up, with_down}
@@ -34,20 +34,20 @@ turn_of Start = begin.Anew
 turn_of (Change state) = begin.Changes state
 
 -- what a request that reaches the instrument leaves
-leaves_reach : (b : Model SceneState) (q : List (Aged Request)) → leaves (begin.reaches scene_ends b q) ≡ reached (leaves b) (map (λ x. x.line) q)
+leaves_reach : (b : Model SceneState) (q : List (InFlight Request)) → leaves (begin.reaches scene_ends b q) ≡ reached (leaves b) (map (λ x. x.line) q)
 leaves_reach b [] = refl
 leaves_reach b (x ∷ rest) =
     let h = scene_handed b.state x.line.id x.line.call in
-    let reply : Aged (List ℕ) = record { old = x.old; line = h.reply } in
-    ap (λ d. flow (map (λ y. y.line) rest) d h.state) (map-append (λ (y : Aged (List ℕ)). y.line) b.down (reply ∷ []))
+    let reply : InFlight (List ℕ) = record { old = x.old; line = h.reply } in
+    ap (λ d. flow (map (λ y. y.line) rest) d h.state) (map-append (λ (y : InFlight (List ℕ)). y.line) b.down (reply ∷ []))
 
 -- a step leaves in flight what its turn leaves
 pub leaves_turn : (b : Model SceneState) (x : Step) → leaves (turns scene_ends b (turn_of x)) ≡ stepped (leaves b) x
 leaves_turn b Reach = leaves_reach b b.up
-leaves_turn b (Lose_up k) = ap (λ q. flow q (leaves b).down b.state) (sym (without_map (λ (y : Aged Request). y.line) k b.up))
-leaves_turn b (Repeat_up k) = ap (λ q. flow q (leaves b).down b.state) (sym (doubled_map (λ (y : Aged Request). y.line) k b.up))
-leaves_turn b (Lose_down k) = ap (λ q. flow (leaves b).up q b.state) (sym (without_map (λ (y : Aged (List ℕ)). y.line) k b.down))
-leaves_turn b (Repeat_down k) = ap (λ q. flow (leaves b).up q b.state) (sym (doubled_map (λ (y : Aged (List ℕ)). y.line) k b.down))
+leaves_turn b (Lose_up k) = ap (λ q. flow q (leaves b).down b.state) (sym (without_map (λ (y : InFlight Request). y.line) k b.up))
+leaves_turn b (Repeat_up k) = ap (λ q. flow q (leaves b).down b.state) (sym (doubled_map (λ (y : InFlight Request). y.line) k b.up))
+leaves_turn b (Lose_down k) = ap (λ q. flow (leaves b).up q b.state) (sym (without_map (λ (y : InFlight (List ℕ)). y.line) k b.down))
+leaves_turn b (Repeat_down k) = ap (λ q. flow (leaves b).up q b.state) (sym (doubled_map (λ (y : InFlight (List ℕ)). y.line) k b.down))
 leaves_turn b Start = refl
 leaves_turn b (Change state) = refl
 
@@ -62,7 +62,7 @@ shows_none b Start = refl
 shows_none b (Change state) = refl
 
 -- a request that reaches the instrument answers no id
-left_reach : (b : Model SceneState) (q : List (Aged Request)) → (begin.reaches scene_ends b q).left ≡ b.left
+left_reach : (b : Model SceneState) (q : List (InFlight Request)) → (begin.reaches scene_ends b q).left ≡ b.left
 left_reach b [] = refl
 left_reach b (x ∷ rest) = refl
 
@@ -77,7 +77,7 @@ left_turn b Start = refl
 left_turn b (Change state) = refl
 
 -- the turn of a possible step is possible
-pub is_turn : (b : Model SceneState) (x : Step) → IsStep (leaves b) x → IsTurn KeepsAReply scene_kept b (turn_of x)
+pub is_turn : (b : Model SceneState) (x : Step) → IsStep (leaves b) x → IsTurn RetainedReads scene_kept b (turn_of x)
 is_turn b Reach is = tt
 is_turn b (Lose_up k) is = tt
 is_turn b (Repeat_up k) is = tt
@@ -149,7 +149,7 @@ client_move w Start = refl
 client_move w (Change state) = refl
 
 -- the move of a possible step is possible
-pub is_move : (w : World (ById Asked) SceneState) (x : Step) → IsStep (on_line w.wire) x → IsPossible KeepsAReply scene_kept w (move_of x)
+pub is_move : (w : World (ById Asked) SceneState) (x : Step) → IsStep (on_line w.wire) x → IsPossible RetainedReads scene_kept w (move_of x)
 is_move w Reach is = tt
 is_move w (Lose_up k) is = tt
 is_move w (Repeat_up k) is = tt

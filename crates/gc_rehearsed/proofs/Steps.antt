@@ -8,13 +8,13 @@ use Rattle.gc_catalogue.specs.declared.asked.Asked.{Asked}
 use Rattle.gc_catalogue.specs.declared.asked.Asked.TheVariants.{Table, Raw}
 use Rattle.gc_scenes.proofs.Turns.{one_reply}
 use Rattle.gc_scenes.specs.SceneReplying.{IsPlayed}
-use Rattle.gc_scenes.specs.SceneState.{SceneState, scene_restarted, at}
+use Rattle.gc_scenes.specs.SceneState.{SceneState, scene_restarted, at_moment}
 use Rattle.gc_world.specs.Order.{Each}
 use Rattle.gc_world.proofs.Options.{some_is}
 use Rattle.gc_world.proofs.Rows.{each_append}
 use Rattle.gc_field.specs.Begin.{UnderWay}
 use Rattle.gc_field.specs.Instrument.{MayBecome}
-use Rattle.gc_field.specs.SceneField.{KeepsAReply, scene_handed, scene_kept}
+use Rattle.gc_field.specs.SceneField.{RetainedReads, scene_handed, scene_kept}
 use Rattle.gc_field.specs.World.{Request, without, doubled}
 use Rattle.gc_field.proofs.SceneField.{scene_is_an_instrument}
 use Rattle.gc_rehearsal.specs.Carrying.{Lines, Happening, Call, Reaches, Restarts, Passes, Repeats_up, Repeats_down, Loses_up, Loses_down, Loses_front, HasReached, IsRepeated, Leads, MaySendOut}
@@ -47,18 +47,23 @@ pub record Holds (u : UnderWay SceneState) (l : Lines) : Type 0 where
   pub down : u.down ≡ l.down
   pub one : Each IsOne l.down
   pub state : u.state ≡ l.state
-  pub good : KeepsAReply u.state
+  pub good : RetainedReads u.state
 
 -- Steps.
 
 -- one step of the line or of the instrument
 pub data Step : Type 0 where
+  -- the request in front reaches the instrument
   Reach : Step
+  -- the request at this place of those in flight is lost (`Lose_up`), or comes twice (`Repeat_up`)
   Lose_up : (which : ℕ) → Step
   Repeat_up : (which : ℕ) → Step
+  -- the reply at this place of those in flight is lost (`Lose_down`), or comes twice (`Repeat_down`)
   Lose_down : (which : ℕ) → Step
   Repeat_down : (which : ℕ) → Step
+  -- the instrument restarts
   Start : Step
+  -- the instrument's state becomes this one
   Change : (state : SceneState) → Step
 
 -- what is in flight once the front request reached the instrument
@@ -83,7 +88,7 @@ all_stepped (x ∷ xs) u = all_stepped xs (stepped u x)
 
 -- a step is possible
 abbrev pub IsStep : UnderWay SceneState → Step → Type 0
-IsStep u (Change state) = MayBecome KeepsAReply scene_kept u.state state
+IsStep u (Change state) = MayBecome RetainedReads scene_kept u.state state
 IsStep u _ = Unit {0}
 
 -- each of these steps is possible when it comes
@@ -128,6 +133,7 @@ lines_twice (r ∷ rs) (x ∷ front) line all = let rest = lines_twice rs front 
 -- what the instrument of the field does with a request is what it does with the request's line
 played_as : (s : SceneState) (r : Request) (line : List ℕ) → IsLineOf r line → IsPlayed s line (scene_handed s r.id r.call).state (Some (scene_handed s r.id r.call).reply)
 played_as s r line is = subst (λ x. IsPlayed s x (scene_handed s r.id r.call).state (Some (scene_handed s r.id r.call).reply)) (sym is.text) (by_call r.call is.fits) where
+  -- the lemma above, by whether the call is one of the table
   by_call : (call : Asked) → IsAskedFitting call → IsPlayed s (asked_line (Some r.id) call) (scene_handed s r.id call).state (Some (scene_handed s r.id call).reply)
   by_call (Table call) fits = scene_is_an_instrument.calls s r.id call is.id fits
   by_call (Raw raw) fits = scene_is_an_instrument.raws s r.id raw is.id
@@ -146,7 +152,7 @@ lose_all_down up (x ∷ down) state = let rest = lose_all_down up down state in 
 
 -- a reply is sent on its way, or is lost at once, by steps
 sends_out : (rs : List Request) (down : List (List ℕ)) (s t : SceneState) (reply : List ℕ) (r : Request) (up' down' : List (List ℕ)) (t' : SceneState)
-    → reply ≡ (scene_handed s r.id r.call).reply → t' ≡ (scene_handed s r.id r.call).state → KeepsAReply (scene_handed s r.id r.call).state
+    → reply ≡ (scene_handed s r.id r.call).reply → t' ≡ (scene_handed s r.id r.call).state → RetainedReads (scene_handed s r.id r.call).state
     → AreLinesOf rs up' → Each IsOne down → MaySendOut down (Some reply) down'
     → Steps (flow (r ∷ rs) down s) (record { up = up'; down = down'; state = t' })
 sends_out rs down s t reply r up' down' t' is state good lines one (inl lost) =
@@ -180,20 +186,24 @@ sends_out rs down s t reply r up' down' t' is state good lines one (inr out) =
 reaches : (rs : List Request) (down : List (List ℕ)) (s : SceneState) (l m : Lines) → Holds (flow rs down s) l → HasReached l m → Steps (flow rs down s) m
 reaches [] down s l m holds h = absurd (subst (AreLinesOf []) h.front holds.up)
 reaches (r ∷ rs) down s l m holds h = by_reply h.reply refl where
+  -- the lines of the requests in flight are the front line and those behind it
   lines : AreLinesOf (r ∷ rs) (h.line ∷ m.up)
   lines = subst (AreLinesOf (r ∷ rs)) h.front holds.up
 
+  -- the instrument plays the front line
   played : IsPlayed s h.line m.state h.reply
   played = subst (λ x. IsPlayed x h.line m.state h.reply) (sym holds.state) h.played
 
+  -- what it makes of the line is what the instrument of the field makes of the request
   same : (m.state ≡ (scene_handed s r.id r.call).state) × (h.reply ≡ Some (scene_handed s r.id r.call).reply)
   same = one_reply s m.state (scene_handed s r.id r.call).state h.line h.reply (Some (scene_handed s r.id r.call).reply) played (played_as s r h.line lines.0)
 
+  -- the lemma above, by the reply: there is always one
   by_reply : (o : Option (List ℕ)) → h.reply ≡ o → Steps (flow (r ∷ rs) down s) m
   by_reply None e = let some = same.1 in let wrong : ⊥ = cc in absurd wrong
   by_reply (Some reply) e =
       sends_out rs down s s reply r m.up m.down m.state (some_is reply (scene_handed s r.id r.call).reply (sym e ∙ same.1)) same.0
-      (scene_is_an_instrument.is.stays_good s r.id r.call holds.good lines.0.id) lines.1 (subst (Each IsOne) (sym holds.down) holds.one)
+      (scene_is_an_instrument.instrument.stays_good s r.id r.call holds.good lines.0.id) lines.1 (subst (Each IsOne) (sym holds.down) holds.one)
       (subst (λ x. MaySendOut x (Some reply) m.down) (sym holds.down) (subst (λ x. MaySendOut l.down x m.down) e h.sends))
 
 -- what happens on the line, and is no act, happens by steps
@@ -204,13 +214,13 @@ happens u l m Restarts never holds leads = record {
   steps = Start ∷ [];
   are = (tt, tt);
   holds = subst (Holds (stepped u Start)) (sym leads)
-      (record { up = holds.up; down = holds.down; one = holds.one; state = ap scene_restarted holds.state; good = scene_is_an_instrument.is.starts_good u.state holds.good });
+      (record { up = holds.up; down = holds.down; one = holds.one; state = ap scene_restarted holds.state; good = scene_is_an_instrument.instrument.starts_good u.state holds.good });
 }
 happens u l m (Passes moment) never holds leads = record {
-  steps = Change (at moment u.state) ∷ [];
+  steps = Change (at_moment moment u.state) ∷ [];
   are = (scene_is_an_instrument.passes u.state moment holds.good, tt);
-  holds = subst (Holds (stepped u (Change (at moment u.state)))) (sym leads)
-      (record { up = holds.up; down = holds.down; one = holds.one; state = ap (at moment) holds.state; good = (scene_is_an_instrument.passes u.state moment holds.good).0 });
+  holds = subst (Holds (stepped u (Change (at_moment moment u.state)))) (sym leads)
+      (record { up = holds.up; down = holds.down; one = holds.one; state = ap (at_moment moment) holds.state; good = (scene_is_an_instrument.passes u.state moment holds.good).0 });
 }
 happens u l m Repeats_up never holds leads =
     let twice = leads.1 in
@@ -237,11 +247,13 @@ happens u l m Repeats_down never holds leads =
       holds = subst (Holds (stepped u (Repeat_down (length twice.0)))) (sym leads.2) (record {
         up = holds.up;
         down = new;
-        one = subst (Each IsOne) (ap (λ q. q ++ twice.1 ∷ []) (sym twice.2) ∙ sym twice.3) (each_append IsOne (twice.0 ++ twice.1 ∷ []) (twice.1 ∷ []) ones (last_one twice.0 twice.1 ones, tt));
+        one = subst (Each IsOne) (ap (λ q. q ++ twice.1 ∷ []) (sym twice.2) ∙ sym twice.3)
+            (each_append IsOne (twice.0 ++ twice.1 ∷ []) (twice.1 ∷ []) ones (last_one twice.0 twice.1 ones, tt));
         state = holds.state;
         good = holds.good;
       });
     } where
+      -- the last of lines that are each one line is one line
       last_one : (front : List (List ℕ)) (line : List ℕ) → Each IsOne (front ++ line ∷ []) → IsOne line
       last_one [] line each = each.0
       last_one (x ∷ front) line each = last_one front line each.1
@@ -250,7 +262,8 @@ happens u l m Loses_up never holds leads =
     record {
       steps = lost.0;
       are = lost.1;
-      holds = subst (λ v. Holds v m) (sym lost.2) (subst (Holds (flow [] u.down u.state)) (sym leads) (record { up = tt; down = holds.down; one = holds.one; state = holds.state; good = holds.good }));
+      holds = subst (λ v. Holds v m) (sym lost.2)
+          (subst (Holds (flow [] u.down u.state)) (sym leads) (record { up = tt; down = holds.down; one = holds.one; state = holds.state; good = holds.good }));
     }
 happens u l m Loses_down never holds leads =
     let lost = lose_all_down u.up u.down u.state in

@@ -1,5 +1,5 @@
--- What holds of a station over a rehearsed line, this project's own. A rehearsed line is one in memory with the instrument of a scene
--- at its end; which lines it loses, repeats and holds is of no account.
+-- What holds of a station over a rehearsed line, this project's own. A rehearsed line is one in memory with the instrument of a
+-- scene at its end; nothing is assumed of which lines it loses, repeats and holds.
 use Rattle.std.specs.Prelude.{◌≡◌, ℕ, ◌+◌, ◌≤◌, Bool, true, false, List, [], ◌∷◌, ◌++◌, length}
 use Rattle.std.specs.List.{AllByRecursion}
 use Rattle.gc_catalogue.specs.Asked.{IsAskedFitting}
@@ -16,30 +16,31 @@ use Rattle.gc_field.specs.Begin.{UnderWay, none_under_way}
 use Rattle.gc_field.specs.Beginnings.{Run}
 use Rattle.gc_field.specs.InARow.{AreFaithful, AreInARow, Program}
 use Rattle.gc_field.specs.Runs.{IsInField, IsRunFaithful}
-use Rattle.gc_field.specs.SceneField.{KeepsAReply, scene_ends, scene_kept}
+use Rattle.gc_field.specs.SceneField.{RetainedReads, scene_ends, scene_kept}
 use Rattle.gc_rehearsal.specs.Carrying.{IsOfLine, IsQuiet}
 
 -- the numbers of what a command asks lie in their types, whenever it is sent
 abbrev pub IsAskable : Task → Type 0
 IsAskable task = (utc : ℕ) → IsAskedFitting (call_at task utc)
 
--- those of each of these commands do
+-- each of these commands is `IsAskable`
 abbrev pub AreAskable : List Task → Type 0
 AreAskable commands = AllByRecursion IsAskable commands
 
--- a run of a station over a rehearsed line, from its first act on, is one in the field: something happens on the line of the field,
--- and to an instrument, that shows the station what it saw; and the run is faithful
+-- a run of a station over a rehearsed line, from its first act on, is one in the field: there are runs on a line of the field, over
+-- the instrument of a scene, that show the station what it saw; and the run is faithful
 pub record IsRehearsed (plan : Plan) (commands : List Task) (scope : Scope) (acts : List Act) : Type 0 where
   pub under_way : UnderWay SceneState
   pub runs : List (Run SceneState)
-  pub field : IsInField scene_ends KeepsAReply scene_kept plan commands scope acts under_way runs
-  pub faithful : IsRunFaithful scene_ends KeepsAReply scene_kept plan commands scope acts under_way runs
+  pub field : IsInField scene_ends RetainedReads scene_kept plan commands scope acts under_way runs
+  pub faithful : IsRunFaithful scene_ends RetainedReads scene_kept plan commands scope acts under_way runs
 
 -- each run of a station over a rehearsed line on which nothing was in flight before is one in the field, and so faithful: nothing is
 -- asked of the line, of the station's moments or of its plan
 abbrev pub RehearsalsAreFaithful : Type 0
 RehearsalsAreFaithful =
-    (plan : Plan) (commands : List Task) (scope : Scope) (acts : List Act) → IsOfLine acts → AreAskable commands → Runs plan commands (opening plan scope) acts → IsRehearsed plan commands scope acts
+    (plan : Plan) (commands : List Task) (scope : Scope) (acts : List Act) → IsOfLine acts → AreAskable commands → Runs plan commands (opening plan scope) acts
+    → IsRehearsed plan commands scope acts
 
 -- Stations one after the other.
 
@@ -68,8 +69,8 @@ abbrev pub programs : List Station → List (List (Run SceneState)) → List (Pr
 programs (x ∷ xs) (rs ∷ rss) = record { plan = x.plan; commands = x.commands; scope = x.scope; acts = x.acts; runs = rs } ∷ programs xs rss
 programs _ _ = []
 
--- how many stations in a row were killed while they synchronized, where `n` were before one that had synchronized at its end
--- (`true`), or hadn't
+-- how many stations in a row were killed while they synchronized, counted after one that had synchronized at its end (`true`) or
+-- hadn't, where `n` were killed before it
 abbrev pub unbegun : ℕ → Bool → ℕ
 unbegun n true = 0
 unbegun n false = n + 1
@@ -89,8 +90,8 @@ pub record AreRehearsed (xs : List Station) : Type 0 where
   pub start : SceneState
   pub runs : List (List (Run SceneState))
   pub each : length runs ≡ length xs
-  pub field : AreInARow scene_ends KeepsAReply scene_kept 0 (none_under_way start) (programs xs runs)
-  pub faithful : AreFaithful scene_ends KeepsAReply scene_kept (none_under_way start) (programs xs runs)
+  pub field : AreInARow scene_ends RetainedReads scene_kept 0 (none_under_way start) (programs xs runs)
+  pub faithful : AreFaithful scene_ends RetainedReads scene_kept (none_under_way start) (programs xs runs)
 
 -- stations that run one after the other over a rehearsed line, which keeps what it likes of what is in flight at a close, are
 -- stations in a row in the field, and so each is faithful, as long as fewer than six in a row end while they synchronize

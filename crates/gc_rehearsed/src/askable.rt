@@ -1,19 +1,19 @@
-//! That a station's commands can be asked: the numbers of what each asks lie in their types. Rust says so of every `Task`; here it is said
-//! for the laws.
+//! That a station's commands can be asked: the numbers of what each asks lie in their types, as Rust's types say of every `Task`.
+//! The functions here do nothing else: their contracts say it for the laws.
 
 ghost use Rattle.gc_rehearsed.specs.Rehearsals.{AreAskable, IsAskable};
 
 use gc_catalogue::encode_asked;
 use gc_texts::Task;
 
-// The numbers of what a command asks lie in their types, whenever it goes out.
+// The numbers of what a command asks lie in their types, at whatever moment it is sent.
 fn is_askable(task: &Task)
     ensures { IsAskable task.entry.now }
 {
     let _ = encode_asked(None, &task.command.call);
 }
 
-/// The numbers of what each of these commands asks lie in their types, whenever it goes out.
+/// The numbers of what each of these commands asks lie in their types, at whatever moment it is sent.
 pub fn are_askable(commands: &[Task])
     ensures { AreAskable commands.now }
 {

@@ -2,8 +2,7 @@
 -- the client, the marks and the records belong together (`Sound`), and the phase fits them (`Placed`). An act is one call on the
 -- link, with its result. A mark says which command an outstanding request is of, or `None` of a null procedure; a piece is the
 -- bytes that one read gave.
-use Rattle.std.proofs.Common.{◌≡◌, ℕ, ◌<◌, inl, ◌&&◌, ◌||◌, Bool, true, false, not, List, [], ◌∷◌, length, if◌then◌else◌, nat_eq, nat_lt, Option, Some, None, refl, sym, ap, subst}
-use Rattle.std.proofs.lemmas.Bool.{eqb-true}
+use Rattle.std.proofs.Common.{◌≡◌, ℕ, ◌<◌, inl, ◌&&◌, ◌||◌, Bool, true, false, not, List, [], ◌∷◌, length, if◌then◌else◌, nat_lt, Option, Some, None, refl, sym, ap, subst}
 use Rattle.gc_lines.specs.Frames.{rest_behind}
 use Rattle.gc_catalogue.specs.declared.asked.Asked.{Asked}
 use Rattle.gc_client.specs.Rule.{ById, heard, hears, id_settled, place_in}
@@ -28,6 +27,7 @@ use Rattle.gc_station.proofs.Invariant.{is_bare, is_done, says_done}
 use Rattle.gc_station.proofs.Midway.{Placed, SoundAt, PlacedAt, Mid, sound_moment, sound_settles}
 use Rattle.gc_station.proofs.Walk.{asked_along, closed_along}
 use Rattle.gc_station.proofs.Ticking.{not_both}
+use Rattle.gc_station.proofs.Facts.{finished_so}
 
 -- the phase after a failure for `why`, closing if there is a connection (`up`) and over if there is none, is `Placed`, unless
 -- `why` is `Done`
@@ -62,18 +62,11 @@ again_placed why left unsent rest marks true some other none finished = record {
 again_placed why left unsent rest marks false true other none finished = record { empty = λ e. none; finished = λ e. cc }
 again_placed why left unsent rest marks false false other none finished = record { empty = λ e. cc; finished = λ e. absurd (not_both (is_done why) e other) }
 
--- if a run is finished no cycle and no command is left
-all_sent : (n : ℕ) (p : Progress) → is_finished n p ≡ true → (p.left ≡ 0) × (p.unsent ≡ 0)
-all_sent n p e = three (nat_eq p.left 0) (nat_eq p.unsent 0) (nat_eq n 0) e refl refl where
-  -- the lemma above, by the three tests of `is_finished`
-  three : (a b c : Bool) → (a && b && c) ≡ true → nat_eq p.left 0 ≡ a → nat_eq p.unsent 0 ≡ b → (p.left ≡ 0) × (p.unsent ≡ 0)
-  three true true c e x y = (eqb-true p.left 0 x, eqb-true p.unsent 0 y)
-  three true false c e x y = cc
-  three false b c e x y = cc
-
 -- if no bytes of a line are kept, the progress after a lost connection or a failed attempt, not for `Done`, is `PlacedAt`
 placed_again : (plan : Plan) (n : ℕ) (why : Cause) (p : Progress) (rest : List ℕ) (marks : List (Option Mark)) → is_done why ≡ false → rest ≡ [] → PlacedAt (after_failure plan n why p) rest marks
-placed_again plan n why p rest marks other none = again_placed why p.left p.unsent rest marks (is_finished n p) (is_spared plan why p || nat_lt 0 p.tries) other none (all_sent n p)
+placed_again plan n why p rest marks other none =
+    again_placed why p.left p.unsent rest marks (is_finished n p) (is_spared plan why p || nat_lt 0 p.tries) other none
+    (λ finished. let it = finished_so n p finished in (it.0, it.1))
 
 -- an attempt to connect preserves `Mid`
 pub mid_open : (plan : Plan) (commands : List Task) (s : Model) (act : Act) → s.progress.phase ≡ Down → Mid plan commands s → Mid plan commands (after_open plan s act)

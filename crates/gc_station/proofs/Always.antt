@@ -26,16 +26,16 @@ module _ (plan : Plan) (commands : List Task) where
 
   -- a fact P of the progress, and of the acts so far, holds after each run from s on, if it holds at s, and each act of a run
   -- keeps it
-  pub always_far : (s : Model) (P : Progress → List Act → Type 0)
+  pub always_of_progress : (s : Model) (P : Progress → List Act → Type 0)
       → ((done : List Act) (act : Act) → Runs plan commands s done → Performs commands (after_all plan commands s done) (action_at plan (after_all plan commands s done)) act
       → P (after_all plan commands s done).progress done
       → P (moved plan commands (action_at plan (after_all plan commands s done)) (with_progress turned (after_all plan commands s done)) act).progress (done ++ act ∷ []))
       → P s.progress [] → (acts : List Act) → Runs plan commands s acts → P (after_all plan commands s acts).progress acts
-  always_far s P step start acts runs = always s (λ (done : List Act) (t : Model). P t.progress done) far start acts runs where
+  always_of_progress s P step start acts runs = always s (λ (done : List Act) (t : Model). P t.progress done) progress_kept start acts runs where
     -- each act keeps P of the model's progress: the loss of what is outstanding, at the end of an act, changes no progress
-    far : (done : List Act) (act : Act) → Runs plan commands s done → Performs commands (after_all plan commands s done) (action_at plan (after_all plan commands s done)) act
+    progress_kept : (done : List Act) (act : Act) → Runs plan commands s done → Performs commands (after_all plan commands s done) (action_at plan (after_all plan commands s done)) act
         → P (after_all plan commands s done).progress done → P (after plan commands (after_all plan commands s done) act).progress (done ++ act ∷ [])
-    far done act runs o p =
+    progress_kept done act runs o p =
         let t = after_all plan commands s done in
         subst (λ (q : Progress). P q (done ++ act ∷ [])) (sym (ended_progress (moved plan commands (action_at plan t) (with_progress turned t) act))) (step done act runs o p)
 

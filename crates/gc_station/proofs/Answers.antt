@@ -1,14 +1,13 @@
 -- Each record is of its very request: an answer came after it, with its id, and in time; a late reply came too late; and a lost
 -- one is lost for a cause. Each act preserves `IsHonest` (of `Waiting`): the outstanding requests were put among the acts, and the
 -- records are true. An act is one call on the link, with its result.
-use Rattle.std.proofs.Common.{◌≡◌, inl, inr, ℕ, ◌+◌, ◌%◌, ◌<◌, ◌≤◌, Bool, true, false, List, [], ◌∷◌, ◌++◌, length, drop, if◌then◌else◌, Option, Some, None, nat_eq, refl, sym, ap, ◌∙◌, subst, arith, append_assoc, append-nil, length-append}
+use Rattle.std.proofs.Common.{◌≡◌, inl, inr, ℕ, ◌+◌, ◌%◌, ◌<◌, ◌≤◌, Bool, true, false, List, [], ◌∷◌, ◌++◌, length, drop, if◌then◌else◌, Option, Some, None, refl, sym, ap, ◌∙◌, subst, arith, append_assoc, append-nil, length-append}
 use Rattle.std.specs.List.{AllByRecursion}
-use Rattle.std.proofs.lemmas.Bool.Decides.{nat_tests}
 use Rattle.gc_catalogue.specs.declared.asked.Asked.{Asked}
 use Rattle.gc_catalogue.specs.declared.asked.Asked.TheVariants.{Table}
 use Rattle.gc_catalogue.specs.declared.call.Call.TheVariants.{NullProc}
 use Rattle.gc_client.specs.declared.window.TheConstants.{WINDOW}
-use Rattle.gc_client.specs.Rule.{ById, id_send, pending_of, sends}
+use Rattle.gc_client.specs.Rule.{ById, pending_of, sends}
 use Rattle.gc_client.proofs.Digits.{sending}
 use Rattle.gc_texts.specs.declared.wish.Wish.{Wish}
 use Rattle.gc_texts.specs.Tasks.{call_at}
@@ -28,11 +27,11 @@ use Rattle.gc_station.specs.Deciding.{later}
 use Rattle.gc_station.specs.Quiet.{IsAsking}
 use Rattle.gc_station.specs.Progressing.{turned, moment_noted, reckoned_early, cycle_begun, skipped, attempts_left_out, skipped_at, cleared, null_sent, renewed, sent, request_noted, loses_all, setup_sent}
 use Rattle.gc_station.specs.Marks.{commands_in}
-use Rattle.gc_station.specs.Reasons.{IsFor}
+use Rattle.gc_station.specs.Reasons.{HoldsBefore}
 use Rattle.gc_station.specs.Records.{Record}
 use Rattle.gc_station.specs.Runs.{state_after}
 use Rattle.gc_station.specs.Model.{Model, opening, action_at, waiting_of, mark_next, place_next, request_text, null_text, first_text, with_progress, is_heard, client_sent, asks_null, asks_first, asks_next, is_chained_after_next, others_after_next, is_chained_after, others_after, after_pass, with_passes, passes_next, with_listed, skip_listed, with_records, skips, skips_first, after_clock, after_put, after_open, after_read, Puts, ReadsClock, IsOpening, IsReading, Performs, moved, Runs, cycle_length, place_out, mark_setup, text_or_null, asks_or_null, asks_setup}
-use Rattle.gc_station.proofs.EachRun.{fine_stood}
+use Rattle.gc_station.proofs.EachRun.{invariant_holds}
 use Rattle.gc_station.proofs.Outs.{prepare_cycle, prepare_place, send_cycle, send_place, sending_asks}
 use Rattle.gc_station.proofs.Facts.{action_for}
 use Rattle.gc_station.proofs.Invariant.{Invariant}
@@ -43,6 +42,7 @@ use Rattle.gc_station.proofs.Losing.{losing_honest}
 use Rattle.gc_station.proofs.Waiting.{Stayed, Waits, IsJustified, Honest, IsHonest, Marked, asked_more, asked_as, asked_among, stays_still, more_true, still, moment_told}
 use Rattle.gc_station.proofs.Pieces.{piece_honest}
 use Rattle.gc_station.specs.Scopes.{Scope}
+use Rattle.gc_station.proofs.Midway.{client_behind}
 
 -- A request is sent.
 
@@ -56,13 +56,6 @@ puts_still bytes act o d = absurd o
 -- id is counted on, and one more request is outstanding
 abbrev pub with_sent : ById Asked → ℕ → Asked → ℕ → ById Asked
 with_sent c target call deadline = record { next = (c.next + 1) % 8; waiting = c.waiting ++ pending_of target call deadline ∷ [] }
-
--- if the window has room, a send isn't refused, and leaves the client `with_sent`
-pub client_is : (c : ById Asked) (target : ℕ) (call : Asked) (deadline : ℕ) → length c.waiting < 7 → client_sent c (sends WINDOW c target call deadline) ≡ with_sent c target call deadline
-client_is c target call deadline room = ap (λ (b : Bool). client_sent c (id_send c target call deadline b)) (not_full (length c.waiting) 7 room) where
-  -- a number below 7 isn't 7
-  not_full : (n w : ℕ) → n < w → nat_eq n w ≡ false
-  not_full n w low = grind (arith, nat_tests, low)
 
 -- an act that sends a request preserves `Honest`: one more request is outstanding, after the others
 sent_honest : (plan : Plan) (commands : List Task) (scope : Scope) (acts : List Act) (act : Act) (c : ById Asked) (marks : List (Option Mark))
@@ -149,7 +142,7 @@ first_honest plan commands scope acts act next_is_chained behind (task ∷ other
     let d : later s.progress.moment.elapsed task.deadline ≡ deadline_after plan commands scope acts = ap (λ (left : List Task). later s.progress.moment.elapsed (first_deadline left)) (sym at) in
     subst (λ (c : ById Asked). Honest plan commands scope (acts ++ act ∷ []) (acts ++ act ∷ []) c (s.marks ++ Some mark ∷ []) s.records)
     (sym (ap (λ (e : ℕ). client_sent s.client (sends WINDOW s.client task.command.target (call_at task mark.sent) e)) d
-    ∙ client_is s.client task.command.target (call_at task mark.sent) (deadline_after plan commands scope acts) room))
+    ∙ client_behind s.client task.command.target (call_at task mark.sent) (deadline_after plan commands scope acts) room))
     (command_honest plan commands scope acts act task.command.target (call_at task mark.sent) mark fine h is room puts)
 
 -- an act that sends a null procedure after commands preserves `IsHonest`
@@ -162,7 +155,7 @@ null_honest : (plan : Plan) (commands : List Task) (scope : Scope) (acts : List 
 null_honest plan commands scope acts act f fine h room asks puts =
     let s = state_after plan commands scope acts in
     let d = later s.progress.moment.elapsed plan.deadline in
-    subst (λ (c : ById Asked). Honest plan commands scope (acts ++ act ∷ []) (acts ++ act ∷ []) c (s.marks ++ None ∷ []) s.records) (sym (client_is s.client 0 (Table NullProc) d room))
+    subst (λ (c : ById Asked). Honest plan commands scope (acts ++ act ∷ []) (acts ++ act ∷ []) c (s.marks ++ None ∷ []) s.records) (sym (client_behind s.client 0 (Table NullProc) d room))
     (sent_honest plan commands scope acts act s.client s.marks s.records 0 (Table NullProc) d None (puts_still _ act puts) fine.digit room fine.paired
     (asked_here plan commands scope acts act 0 (Table NullProc) d None fine room asks (λ m its. absurd (never m its)) (λ m its. absurd (never m its)) puts) h) where
       -- a null procedure has no mark
@@ -183,7 +176,7 @@ setup_honest plan commands scope acts act (task ∷ others) mark fine h is room 
     let d : later s.progress.moment.elapsed task.deadline ≡ deadline_after plan commands scope acts = ap (λ (left : List Task). later s.progress.moment.elapsed (first_deadline left)) (sym at) in
     subst (λ (c : ById Asked). Honest plan commands scope (acts ++ act ∷ []) (acts ++ act ∷ []) c (s.marks ++ Some mark ∷ []) s.records)
     (sym (ap (λ (e : ℕ). client_sent s.client (sends WINDOW s.client task.command.target (call_at task mark.sent) e)) d
-    ∙ client_is s.client task.command.target (call_at task mark.sent) (deadline_after plan commands scope acts) room))
+    ∙ client_behind s.client task.command.target (call_at task mark.sent) (deadline_after plan commands scope acts) room))
     (command_honest plan commands scope acts act task.command.target (call_at task mark.sent) mark fine h is room puts)
 
 -- `IsHonest` holds after a write, whole or cut, if it holds after a whole one
@@ -262,7 +255,7 @@ close_still act is d = subst (λ (x : Act). ReadsBefore d x) (sym is) tt
 -- each act preserves `IsHonest`, before what is outstanding is lost
 moved_honest : (plan : Plan) (commands : List Task) (scope : Scope) (acts : List Act) (action : Action) (act : Act) (tail : List Record)
     → Invariant plan commands (state_after plan commands scope acts) → IsHonest plan commands scope acts (acts ++ act ∷ []) (state_after plan commands scope acts)
-    → action_at plan (state_after plan commands scope acts) ≡ action → IsFor plan (state_after plan commands scope acts).progress (waiting_of (state_after plan commands scope acts)) action
+    → action_at plan (state_after plan commands scope acts) ≡ action → HoldsBefore plan (state_after plan commands scope acts).progress (waiting_of (state_after plan commands scope acts)) action
     → Performs commands (state_after plan commands scope acts) action act
     → (state_after plan commands scope (acts ++ act ∷ [])).records ≡ (moved plan commands action (with_progress turned (state_after plan commands scope acts)) act).records ++ tail
     → IsHonest plan commands scope (acts ++ act ∷ []) (acts ++ act ∷ []) (moved plan commands action (with_progress turned (state_after plan commands scope acts)) act)
@@ -322,7 +315,7 @@ honest_along plan commands scope done (act ∷ acts) h runs =
     let s = state_after plan commands scope done in
     let t = moved plan commands (action_at plan s) (with_progress turned s) act in
     let next = after_all-append plan commands (opening plan scope) done (act ∷ []) in
-    let fine = fine_stood plan commands scope done in
+    let fine = invariant_holds plan commands scope done in
     let lost = losing_records (loses_all t.progress) t in
     let ends = ap (λ (x : Model). x.records) next ∙ lost.1 in
     let prior : IsHonest plan commands scope done (done ++ act ∷ []) s = record { waiting = h.waiting; written = more_true plan commands scope done act s.records runs.0 h.written } in

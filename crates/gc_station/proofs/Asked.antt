@@ -17,7 +17,7 @@ use Rattle.gc_station.specs.Beginnings.{lines_heard_at, unanswered_after}
 use Rattle.gc_station.specs.Begun.{AreBegun, heard_in}
 use Rattle.gc_station.specs.Deciding.{has_begun, is_none_left}
 use Rattle.gc_station.specs.Parts as part
-use Rattle.gc_station.specs.Parts.{Part, acting, beginning, doing, ends_part, in_front, joined, nothing, parts_of}
+use Rattle.gc_station.specs.Parts.{Part, beginning, doing, in_front, parts_of}
 use Rattle.gc_station.specs.Progressing.{is_over, loses_all}
 use Rattle.gc_station.specs.Model.{Performs, Runs, Model, after, is_heard, lines_completed, mark_next, action_at, place_next, mark_setup}
 use Rattle.gc_station.proofs.Beginnings.{word_after as word_left, word_anew}
@@ -112,9 +112,9 @@ nil_both [] ys e f = f
 nil_both (x ∷ xs) ys e f = cc
 
 -- the first of these parts has no turns
-abbrev pub FirstHasNone : List Part → Type 0
-FirstHasNone [] = Unit {0}
-FirstHasNone (p ∷ ps) = p.turns ≡ []
+abbrev pub FirstHasNoTurns : List Part → Type 0
+FirstHasNoTurns [] = Unit {0}
+FirstHasNoTurns (p ∷ ps) = p.turns ≡ []
 
 -- what two lists of turns leave of a word is what the second leaves of what the first left
 left_both : (word : List ℕ) (xs ys : List part.Turn) → unanswered_after word (heard_in (xs ++ ys)) ≡ unanswered_after (unanswered_after word (heard_in xs)) (heard_in ys)
@@ -197,7 +197,7 @@ module _ (plan : Plan) (commands : List Task) where
   -- Once it has synchronized there are no turns.
 
   -- parts of which the first has no turns stay so with a part without turns before it
-  none_in_front : (p : Part) (b : Bool) (ps : List Part) → p.turns ≡ [] → (b ≡ false → FirstHasNone ps) → FirstHasNone (in_front p b ps)
+  none_in_front : (p : Part) (b : Bool) (ps : List Part) → p.turns ≡ [] → (b ≡ false → FirstHasNoTurns ps) → FirstHasNoTurns (in_front p b ps)
   none_in_front p true ps e h = e
   none_in_front p false [] e h = e
   none_in_front p false (q ∷ ps) e h = nil_both p.turns q.turns e (h refl)
@@ -228,10 +228,10 @@ module _ (plan : Plan) (commands : List Task) where
   none_doing s o act = refl
 
   -- the first part of acts, once the station has synchronized, has no turns
-  pub no_turns : (s : Model) (acts : List Act) → has_begun s.progress ≡ true → FirstHasNone (parts_of plan commands s acts)
+  pub no_turns : (s : Model) (acts : List Act) → has_begun s.progress ≡ true → FirstHasNoTurns (parts_of plan commands s acts)
   no_turns s [] e = refl
   no_turns s (act ∷ acts) e =
       let t = after plan commands s act in
       let o = action_at plan s in
-      subst (λ b. FirstHasNone (in_front (if b then doing plan commands s o act else beginning s o act) (b && loses_all t.progress) (parts_of plan commands t acts))) (sym e)
+      subst (λ b. FirstHasNoTurns (in_front (if b then doing plan commands s o act else beginning s o act) (b && loses_all t.progress) (parts_of plan commands t acts))) (sym e)
       (none_in_front (doing plan commands s o act) (loses_all t.progress) (parts_of plan commands t acts) (none_doing s o act) (λ f. no_turns t acts (goes_begun t f)))

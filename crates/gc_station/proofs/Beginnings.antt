@@ -19,14 +19,14 @@ use Rattle.gc_station.specs.Beginnings.{lines_heard_at, lines_heard, unanswered_
 use Rattle.gc_station.specs.Deciding.{has_begun, is_none_left}
 use Rattle.gc_station.specs.Progressing.{turned}
 use Rattle.gc_station.specs.Quiet.{IsAsking}
-use Rattle.gc_station.specs.Reasons.{IsFor}
+use Rattle.gc_station.specs.Reasons.{HoldsBefore}
 use Rattle.gc_station.specs.Runs.{state_after}
 use Rattle.gc_station.specs.Scopes.{Scope}
 use Rattle.gc_station.specs.Model.{Model, opening, action_at, waiting_of, with_progress, Performs, moved, after, after_all, Runs}
 use Rattle.gc_station.proofs.Always.{progress_behind}
 use Rattle.gc_station.proofs.Closings.{runs_split}
 use Rattle.gc_station.proofs.Counts.{ended_progress}
-use Rattle.gc_station.proofs.EachRun.{fine_stood}
+use Rattle.gc_station.proofs.EachRun.{invariant_holds}
 use Rattle.gc_station.proofs.Facts.{action_for}
 use Rattle.gc_station.proofs.Going.{after_all-append, runs_behind}
 use Rattle.gc_station.proofs.Quiets.{asks_only}
@@ -59,8 +59,8 @@ lines_answered word (line ∷ others) ids h = left_answered word line others ids
 
 module _ (plan : Plan) (commands : List Task) where
   -- a synchronizing station doesn't resynchronize
-  begins_not : (s : Model) (o : Action) → IsFor plan s.progress (waiting_of s) o → has_begun s.progress ≡ false → o ≡ actions.Renew → ⊥
-  begins_not s o needs begins is = let it = subst (λ (x : Action). IsFor plan s.progress (waiting_of s) x) is needs in not_both (has_begun s.progress) it.1 begins
+  begins_not : (s : Model) (o : Action) → HoldsBefore plan s.progress (waiting_of s) o → has_begun s.progress ≡ false → o ≡ actions.Renew → ⊥
+  begins_not s o needs begins is = let it = subst (λ (x : Action). HoldsBefore plan s.progress (waiting_of s) x) is needs in not_both (has_begun s.progress) it.1 begins
 
   -- while the station synchronizes, the ids that an act leaves unanswered are those that its lines leave
   pub word_after : (s : Model) (act : Act) → Performs commands s (action_at plan s) act → has_begun s.progress ≡ false
@@ -104,7 +104,7 @@ module _ (plan : Plan) (commands : List Task) where
       (one_before s act ids (has_begun s.progress) refl runs.0 (none_before u acts runs.1 begun))
 
 -- if a command or a null procedure after commands is sent, the station has synchronized
-asking_begun : (plan : Plan) (s : Model) (o : Action) → IsAsking o → IsFor plan s.progress (waiting_of s) o → has_begun s.progress ≡ true
+asking_begun : (plan : Plan) (s : Model) (o : Action) → IsAsking o → HoldsBefore plan s.progress (waiting_of s) o → has_begun s.progress ≡ true
 asking_begun plan s actions.Prepare asks needs = needs.1
 asking_begun plan s actions.Send asks needs = needs.1
 asking_begun plan s actions.Flush asks needs = needs.1
@@ -133,7 +133,7 @@ module _ (plan : Plan) (commands : List Task) (scope : Scope) (acts : List Act) 
   -- procedure of the first id left, and the act's lines answer ids in order
   of_beginning : Performs commands here (action_at plan here) act → has_begun here.progress ≡ false → IsSynchronizing plan commands scope acts act
   of_beginning obeys begins =
-      let fine = fine_stood plan commands scope acts in
+      let fine = invariant_holds plan commands scope acts in
       let new = fine.begins begins in
       let needs = action_for plan here.progress (waiting_of here) in
       record {
@@ -150,14 +150,15 @@ module _ (plan : Plan) (commands : List Task) (scope : Scope) (acts : List Act) 
       let far = progress_behind plan commands scope acts act in
       let on = after_all-append plan commands (opening plan scope) acts (act ∷ []) in
       let it = renews_only plan commands here (action_at plan here) act obeys begun (ap has_begun (sym far) ∙ begins) in
-      let full = renews_needs plan commands here (action_at plan here) (fine_stood plan commands scope acts) it.0 (action_for plan here.progress (waiting_of here)) in
+      let full = renews_needs plan commands here (action_at plan here) (invariant_holds plan commands scope acts) it.0 (action_for plan here.progress (waiting_of here)) in
       record {
         resynchronizes = record { renews = it.0; moment = it.1; told = it.2; seven = full.0; given_up = full.1 };
         word = ap (λ (x : Model). x.progress.word) on ∙ word_anew plan commands here act obeys begun (ap (λ (x : Model). has_begun x.progress) (sym on) ∙ begins);
-        client = (fine_stood plan commands scope (acts ++ act ∷ [])).begins begins;
+        client = (invariant_holds plan commands scope (acts ++ act ∷ [])).begins begins;
       }
 
-  -- each act of a run is as `SynchronizesInOrder` says: `IsSynchronizing` while the station synchronizes, and `IsResynchronizing` if it resynchronizes
+  -- each act of a run is as `SynchronizesInOrder` says: `IsSynchronizing` while the station synchronizes, and
+  -- `IsResynchronizing` if it resynchronizes
   pub begins_so : Runs plan commands (opening plan scope) (acts ++ act ∷ []) → SynchronizesInOrder plan commands scope acts act
   begins_so runs =
       let obeys = (runs_split plan commands (opening plan scope) acts [] act runs).1 in

@@ -8,24 +8,25 @@ use Rattle.std.proofs.lemmas.Bool.{ltb-true}
 use Rattle.std.proofs.lemmas.List.{length-map, length-append}
 use Rattle.gc_catalogue.specs.Asked.{is_of_table}
 use Rattle.gc_catalogue.specs.declared.asked.Asked.{Asked}
-use Rattle.gc_client.specs.OneForOne.{Course, Step, Send, Hear, Expire, Restart, begun, sent_on, goes, course, of_settled, of_pending, IsOneForOne}
-use Rattle.gc_client.specs.Rule.{ById, Sending, Settlement, Answered, Late, Lost, heard, hears, id_settled, lost, met, settle, sends, restarts}
+use Rattle.gc_client.specs.OneForOne.{Course, Step, Send, Hear, Expire, Restart, begun, sent_on, course_after, course, of_settled, of_pending, IsOneForOne}
+use Rattle.gc_client.specs.Rule.{ById, Sending, Settlement, Lost, heard, hears, id_settled, lost, settled_by_line, settle, sends, restarts}
 use Rattle.gc_client.specs.declared.pending.Pending.{Pending}
 use Rattle.gc_client.specs.declared.window.TheConstants.{WINDOW}
 use Rattle.gc_client.proofs.OneForOne.{one_for_one}
 use Rattle.gc_station.specs.Behind.{IsReplied, IsNearTheTable}
 use Rattle.gc_station.specs.Model.{is_some_of_table, ends_with_table}
-use Rattle.gc_station.specs.Progressing.{one_more}
+use Rattle.gc_station.specs.Progressing.{one_more_in_window}
 use Rattle.gc_station.proofs.Booking.{stepped, course_client}
 use Rattle.gc_station.proofs.Facts.{either}
-use Rattle.gc_station.proofs.Meets.{settle_length}
-use Rattle.gc_station.proofs.Lists.{get_more}
+use Rattle.gc_station.proofs.Meets.{settle_length, met_lost}
+use Rattle.gc_station.proofs.Lists.{get_more, get_behind}
 
 -- Steps.
 
--- how many requests are after the last call of the table that a reply ended, after one step of this client; `b` were before
+-- the count after one step of this client, if it was `b` before: how many requests were sent after the last call of the table that
+-- a reply ended
 abbrev pub behind_step : ById Asked → ℕ → Step Asked → ℕ
-behind_step c b (Send target call deadline) = one_more b
+behind_step c b (Send target call deadline) = one_more_in_window b
 behind_step c b (Hear line) = if ends_with_table (hears c line (heard line)).settlements then length (hears c line (heard line)).client.waiting else b
 behind_step c b (Expire now) = b
 behind_step c b Restart = b
@@ -35,22 +36,15 @@ abbrev pub behind_by : ById Asked → ℕ → List (Step Asked) → ℕ
 behind_by c b [] = b
 behind_by c b (step ∷ steps) = behind_by (stepped c step) (behind_step c b step) steps
 
--- a request near the end of a course is a call of the table that a reply ended: at most `b` was sent after it. Or no more than
--- `b` was sent
+-- at most `b` requests were sent in all; or at most `b` were sent after some call of the table that a reply ended
 abbrev pub IsWithin : Course Asked → ℕ → Type 0
 IsWithin x b =
     (length x.sent ≤ b)
     ⊎ ((k : ℕ) × (s : Settlement Asked) × (slice_get x.settlements k ≡ Some s) × IsReplied s × (length x.sent ≤ suc k + b))
 
--- where fewer than seven are counted, `IsWithin` holds of as many
+-- if the count `b` is below seven, `IsWithin` holds of it
 abbrev pub Counts : Course Asked → ℕ → Type 0
 Counts x b = b < 7 → IsWithin x b
-
--- an element of the list after is at its place after the list before it
-pub get_behind : {A : Type 0} (xs ys : List A) (n k : ℕ) → n ≡ length xs + k → slice_get (xs ++ ys) n ≡ slice_get ys k
-get_behind [] ys n k e = let same : n ≡ k = omega (arith, e) in ap (slice_get ys) same
-get_behind (x ∷ xs) ys zero k e = absurd (omega (arith, e))
-get_behind (x ∷ xs) ys (suc n) k e = get_behind xs ys n k (omega (arith, e))
 
 -- an element that is there lies below the length
 get_low : {A : Type 0} (xs : List A) (k : ℕ) (x : A) → slice_get xs k ≡ Some x → k < length xs
@@ -59,21 +53,17 @@ get_low (y ∷ xs) zero x e = omega arith
 get_low (y ∷ xs) (suc k) x e = let low = get_low xs k x e in omega (arith, low)
 
 -- a request that a reply meets isn't lost
-met_kept : (p : Pending Asked) (line : List ℕ) → (met p line).outcome ≡ Lost → ⊥
-met_kept p line e = by_test p.given_up e where
-  -- the lemma above, whether the request timed out (`true`)
-  by_test : (b : Bool) → (if b then Late else Answered line) ≡ Lost → ⊥
-  by_test true e = cc
-  by_test false e = cc
+met_not_lost : (p : Pending Asked) (line : List ℕ) → (settled_by_line p line).outcome ≡ Lost → ⊥
+met_not_lost p line e = met_lost p.given_up line e
 
 -- the last of the requests that a reply settles isn't lost
-settle_kept : (k : ℕ) (line : List ℕ) (ps : List (Pending Asked)) (x : Settlement Asked) → k < length ps → slice_get (settle k line ps) k ≡ Some x → x.outcome ≡ Lost → ⊥
-settle_kept k line [] x low e lost = absurd (omega (arith, low))
-settle_kept zero line (p ∷ ps) x low e lost = met_kept p line (ap (λ (y : Settlement Asked). y.outcome) same ∙ lost) where
+last_settled_not_lost : (k : ℕ) (line : List ℕ) (ps : List (Pending Asked)) (x : Settlement Asked) → k < length ps → slice_get (settle k line ps) k ≡ Some x → x.outcome ≡ Lost → ⊥
+last_settled_not_lost k line [] x low e lost = absurd (omega (arith, low))
+last_settled_not_lost zero line (p ∷ ps) x low e lost = met_not_lost p line (ap (λ (y : Settlement Asked). y.outcome) same ∙ lost) where
   -- the only settlement is that of the first request
-  same : met p line ≡ x
+  same : settled_by_line p line ≡ x
   same = cc
-settle_kept (suc k) line (p ∷ ps) x low e lost = settle_kept k line ps x (omega (arith, low)) e lost
+last_settled_not_lost (suc k) line (p ∷ ps) x low e lost = last_settled_not_lost k line ps x (omega (arith, low)) e lost
 
 -- a list of settlements ends with one that is of the table and was replied to
 record EndsReplied (xs : List (Settlement Asked)) : Type 0 where
@@ -104,25 +94,25 @@ ends_replied c line (Some id) e = by_test _ _ refl e where
         last = last.0;
         some = omega (arith, many);
         at = last.1;
-        replied = (last.2, settle_kept k line c.waiting last.0 low (ap (slice_get xs) (sym at) ∙ last.1));
+        replied = (last.2, last_settled_not_lost k line c.waiting last.0 low (ap (slice_get xs) (sym at) ∙ last.1));
       }
 
--- a course that is one for one has as many settlements and outstanding requests as it sent
-one_many : (x : Course Asked) → IsOneForOne x → length x.settlements + length x.client.waiting ≡ length x.sent
-one_many x one =
+-- a course that is one for one sent as many requests as it has settlements and outstanding requests
+settled_and_waiting : (x : Course Asked) → IsOneForOne x → length x.settlements + length x.client.waiting ≡ length x.sent
+settled_and_waiting x one =
     let a = length-append (map of_settled x.settlements) (map of_pending x.client.waiting) in
     let b = length-map x.settlements of_settled in
     let d = length-map x.client.waiting of_pending in
     let e = ap length one in
     omega (arith, a, b, d, e)
 
--- more settlements, and no fewer after, preserve `IsWithin`
+-- `IsWithin` is preserved if settlements are added, whatever client is left
 within_more : (x : Course Asked) (more : List (Settlement Asked)) (client : ById Asked) (b : ℕ) → IsWithin x b
     → IsWithin (record { sent = x.sent; settlements = x.settlements ++ more; client = client }) b
 within_more x more client b (inl few) = inl few
 within_more x more client b (inr (k, s, at, replied, near)) = inr (k, s, get_more x.settlements more k s at, replied, near)
 
--- one more request, and one more after, preserves `IsWithin`
+-- `IsWithin` is preserved by one more request, with the count one higher
 within_sent : (x : Course Asked) (target : ℕ) (call : Asked) (o : Option (Sending (ById Asked))) (b : ℕ) → IsWithin x b → IsWithin (sent_on x target call o) (b + 1)
 within_sent x target call None b (inl few) = inl (omega (arith, few))
 within_sent x target call None b (inr (k, s, at, replied, near)) = inr (k, s, at, replied, omega (arith, near))
@@ -131,8 +121,8 @@ within_sent x target call (Some sending) b (inl few) =
 within_sent x target call (Some sending) b (inr (k, s, at, replied, near)) =
     let more = length-append x.sent (record { target = target; call = call } ∷ []) in inr (k, s, at, replied, omega (arith, more, near))
 
--- `one_more` of a number below seven is that number and 1
-one_more_is : (b : ℕ) → one_more b < 7 → (b < 7) × (one_more b ≡ b + 1)
+-- if `one_more_in_window` of a number is below seven, so is the number, and the former is the number and 1
+one_more_is : (b : ℕ) → one_more_in_window b < 7 → (b < 7) × (one_more_in_window b ≡ b + 1)
 one_more_is b low = either (λ n. n < 7 → (b < 7) × (n ≡ b + 1)) (b + 1) b (nat_lt b WINDOW) (λ e l. (ltb-true b WINDOW e, refl))
     (λ e l. let high : 7 ≤ b = ltb_not b e in absurd (omega (arith, l, high))) low where
       -- if the test whether b is below seven fails, it isn't
@@ -140,37 +130,37 @@ one_more_is b low = either (λ n. n < 7 → (b < 7) × (n ≡ b + 1)) (b + 1) b 
       ltb_not n e = grind (arith, e)
 
 -- a step preserves `Counts`, if the course is one for one after it
-counts_step : (x : Course Asked) (b : ℕ) (step : Step Asked) → IsOneForOne (goes WINDOW x step) → Counts x b → Counts (goes WINDOW x step) (behind_step x.client b step)
+counts_step : (x : Course Asked) (b : ℕ) (step : Step Asked) → IsOneForOne (course_after WINDOW x step) → Counts x b → Counts (course_after WINDOW x step) (behind_step x.client b step)
 counts_step x b (Send target call deadline) one h low =
     let is = one_more_is b low in
-    subst (λ (n : ℕ). IsWithin (goes WINDOW x (Send target call deadline)) n) (sym is.1) (within_sent x target call (sends WINDOW x.client target call deadline) b (h is.0))
+    subst (λ (n : ℕ). IsWithin (course_after WINDOW x (Send target call deadline)) n) (sym is.1) (within_sent x target call (sends WINDOW x.client target call deadline) b (h is.0))
 counts_step x b (Hear line) one h low = by_test (ends_with_table (hears x.client line (heard line)).settlements) refl low where
   -- the lemma above, by whether the last request that the line settles is a call of the table (`t`)
   by_test : (t : Bool) → ends_with_table (hears x.client line (heard line)).settlements ≡ t → (if t then length (hears x.client line (heard line)).client.waiting else b) < 7
-      → IsWithin (goes WINDOW x (Hear line)) (if t then length (hears x.client line (heard line)).client.waiting else b)
+      → IsWithin (course_after WINDOW x (Hear line)) (if t then length (hears x.client line (heard line)).client.waiting else b)
   by_test false e low = let y = hears x.client line (heard line) in within_more x y.settlements y.client b (h low)
   by_test true e low =
       let y = hears x.client line (heard line) in
       let last = ends_replied x.client line (heard line) e in
       let k = length x.settlements + (length y.settlements - 1) in
       let many = length-append x.settlements y.settlements in
-      let all = one_many (goes WINDOW x (Hear line)) one in
+      let all = settled_and_waiting (course_after WINDOW x (Hear line)) one in
       inr (k, last.last, get_behind x.settlements y.settlements k (length y.settlements - 1) refl ∙ last.at, last.replied, omega (arith, many, all, last.some))
 counts_step x b (Expire now) one h low = h low
 counts_step x b Restart one h low = within_more x (restarts x.client).settlements (restarts x.client).client b (h low)
 
--- the course after two lists of steps is that after the second, from that after the first on
-pub course_append : (x : Course Asked) (first later : List (Step Asked)) → course WINDOW x (first ++ later) ≡ course WINDOW (course WINDOW x first) later
-course_append x [] later = refl
-course_append x (step ∷ first) later = course_append (goes WINDOW x step) first later
+-- the course from x over the steps `first` and then `later` is that over `later` from where `first` lead
+pub course_append : (width : ℕ) (first later : List (Step Asked)) (x : Course Asked) → course width x (first ++ later) ≡ course width (course width x first) later
+course_append width [] later x = refl
+course_append width (step ∷ first) later x = course_append width first later (course_after width x step)
 
 -- the course of a new client after these steps
 abbrev pub reached : List (Step Asked) → Course Asked
 reached steps = course WINDOW begun steps
 
--- one step more
-reached_more : (done : List (Step Asked)) (step : Step Asked) → reached (done ++ step ∷ []) ≡ goes WINDOW (reached done) step
-reached_more done step = course_append begun done (step ∷ [])
+-- the course of a new client after one step more is its course before that step, and then the step
+reached_more : (done : List (Step Asked)) (step : Step Asked) → reached (done ++ step ∷ []) ≡ course_after WINDOW (reached done) step
+reached_more done step = course_append WINDOW done (step ∷ []) begun
 
 -- steps preserve `Counts`, after the steps that were done
 pub counts_steps : (done steps : List (Step Asked)) (b : ℕ) → Counts (reached done) b → Counts (reached (done ++ steps)) (behind_by (reached done).client b steps)
@@ -179,15 +169,15 @@ counts_steps done (step ∷ steps) b h =
     let x = reached done in
     let next = done ++ step ∷ [] in
     let more = reached_more done step in
-    let one : IsOneForOne (goes WINDOW x step) = subst (λ (y : Course Asked). IsOneForOne y) more (one_for_one WINDOW next) in
+    let one : IsOneForOne (course_after WINDOW x step) = subst (λ (y : Course Asked). IsOneForOne y) more (one_for_one WINDOW next) in
     let here : Counts (reached next) (behind_step x.client b step) = subst (λ (y : Course Asked). Counts y (behind_step x.client b step)) (sym more) (counts_step x b step one h) in
     let there = counts_steps next steps (behind_step x.client b step) here in
-    let client : (reached next).client ≡ stepped x.client step = ap (λ (y : Course Asked). y.client) more ∙ goes_client x step in
+    let client : (reached next).client ≡ stepped x.client step = ap (λ (y : Course Asked). y.client) more ∙ client_of_step x step in
     subst (λ (l : List (Step Asked)). Counts (reached l) (behind_by x.client b (step ∷ steps))) (append_assoc done (step ∷ []) steps)
     (subst (λ (c : ById Asked). Counts (reached (next ++ steps)) (behind_by c (behind_step x.client b step) steps)) client there) where
-      -- a step leaves the same client, whatever was sent and settled before
-      goes_client : (x : Course Asked) (step : Step Asked) → (goes WINDOW x step).client ≡ stepped x.client step
-      goes_client x step = course_client (step ∷ []) x
+      -- the client of a course after a step is its client before it with that step made, whatever was sent and settled before
+      client_of_step : (x : Course Asked) (step : Step Asked) → (course_after WINDOW x step).client ≡ stepped x.client step
+      client_of_step x step = course_client (step ∷ []) x
 
 -- where `Counts` holds with fewer than seven after, one of the last seven requests is a call of the table that a reply ended
 pub near_so : (x : Course Asked) (b : ℕ) → Counts x b → b < 7 → IsNearTheTable x

@@ -5,16 +5,16 @@
 use Rattle.std.proofs.Common.{◌≡◌, ℕ, zero, suc, ◌+◌, ◌<◌, ◌≤◌, Bool, true, false, List, [], ◌∷◌, ◌++◌, length, map, drop, Option, Some, None, refl, sym, ◌∙◌, ap, subst, arith, append_assoc, append-nil}
 use Rattle.std.specs.Prelude.{slice_get}
 use Rattle.std.specs.List.{AllByRecursion}
-use Rattle.std.proofs.lemmas.List.{length-map, length-append, map-append}
+use Rattle.std.proofs.lemmas.List.{length-map, length-append, length-drop, map-append}
 use Rattle.std.proofs.lemmas.Bool.{ne_eqb}
 use Rattle.gc_catalogue.specs.declared.answer.Answer.{Answer}
 use Rattle.gc_catalogue.specs.declared.answer.Reading.{Reading}
 use Rattle.gc_catalogue.specs.declared.asked.Asked.{Asked}
 use Rattle.gc_catalogue.specs.declared.answer.Reading.TheVariants as kind
-use Rattle.gc_client.specs.OneForOne.{Wanted, Course, Step, Send, Hear, Expire, Restart, sent_on, goes, course, of_settled, of_pending}
+use Rattle.gc_client.specs.OneForOne.{Wanted, Course, Step, Send, Hear, Expire, Restart, sent_on, course_after, course, of_settled, of_pending}
 use Rattle.gc_client.specs.Rule.{ById, Outcome, Answered, Late, Lost, Sending, Settlement, fresh, heard, hears, expires, lost, id_send, sends}
 use Rattle.gc_client.proofs.OneForOne.{heard_parts, lost_parts}
-use Rattle.gc_texts.specs.Codes.{are_accepted}
+use Rattle.gc_texts.specs.Codes.{lists_code}
 use Rattle.gc_texts.specs.Nears.{is_elsewhere}
 use Rattle.gc_texts.specs.Zeroed.{as_zero}
 use Rattle.gc_texts.specs.declared.quality.Quality.{Quality}
@@ -26,8 +26,10 @@ use Rattle.gc_station.specs.declared.mark.Mark.{Mark}
 use Rattle.gc_station.specs.Marks.{value_as, warned_as, refused_as, answer_as, end_of, record_of, records_of}
 use Rattle.gc_station.specs.Records.{Record}
 use Rattle.gc_station.specs.Model.{client_sent}
-use Rattle.gc_station.specs.Parts.{Turn, Part, only_turns, only, nothing, joined, asking, IsOf, AreOf, went_out, sent_with, sent_of, timeless}
-use Rattle.gc_station.proofs.Records.{records-none}
+use Rattle.gc_station.specs.Parts.{Turn, Part, only_turns, only_steps, nothing, joined, asking, MarkAsks, MarksAsk, went_out, sent_with, sent_of, timeless}
+use Rattle.gc_texts.proofs.Cutting.{some_injective}
+use Rattle.gc_station.proofs.Records.{records-none, records-append}
+use Rattle.gc_station.proofs.Lists.{drop_append}
 
 -- Steps.
 
@@ -37,7 +39,7 @@ course_at c = record { sent = []; settlements = []; client = c }
 
 -- this client after one step
 abbrev pub stepped : ById Asked → Step Asked → ById Asked
-stepped c s = (goes 7 (course_at c) s).client
+stepped c s = (course_after 7 (course_at c) s).client
 
 -- this client after these steps, in order
 abbrev pub client_after : ById Asked → List (Step Asked) → ById Asked
@@ -47,12 +49,12 @@ client_after c (s ∷ ss) = client_after (stepped c s) ss
 -- what these steps settle, from this client on
 abbrev pub settled_by : ById Asked → List (Step Asked) → List (Settlement Asked)
 settled_by c [] = []
-settled_by c (s ∷ ss) = (goes 7 (course_at c) s).settlements ++ settled_by (stepped c s) ss
+settled_by c (s ∷ ss) = (course_after 7 (course_at c) s).settlements ++ settled_by (stepped c s) ss
 
 -- what these steps send, from this client on
 abbrev pub sent_by : ById Asked → List (Step Asked) → List (Wanted Asked)
 sent_by c [] = []
-sent_by c (s ∷ ss) = (goes 7 (course_at c) s).sent ++ sent_by (stepped c s) ss
+sent_by c (s ∷ ss) = (course_after 7 (course_at c) s).sent ++ sent_by (stepped c s) ss
 
 -- a client after two lists of steps is the one after the second, from the one after the first on
 pub client_append : (c : ById Asked) (first later : List (Step Asked)) → client_after c (first ++ later) ≡ client_after (client_after c first) later
@@ -63,15 +65,15 @@ client_append c (s ∷ first) later = client_append (stepped c s) first later
 pub settled_append : (c : ById Asked) (first later : List (Step Asked)) → settled_by c (first ++ later) ≡ settled_by c first ++ settled_by (client_after c first) later
 settled_append c [] later = refl
 settled_append c (s ∷ first) later =
-    ap (λ k. (goes 7 (course_at c) s).settlements ++ k) (settled_append (stepped c s) first later)
-    ∙ sym (append_assoc (goes 7 (course_at c) s).settlements (settled_by (stepped c s) first) (settled_by (client_after (stepped c s) first) later))
+    ap (λ k. (course_after 7 (course_at c) s).settlements ++ k) (settled_append (stepped c s) first later)
+    ∙ sym (append_assoc (course_after 7 (course_at c) s).settlements (settled_by (stepped c s) first) (settled_by (client_after (stepped c s) first) later))
 
 -- two lists of steps send what the first sends and then what the second sends after it
 pub sent_append : (c : ById Asked) (first later : List (Step Asked)) → sent_by c (first ++ later) ≡ sent_by c first ++ sent_by (client_after c first) later
 sent_append c [] later = refl
 sent_append c (s ∷ first) later =
-    ap (λ k. (goes 7 (course_at c) s).sent ++ k) (sent_append (stepped c s) first later)
-    ∙ sym (append_assoc (goes 7 (course_at c) s).sent (sent_by (stepped c s) first) (sent_by (client_after (stepped c s) first) later))
+    ap (λ k. (course_after 7 (course_at c) s).sent ++ k) (sent_append (stepped c s) first later)
+    ∙ sym (append_assoc (course_after 7 (course_at c) s).sent (sent_by (stepped c s) first) (sent_by (client_after (stepped c s) first) later))
 
 -- a send adds the same to any course as to one at its start with the same client
 sent_parts : (x : Course Asked) (target : ℕ) (call : Asked) (o : Option (Sending (ById Asked)))
@@ -82,44 +84,38 @@ sent_parts x target call None = (sym (append-nil x.settlements), sym (append-nil
 sent_parts x target call (Some s) = (sym (append-nil x.settlements), refl, refl)
 
 -- a step adds the same to any course as to one at its start with the same client
-goes_parts : (x : Course Asked) (s : Step Asked)
-    → ((goes 7 x s).settlements ≡ x.settlements ++ (goes 7 (course_at x.client) s).settlements)
-    × ((goes 7 x s).sent ≡ x.sent ++ (goes 7 (course_at x.client) s).sent) × ((goes 7 x s).client ≡ stepped x.client s)
-goes_parts x (Send target call deadline) = sent_parts x target call (sends 7 x.client target call deadline)
-goes_parts x (Hear line) = (refl, sym (append-nil x.sent), refl)
-goes_parts x (Expire now) = (sym (append-nil x.settlements), sym (append-nil x.sent), refl)
-goes_parts x Restart = (refl, sym (append-nil x.sent), refl)
+step_parts : (x : Course Asked) (s : Step Asked)
+    → ((course_after 7 x s).settlements ≡ x.settlements ++ (course_after 7 (course_at x.client) s).settlements)
+    × ((course_after 7 x s).sent ≡ x.sent ++ (course_after 7 (course_at x.client) s).sent) × ((course_after 7 x s).client ≡ stepped x.client s)
+step_parts x (Send target call deadline) = sent_parts x target call (sends 7 x.client target call deadline)
+step_parts x (Hear line) = (refl, sym (append-nil x.sent), refl)
+step_parts x (Expire now) = (sym (append-nil x.settlements), sym (append-nil x.sent), refl)
+step_parts x Restart = (refl, sym (append-nil x.sent), refl)
 
 -- steps add to the settlements of a course what they settle from its client on
 pub course_settled : (steps : List (Step Asked)) (x : Course Asked) → (course 7 x steps).settlements ≡ x.settlements ++ settled_by x.client steps
 course_settled [] x = sym (append-nil x.settlements)
 course_settled (s ∷ ss) x =
-    let p = goes_parts x s in
-    let y = goes 7 x s in
-    let now = (goes 7 (course_at x.client) s).settlements in
+    let p = step_parts x s in
+    let y = course_after 7 x s in
+    let now = (course_after 7 (course_at x.client) s).settlements in
     course_settled ss y ∙ ap (λ l. l ++ settled_by y.client ss) p.0 ∙ ap (λ c. (x.settlements ++ now) ++ settled_by c ss) p.2 ∙ append_assoc x.settlements now (settled_by (stepped x.client s) ss)
 
 -- steps add to the requests of a course what they send from its client on
 pub course_sent : (steps : List (Step Asked)) (x : Course Asked) → (course 7 x steps).sent ≡ x.sent ++ sent_by x.client steps
 course_sent [] x = sym (append-nil x.sent)
 course_sent (s ∷ ss) x =
-    let p = goes_parts x s in
-    let y = goes 7 x s in
-    let now = (goes 7 (course_at x.client) s).sent in
+    let p = step_parts x s in
+    let y = course_after 7 x s in
+    let now = (course_after 7 (course_at x.client) s).sent in
     course_sent ss y ∙ ap (λ l. l ++ sent_by y.client ss) p.1 ∙ ap (λ c. (x.sent ++ now) ++ sent_by c ss) p.2 ∙ append_assoc x.sent now (sent_by (stepped x.client s) ss)
 
 -- the client of a course after steps is its client after them
 pub course_client : (steps : List (Step Asked)) (x : Course Asked) → (course 7 x steps).client ≡ client_after x.client steps
 course_client [] x = refl
-course_client (s ∷ ss) x = course_client ss (goes 7 x s) ∙ ap (λ c. client_after c ss) (goes_parts x s).2
+course_client (s ∷ ss) x = course_client ss (course_after 7 x s) ∙ ap (λ c. client_after c ss) (step_parts x s).2
 
 -- Lists.
-
--- what is left of two lists in a row without their first n elements, if the first list has n: that of the first, and the second
-drop_append : {A : Type 0} (n : ℕ) (xs ys : List A) → n ≤ length xs → drop n (xs ++ ys) ≡ drop n xs ++ ys
-drop_append zero xs ys le = refl
-drop_append (suc n) [] ys le = absurd (omega (arith, le))
-drop_append (suc n) (x ∷ xs) ys le = drop_append n xs ys (omega (arith, le))
 
 -- an empty list stays empty where elements are discarded
 drop_none : {A : Type 0} (n : ℕ) (xs : List A) → xs ≡ [] → drop n xs ≡ []
@@ -139,15 +135,6 @@ records_timeless reads utc [] ss = refl
 records_timeless reads utc (m ∷ ms) [] = refl
 records_timeless reads utc (None ∷ ms) (s ∷ ss) = records_timeless reads utc ms ss
 records_timeless reads utc (Some mark ∷ ms) (s ∷ ss) = ap (λ rs. record_of reads 0 mark s ∷ rs) (records_timeless reads utc ms ss)
-
--- the records of two lists of settlements are those of the first and, by the marks that are left, those of the second
-records_append : (reads : Asked → List ℕ → Reading) (ms : List (Option Mark)) (ss ts : List (Settlement Asked))
-    → records_of reads 0 ms (ss ++ ts) ≡ records_of reads 0 ms ss ++ records_of reads 0 (drop (length ss) ms) ts
-records_append reads [] [] ts = refl
-records_append reads [] (s ∷ ss) ts = refl
-records_append reads (m ∷ ms) [] ts = refl
-records_append reads (None ∷ ms) (s ∷ ss) ts = records_append reads ms ss ts
-records_append reads (Some mark ∷ ms) (s ∷ ss) ts = ap (λ rs. record_of reads 0 mark s ∷ rs) (records_append reads ms ss ts)
 
 -- settlements have the same records with more marks after those of their requests
 records_more : (reads : Asked → List ℕ → Reading) (ms more : List (Option Mark)) (ss : List (Settlement Asked)) → length ss ≤ length ms → records_of reads 0 (ms ++ more) ss ≡ records_of reads 0 ms ss
@@ -177,7 +164,7 @@ refused_sent false near zeroed line = refl
 -- a command that a reply in time ended was sent
 end_sent : (expected : Expected) (reading zeroed : Reading) (line : List ℕ) → went_out (answer_as expected reading zeroed line) ≡ true
 end_sent expected (kind.Value answer) zeroed line = value_sent quality.Fine (is_elsewhere expected.near answer) answer line
-end_sent expected (kind.Refused code) zeroed line = refused_sent (are_accepted expected.accepted code) expected.near zeroed line
+end_sent expected (kind.Refused code) zeroed line = refused_sent (lists_code expected.accepted code) expected.near zeroed line
 end_sent expected (kind.ComFault code) zeroed line = refl
 end_sent expected (kind.Unreadable fault) zeroed line = refl
 
@@ -196,7 +183,7 @@ records_sent reads utc (Some mark ∷ ms) (s ∷ ss) =
     let r = record_of reads utc mark s in
     ap (λ (b : Bool). sent_with b r (sent_of (records_of reads utc ms ss))) (ended_sent reads mark.expected s.call s.outcome) ∙ ap (λ rs. r ∷ rs) (records_sent reads utc ms ss)
 
--- the record r, if its command was sent (b), may be put before `xs` before `ys` are appended, or after
+-- to put the record r before `xs`, if its command was sent (b), and to append `ys`, comes to the same in either order
 sent_more : (b : Bool) (r : Record) (xs ys : List Record) → sent_with b r (xs ++ ys) ≡ sent_with b r xs ++ ys
 sent_more true r xs ys = refl
 sent_more false r xs ys = refl
@@ -211,31 +198,28 @@ pub sent_records : (reads : Asked → List ℕ → Reading) (rs : List Record) (
     → sent_of (rs ++ records_of reads utc ms ss) ≡ sent_of rs ++ records_of reads utc ms ss
 sent_records reads rs utc ms ss = sent_both rs (records_of reads utc ms ss) ∙ ap (λ xs. sent_of rs ++ xs) (records_sent reads utc ms ss)
 
--- `AreOf` says of marks and requests, one for one, that each request is of the command that its mark names. If it holds of `ms`
+-- `MarksAsk` says of marks and requests, one for one, that each request is of the command that its mark names. If it holds of `ms`
 -- and `xs`, and of `ns` and `ys`, it holds of both joined
-pub of_append : (commands : List Task) (ms ns : List (Option Mark)) (xs ys : List (Wanted Asked)) → AreOf commands ms xs → AreOf commands ns ys → AreOf commands (ms ++ ns) (xs ++ ys)
+pub of_append : (commands : List Task) (ms ns : List (Option Mark)) (xs ys : List (Wanted Asked)) → MarksAsk commands ms xs → MarksAsk commands ns ys → MarksAsk commands (ms ++ ns) (xs ++ ys)
 of_append commands [] ns [] ys h g = g
 of_append commands [] ns (x ∷ xs) ys h g = absurd h
 of_append commands (m ∷ ms) ns [] ys h g = absurd h
 of_append commands (m ∷ ms) ns (x ∷ xs) ys h g = (h.0, of_append commands ms ns xs ys h.1 g)
 
--- where `AreOf` holds, there are as many marks as requests
-pub of_length : (commands : List Task) (ms : List (Option Mark)) (xs : List (Wanted Asked)) → AreOf commands ms xs → length ms ≡ length xs
+-- where `MarksAsk` holds, there are as many marks as requests
+pub of_length : (commands : List Task) (ms : List (Option Mark)) (xs : List (Wanted Asked)) → MarksAsk commands ms xs → length ms ≡ length xs
 of_length commands [] [] h = refl
 of_length commands [] (x ∷ xs) h = absurd h
 of_length commands (m ∷ ms) [] h = absurd h
 of_length commands (m ∷ ms) (x ∷ xs) h = ap suc (of_length commands ms xs h.1)
 
 -- the request at a place asks what the mark at that place says
-pub of_at : (commands : List Task) (ms : List (Option Mark)) (xs : List (Wanted Asked)) (n : ℕ) (mark : Option Mark) → AreOf commands ms xs
-    → slice_get ms n ≡ Some mark → (a : Wanted Asked) × (slice_get xs n ≡ Some a) × IsOf commands mark a
+pub of_at : (commands : List Task) (ms : List (Option Mark)) (xs : List (Wanted Asked)) (n : ℕ) (mark : Option Mark) → MarksAsk commands ms xs
+    → slice_get ms n ≡ Some mark → (a : Wanted Asked) × (slice_get xs n ≡ Some a) × MarkAsks commands mark a
 of_at commands [] [] n mark h e = cc
 of_at commands [] (x ∷ xs) n mark h e = absurd h
 of_at commands (m ∷ ms) [] n mark h e = absurd h
-of_at commands (m ∷ ms) (x ∷ xs) zero mark h e = (x, refl, subst (λ (k : Option Mark). IsOf commands k x) (same m mark e) h.0) where
-  -- equal options have equal marks
-  same : (m mark : Option Mark) → Some m ≡ Some mark → m ≡ mark
-  same m mark e = cc
+of_at commands (m ∷ ms) (x ∷ xs) zero mark h e = (x, refl, subst (λ (k : Option Mark). MarkAsks commands k x) (some_injective m mark e) h.0)
 of_at commands (m ∷ ms) (x ∷ xs) (suc n) mark h e = of_at commands ms xs n mark h.1 e
 
 -- what holds of each record of a settlement, by its mark and the settlement, holds of all records of these settlements
@@ -255,7 +239,7 @@ pub record Wrote (reads : Asked → List ℕ → Reading) (commands : List Task)
   pub marks : ms' ≡ drop (length ss) (ms ++ more)
   pub count : length ss ≤ length (ms ++ more)
   pub records : map timeless rs' ≡ map timeless rs ++ records_of reads 0 (ms ++ more) ss
-  pub sent : AreOf commands more asks
+  pub sent : MarksAsk commands more asks
 
 -- where `Wrote` holds of settlements, and of others after them, it holds of all
 wrote_both : (reads : Asked → List ℕ → Reading) (commands : List Task) (ms ms1 ms2 more1 more2 : List (Option Mark)) (rs rs1 rs2 : List Record) (ss1 ss2 : List (Settlement Asked))
@@ -268,7 +252,7 @@ wrote_both reads commands ms ms1 ms2 more1 more2 rs rs1 rs2 ss1 ss2 asks1 asks2 
     let left : ms1 ++ more2 ≡ drop (length ss1) all = ap (λ xs. xs ++ more2) h.marks ∙ sym (drop_append (length ss1) (ms ++ more1) more2 h.count) ∙ ap (drop (length ss1)) whole in
     let many : length (ss1 ++ ss2) ≡ length ss1 + length ss2 = length-append ss1 ss2 in
     let first : length ms1 ≡ length (drop (length ss1) (ms ++ more1)) = ap length h.marks in
-    let dropped : length (ms ++ more1) ≡ length ss1 + length (drop (length ss1) (ms ++ more1)) = drop_length (length ss1) (ms ++ more1) h.count in
+    let dropped : length (ms ++ more1) ≡ length ss1 + length (drop (length ss1) (ms ++ more1)) = let d = length-drop (length ss1) (ms ++ more1) in omega (arith, d, h.count) in
     let lens1 : length (ms1 ++ more2) ≡ length ms1 + length more2 = length-append ms1 more2 in
     let lens2 : length all ≡ length (ms ++ more1) + length more2 = sym (ap length whole) ∙ length-append (ms ++ more1) more2 in
     record {
@@ -279,14 +263,9 @@ wrote_both reads commands ms ms1 ms2 more1 more2 rs rs1 rs2 ss1 ss2 asks1 asks2 
           ∙ append_assoc (map timeless rs) (records_of reads 0 (ms ++ more1) ss1) (records_of reads 0 (ms1 ++ more2) ss2)
           ∙ ap (λ l. map timeless rs ++ (records_of reads 0 (ms ++ more1) ss1 ++ records_of reads 0 l ss2)) left
           ∙ ap (λ l. map timeless rs ++ (l ++ records_of reads 0 (drop (length ss1) all) ss2)) (sym (records_more reads (ms ++ more1) more2 ss1 h.count) ∙ ap (λ l. records_of reads 0 l ss1) whole)
-          ∙ ap (λ l. map timeless rs ++ l) (sym (records_append reads all ss1 ss2));
+          ∙ ap (λ l. map timeless rs ++ l) (sym (records-append reads 0 all ss1 ss2));
       sent = of_append commands more1 more2 asks1 asks2 h.sent g.sent;
-    } where
-      -- a list of at least n elements has n more than are left without the first n
-      drop_length : {A : Type 0} (n : ℕ) (xs : List A) → n ≤ length xs → length xs ≡ n + length (drop n xs)
-      drop_length zero xs le = omega arith
-      drop_length (suc n) [] le = absurd (omega (arith, le))
-      drop_length (suc n) (x ∷ xs) le = let more = drop_length n xs (omega (arith, le)) in omega (arith, more)
+    }
 
 -- the steps of part `p` take client `c`, with its marks and records, to client `c'` with the last marks and records
 pub record Books (reads : Asked → List ℕ → Reading) (commands : List Task) (c : ById Asked) (ms : List (Option Mark)) (rs : List Record) (p : Part) (c' : ById Asked)
@@ -331,7 +310,7 @@ books_turns reads commands c ms rs turns = record { client = refl; wrote = wrote
 
 -- a moment, at which requests may time out, leaves the marks and the records
 pub books_moment : (reads : Asked → List ℕ → Reading) (commands : List Task) (c : ById Asked) (ms : List (Option Mark)) (rs : List Record) (now : ℕ)
-    → Books reads commands c ms rs (only (Expire now ∷ [])) (expires c now) ms rs
+    → Books reads commands c ms rs (only_steps (Expire now ∷ [])) (expires c now) ms rs
 books_moment reads commands c ms rs now = record { client = refl; wrote = wrote_none reads commands ms rs }
 
 -- settlements of the oldest requests (`ss`, also called `ts`) take out as many of the first marks, and add their records
@@ -357,7 +336,7 @@ few_settled ms c d ss paired parts =
 
 -- a line that the client hears: its settlements take out their marks, and add their records
 pub books_line : (reads : Asked → List ℕ → Reading) (commands : List Task) (c : ById Asked) (ms : List (Option Mark)) (rs : List Record) (utc : ℕ) (line : List ℕ) → length ms ≡ length c.waiting
-    → (let x = hears c line (heard line) in Books reads commands c ms rs (only (Hear line ∷ [])) x.client (drop (length x.settlements) ms) (rs ++ records_of reads utc ms x.settlements))
+    → (let x = hears c line (heard line) in Books reads commands c ms rs (only_steps (Hear line ∷ [])) x.client (drop (length x.settlements) ms) (rs ++ records_of reads utc ms x.settlements))
 books_line reads commands c ms rs utc line paired =
     let x = hears c line (heard line) in
     record {
@@ -368,7 +347,7 @@ books_line reads commands c ms rs utc line paired =
 
 -- the part of a restart of the client
 abbrev pub restarting : Part
-restarting = only (Restart ∷ [])
+restarting = only_steps (Restart ∷ [])
 
 -- a restart: all outstanding requests are lost, which removes their marks and adds their records
 pub books_restart : (reads : Asked → List ℕ → Reading) (commands : List Task) (c : ById Asked) (ms : List (Option Mark)) (rs : List Record) (utc : ℕ) → length ms ≡ length c.waiting
@@ -387,15 +366,15 @@ sends_with_room c target call deadline room = ap (λ b. id_send c target call de
 
 -- a send to `target` of `call` with the outcome `o` (the last argument; `None` if the client refuses it) takes the client c to
 -- `client_sent c o`, and adds its mark to the marks `ms`; the records `rs` stay
-abbrev pub SentAt : (Asked → List ℕ → Reading) → List Task → ById Asked → List (Option Mark) → List Record → ℕ → Asked → Option Mark → Option (Sending (ById Asked)) → Type 0
-SentAt reads commands c ms rs target call mark o =
+abbrev pub IsSendBooked : (Asked → List ℕ → Reading) → List Task → ById Asked → List (Option Mark) → List Record → ℕ → Asked → Option Mark → Option (Sending (ById Asked)) → Type 0
+IsSendBooked reads commands c ms rs target call mark o =
     ((sent_on (course_at c) target call o).client ≡ client_sent c o)
     × Wrote reads commands ms rs (mark ∷ []) ((sent_on (course_at c) target call o).settlements ++ []) ((sent_on (course_at c) target call o).sent ++ []) (ms ++ mark ∷ []) rs
 
--- `SentAt` holds of a send that isn't refused
+-- `IsSendBooked` holds of a send that isn't refused
 sent_some : (reads : Asked → List ℕ → Reading) (commands : List Task) (c : ById Asked) (ms : List (Option Mark)) (rs : List Record) (target : ℕ) (call : Asked)
-    (mark : Option Mark) (x : Sending (ById Asked)) → IsOf commands mark (record { target = target; call = call })
-    → SentAt reads commands c ms rs target call mark (Some x)
+    (mark : Option Mark) (x : Sending (ById Asked)) → MarkAsks commands mark (record { target = target; call = call })
+    → IsSendBooked reads commands c ms rs target call mark (Some x)
 sent_some reads commands c ms rs target call mark x is = (
   refl,
   record {
@@ -408,10 +387,10 @@ sent_some reads commands c ms rs target call mark x is = (
 
 -- a send if there is room: its mark is added, and the records stay
 pub books_send : (reads : Asked → List ℕ → Reading) (commands : List Task) (c : ById Asked) (ms : List (Option Mark)) (rs : List Record) (target : ℕ) (call : Asked)
-    (deadline : ℕ) (mark : Option Mark) → length c.waiting < 7 → IsOf commands mark (record { target = target; call = call })
+    (deadline : ℕ) (mark : Option Mark) → length c.waiting < 7 → MarkAsks commands mark (record { target = target; call = call })
     → Books reads commands c ms rs (asking target call deadline mark) (client_sent c (sends 7 c target call deadline)) (ms ++ mark ∷ []) rs
 books_send reads commands c ms rs target call deadline mark room is =
-    let h : SentAt reads commands c ms rs target call mark (sends 7 c target call deadline) =
-    subst (SentAt reads commands c ms rs target call mark) (sym (sends_with_room c target call deadline room))
+    let h : IsSendBooked reads commands c ms rs target call mark (sends 7 c target call deadline) =
+    subst (IsSendBooked reads commands c ms rs target call mark) (sym (sends_with_room c target call deadline room))
     (sent_some reads commands c ms rs target call mark (sending_of c target call deadline) is) in
     record { client = h.0; wrote = h.1 }

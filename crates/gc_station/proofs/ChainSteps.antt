@@ -12,12 +12,12 @@ use Rattle.gc_station.specs.declared.progress.Progress.{Progress}
 use Rattle.gc_links.specs.Acts.{Act, Told, Cut, Opened}
 use Rattle.gc_station.specs.Quiet.{KeepsOpen}
 use Rattle.gc_station.specs.Progressing.{failing}
-use Rattle.gc_station.specs.Model.{Model, requests_out, Performs, waiting_of, is_chained_after_next, is_chained_after, with_rest, moved, cycle_length}
+use Rattle.gc_station.specs.Model.{Model, commands_before, Performs, waiting_of, is_chained_after_next, is_chained_after, with_rest, moved, cycle_length}
 use Rattle.gc_station.proofs.Walk.{closed_along, is_prepared, is_sent, moved_changed, walk}
 
 -- What an act does to the place in a cycle, and to the chain that is there.
 
--- from p to q the next command stays the same, and so do the fields that chains look at, but that the chain may break
+-- from p to q the next command stays the same, and so do the fields on chains, except that the chain may be broken
 pub record Still (p q : Progress) : Type 0 where
   pub left : q.left ≡ p.left
   pub unsent : q.unsent ≡ p.unsent
@@ -87,12 +87,12 @@ moved_steps plan commands Renew s act = inl (still s.progress _ refl refl refl r
 moved_steps plan commands Open s Opened = still s.progress _ refl refl refl refl refl
 moved_steps plan commands Open s act = (broken s.progress _ refl refl refl refl refl).0
 moved_steps plan commands Prepare s (Cut bytes n) =
-    subst (λ (x : Model). Still s.progress (failing (cause.Write (requests_out plan commands s.progress) n) x.progress) × (x.progress.chain_unbroken ≡ false)) (is_prepared plan commands s)
+    subst (λ (x : Model). Still s.progress (failing (cause.Write (commands_before plan commands s.progress) n) x.progress) × (x.progress.chain_unbroken ≡ false)) (is_prepared plan commands s)
     (broken s.progress _ refl refl refl refl refl)
 moved_steps plan commands Prepare s act =
     subst (λ (x : Model). Still s.progress x.progress × (x.progress.chain_unbroken ≡ false)) (is_prepared plan commands s) (broken s.progress _ refl refl refl refl refl)
 moved_steps plan commands Send s (Cut bytes n) =
-    subst (λ (x : Model). Next (is_chained_after_next commands s.progress) s.progress (failing (cause.Write (requests_out plan commands s.progress) n) x.progress)) (is_sent plan commands s)
+    subst (λ (x : Model). Next (is_chained_after_next commands s.progress) s.progress (failing (cause.Write (commands_before plan commands s.progress) n) x.progress)) (is_sent plan commands s)
     (record { left = refl; unsent = refl; missed = refl; is_bound = refl })
 moved_steps plan commands Send s act =
     subst (λ (x : Model). Next (is_chained_after_next commands s.progress) s.progress x.progress) (is_sent plan commands s) (record { left = refl; unsent = refl; missed = refl; is_bound = refl })

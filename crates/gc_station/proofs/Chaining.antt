@@ -2,9 +2,9 @@
 -- `next_is_chained`, whether the next command waits for that answer, and `chain_unbroken`. An act is one call on the link, with
 -- its result. `Chain` says that both fields are true to the acts so far, and `Whole` that the command before the next one was
 -- sent, with no connection closed and no new synchronization since.
-use Rattle.std.proofs.Common.{◌≡◌, ◌⊎◌, inl, inr, ℕ, ◌+◌, ◌-◌, ◌<◌, ◌≤◌, ◌||◌, Bool, true, false, List, [], ◌∷◌, ◌++◌, length, drop, map, Option, Some, None, refl, sym, ap, ◌∙◌, subst, arith, append_assoc, append-nil}
+use Rattle.std.proofs.Common.{◌≡◌, ◌⊎◌, inl, inr, ℕ, ◌+◌, ◌-◌, ◌<◌, ◌≤◌, ◌||◌, Bool, true, false, List, [], ◌∷◌, ◌++◌, length, drop, map, Option, refl, sym, ap, ◌∙◌, subst, arith, append_assoc, append-nil}
 use Rattle.std.specs.List.{AllByRecursion}
-use Rattle.std.proofs.lemmas.List.{length-drop, map-append}
+use Rattle.std.proofs.lemmas.List.{drop_all, length-drop, map-append, same_from_push}
 use Rattle.gc_catalogue.specs.declared.answer.Answer.{Answer}
 use Rattle.gc_texts.specs.declared.tasks.Task.{Task}
 use Rattle.gc_texts.specs.Endings.{End, Answered}
@@ -19,12 +19,12 @@ use Rattle.gc_links.specs.Acts.{Act, Told}
 use Rattle.gc_station.specs.Answers.{AnswerIsJustified, answer_of}
 use Rattle.gc_station.specs.Chains.{IsChained, IsLinked}
 use Rattle.gc_station.specs.Deciding.{has_begun}
-use Rattle.gc_station.specs.EachOnce.{Parted, Request, of_record, of_task, requests, sent_by, still_waiting, of_text, in_text}
+use Rattle.gc_station.specs.EachOnce.{Parted, Request, of_record, of_task, requests, commands_reached, still_waiting, of_text, in_text}
 use Rattle.gc_station.specs.Marks.{commands_in, is_well, last_well}
 use Rattle.gc_station.specs.Qualities.{IsAsListed}
 use Rattle.gc_station.specs.Quiet.{KeepsOpen}
-use Rattle.gc_station.specs.Progressing.{turned, cycle_begun}
-use Rattle.gc_station.specs.Reasons.{IsFor, MayGo}
+use Rattle.gc_station.specs.Progressing.{turned}
+use Rattle.gc_station.specs.Reasons.{HoldsBefore, MayGo}
 use Rattle.gc_station.specs.Records.{Record}
 use Rattle.gc_station.specs.Runs.{state_after}
 use Rattle.gc_station.specs.Scopes.{Scope}
@@ -33,7 +33,7 @@ use Rattle.gc_station.proofs.Answers.{answers_true}
 use Rattle.gc_station.proofs.Counts.{ended_progress, ended_passes}
 use Rattle.gc_station.proofs.Each.{each_settled, sent_next}
 use Rattle.gc_station.proofs.Parted.{IsInFront, drop_past, parted_all, parted_last, sent_before}
-use Rattle.gc_station.proofs.EachRun.{fine_stood}
+use Rattle.gc_station.proofs.EachRun.{invariant_holds}
 use Rattle.gc_station.proofs.Row.{last_of_cycle, listed_last}
 use Rattle.gc_station.proofs.Facts.{or_true, action_for}
 use Rattle.gc_station.proofs.Invariant.{Invariant}
@@ -90,8 +90,8 @@ record Whole (plan : Plan) (commands : List Task) (scope : Scope) (acts : List A
 begun_there : (plan : Plan) (commands : List Task) (scope : Scope) (before behind all : List Act) (q : Progress) → all ≡ before ++ behind
     → (state_after plan commands scope all).progress ≡ q → has_begun q ≡ true
     → has_begun (after_all plan commands (state_after plan commands scope before) behind).progress ≡ true
-begun_there plan commands scope before behind all q action there cycle_begun =
-    ap (λ (x : Model). has_begun x.progress) (sym (ap (state_after plan commands scope) action ∙ after_all-append plan commands (opening plan scope) before behind)) ∙ ap has_begun there ∙ cycle_begun
+begun_there plan commands scope before behind all q action there begun =
+    ap (λ (x : Model). has_begun x.progress) (sym (ap (state_after plan commands scope) action ∙ after_all-append plan commands (opening plan scope) before behind)) ∙ ap has_begun there ∙ begun
 
 -- the two fields on chains of p are true after these acts: `next_is_chained` is what the text says of the next command, or true
 -- in a missed cycle; and if `chain_unbroken` is true, `Whole` holds
@@ -109,7 +109,7 @@ moved_keeps plan commands Pass s (Told m) = inr refl
 moved_keeps plan commands Pass s act = inl refl
 moved_keeps plan commands action s act = inl (ap (λ (x : Model). x.passes) (moved_changed plan commands action s act))
 
--- nothing that is left out since: if the chain goes on, no act leaves commands out
+-- if a chain goes on in the model t, the commands left out there are those that were left out in s
 still_passes : (s t : Model) (before : List Request) → LeavesNothingOut s t → t.progress.chain_unbroken ≡ true → s.passes ≡ before → t.passes ≡ before
 still_passes s t before (inl same) e is = same ∙ is
 still_passes s t before (inr none) e is = absurd (not_both t.progress.chain_unbroken e none)
@@ -129,7 +129,7 @@ chain_still plan commands scope acts act p q there k begins keeps stays other h 
       chain_unbroken = λ e.
           let w = h.chain_unbroken (k.chain_unbroken e) in
           let order = ap (λ xs. xs ++ act ∷ []) w.order ∙ append_assoc w.before (w.request ∷ w.between) (act ∷ []) in
-          let cycle_begun = begins w.begun e in
+          let begun = begins w.begun e in
           record {
             before = w.before;
             request = w.request;
@@ -139,12 +139,12 @@ chain_still plan commands scope acts act p q there k begins keeps stays other h 
             cycle = ap (λ (n : ℕ). plan.cycles - n) k.left ∙ w.cycle;
             place = place_is ∙ w.place;
             stays = all_append KeepsOpen w.between (act ∷ []) w.stays (stays, tt);
-            begun = cycle_begun;
+            begun = begun;
             passes = still_passes (state_after plan commands scope acts) (state_after plan commands scope (acts ++ act ∷ [])) (state_after plan commands scope w.before).passes keeps
                 (ap (λ (x : Progress). x.chain_unbroken) there ∙ e) w.passes;
             keeps =
                 stays_more plan commands (state_after plan commands scope w.before) (w.request ∷ w.between) act w.keeps
-                (begun_there plan commands scope w.before (w.request ∷ (w.between ++ act ∷ [])) (acts ++ act ∷ []) q order there cycle_begun);
+                (begun_there plan commands scope w.before (w.request ∷ (w.between ++ act ∷ [])) (acts ++ act ∷ []) q order there begun);
             cycles =
                 let back = after_all-append plan commands (opening plan scope) w.before (w.request ∷ w.between) in
                 let here : after_all plan commands (state_after plan commands scope w.before) (w.request ∷ w.between)
@@ -231,7 +231,7 @@ chain_sent plan commands scope acts act p q here there is begins n some within k
 -- `Chain` is preserved by an act of any action
 chain_moved : (plan : Plan) (commands : List Task) (scope : Scope) (acts : List Act) (act : Act) (action : Action) (w : Waiting) (q : Progress)
     → Invariant plan commands (state_after plan commands scope acts)
-    → action_at plan (state_after plan commands scope acts) ≡ action → IsFor plan (state_after plan commands scope acts).progress w action
+    → action_at plan (state_after plan commands scope acts) ≡ action → HoldsBefore plan (state_after plan commands scope acts).progress w action
     → Performs commands (state_after plan commands scope acts) action act
     → (state_after plan commands scope (acts ++ act ∷ [])).progress ≡ q → (has_begun (state_after plan commands scope acts).progress ≡ true → q.chain_unbroken ≡ true → has_begun q ≡ true)
     → Steps plan commands action (turned (state_after plan commands scope acts).progress) q
@@ -298,7 +298,8 @@ chain_along plan commands scope done (act ∷ acts) runs h =
             cycles = w.cycles;
           };
     } in
-    let one = chain_moved plan commands scope done act (action_at plan s) (waiting_of s) t.progress (fine_stood plan commands scope done) refl (action_for plan s.progress (waiting_of s)) runs.0 far
+    let one = chain_moved plan commands scope done act (action_at plan s) (waiting_of s) t.progress (invariant_holds plan commands scope done)
+    refl (action_for plan s.progress (waiting_of s)) runs.0 far
     (begun_kept plan commands s (action_at plan s) act runs.0) (moved_steps plan commands (action_at plan s) (with_progress turned s) act)
     (subst (λ (x : Model). LeavesNothingOut s x) (sym next) (kept_ended s t (moved_keeps plan commands (action_at plan s) (with_progress turned s) act))) at_turn in
     let here = subst (λ (p : Progress). Chain plan commands scope (done ++ act ∷ []) p) (sym far) one in
@@ -306,31 +307,27 @@ chain_along plan commands scope done (act ∷ acts) runs h =
     subst (λ (xs : List Act). Chain plan commands scope xs (state_after plan commands scope xs).progress) (append_assoc done (act ∷ []) acts)
     (chain_along plan commands scope (done ++ act ∷ []) acts goes_on here)
 
--- if none is unsent, no command is left
+-- if no command is unsent, none is left from the next place on
 pub none_behind : (commands : List Task) → drop (length commands - 0) commands ≡ []
-none_behind commands = let at : length commands - 0 ≡ length commands = omega arith in ap (λ (n : ℕ). drop n commands) at ∙ all_dropped commands where
-  -- if all commands are dropped, none is left
-  all_dropped : (commands : List Task) → drop (length commands) commands ≡ []
-  all_dropped [] = refl
-  all_dropped (task ∷ others) = all_dropped others
+none_behind commands = drop_all (length commands - 0) commands (omega arith)
 
 -- `Chain` holds after every run
-chain_stood : (plan : Plan) (commands : List Task) (scope : Scope) (acts : List Act) → Runs plan commands (opening plan scope) acts
+chain_holds : (plan : Plan) (commands : List Task) (scope : Scope) (acts : List Act) → Runs plan commands (opening plan scope) acts
     → Chain plan commands scope acts (state_after plan commands scope acts).progress
-chain_stood plan commands scope acts runs = chain_along plan commands scope [] acts runs (record { next_is_chained = λ above. sym (ap is_chained (none_behind commands)); chain_unbroken = λ e. cc })
+chain_holds plan commands scope acts runs = chain_along plan commands scope [] acts runs (record { next_is_chained = λ above. sym (ap is_chained (none_behind commands)); chain_unbroken = λ e. cc })
 
 -- after every run, if the next command isn't the first of its cycle, it counts as chained as the text says, or in a missed
 -- cycle
-pub bound_stood : (plan : Plan) (commands : List Task) (scope : Scope) (acts : List Act) → Runs plan commands (opening plan scope) acts
+pub chained_as_text_says : (plan : Plan) (commands : List Task) (scope : Scope) (acts : List Act) → Runs plan commands (opening plan scope) acts
     → plan.setup < place_next commands (state_after plan commands scope acts).progress
     → (state_after plan commands scope acts).progress.next_is_chained
     ≡ ((state_after plan commands scope acts).progress.missed || is_chained (drop (place_next commands (state_after plan commands scope acts).progress) commands))
-bound_stood plan commands scope acts runs above = (chain_stood plan commands scope acts runs).next_is_chained above
+chained_as_text_says plan commands scope acts runs above = (chain_holds plan commands scope acts runs).next_is_chained above
 
 -- What the last record says.
 
--- the last of these records is of a command that was answered well, by this line
-record Last (records : List Record) : Type 0 where
+-- the last of these records (`answer`) is of a command that was answered well, by the reply `line`
+record EndsAnsweredWell (records : List Record) : Type 0 where
   earlier : List Record
   answer : Record
   last : records ≡ earlier ++ answer ∷ []
@@ -345,42 +342,30 @@ well_end : (end : End) → is_well end ≡ true → (quality : Quality) × (said
 well_end (Answered quality said line) e = (quality, said, line, refl, e)
 well_end end e = cc
 
--- if the last of `r` and the records after it was answered well, `Last` holds of all of them
-last_one : (r : Record) (rs : List Record) → last_well (is_well r.end) rs ≡ true → Last (r ∷ rs)
+-- if the last of `r` and the records after it was answered well, `EndsAnsweredWell` holds of all of them
+last_one : (r : Record) (rs : List Record) → last_well (is_well r.end) rs ≡ true → EndsAnsweredWell (r ∷ rs)
 last_one r [] e = let it = well_end r.end e in record { earlier = []; answer = r; last = refl; quality = it.0; said = it.1; line = it.2; answered = it.3; well = it.4 }
 last_one r (x ∷ rs) e =
     let l = last_one x rs e in
     record { earlier = r ∷ l.earlier; answer = l.answer; last = ap (λ xs. r ∷ xs) l.last; quality = l.quality; said = l.said; line = l.line; answered = l.answered; well = l.well }
 
--- if the last of some records was answered well, `Last` holds of them
-last_of : (rs : List Record) → last_well false rs ≡ true → Last rs
-last_of [] e = cc
-last_of (r ∷ rs) e = last_one r rs e
-
--- two equal lists have the same last element
-end_same : {A : Type 0} (xs ys : List A) (a b : A) → xs ++ a ∷ [] ≡ ys ++ b ∷ [] → a ≡ b
-end_same [] [] a b e = let same : Some a ≡ Some b = ap first e in cc where
-  -- the first element of a list, if it has one
-  first : {A : Type 0} → List A → Option A
-  first [] = None
-  first (x ∷ xs) = Some x
-end_same [] (y ∷ []) a b e = cc
-end_same [] (y ∷ (z ∷ ys)) a b e = cc
-end_same (x ∷ []) [] a b e = cc
-end_same (x ∷ (z ∷ xs)) [] a b e = cc
-end_same (x ∷ xs) (y ∷ ys) a b e = end_same xs ys a b (ap (drop 1) e)
+-- if the last of some records was answered well, `EndsAnsweredWell` holds of them
+ends_well : (rs : List Record) → last_well false rs ≡ true → EndsAnsweredWell rs
+ends_well [] e = cc
+ends_well (r ∷ rs) e = last_one r rs e
 
 -- what holds of all elements of a list holds of its last one
 all_last : {A : Type 0} (P : A → Type 0) (xs : List A) (x : A) → AllByRecursion P (xs ++ x ∷ []) → P x
 all_last P [] x all = all.0
 all_last P (y ∷ xs) x all = all_last P xs x all.1
 
--- the commands that had their turn, with the next one after them, are those that had their turn one place later
-last_sent : (plan : Plan) (commands : List Task) (cycle_begun place : ℕ) (left : List Task) → drop place commands ≡ left → 0 < length left → 0 < cycle_begun
+-- as `sent_next`, where it is known only that a command is left: the commands that had their turn, with the next one after them,
+-- are those that had their turn one place later
+last_sent : (plan : Plan) (commands : List Task) (cycle place : ℕ) (left : List Task) → drop place commands ≡ left → 0 < length left → 0 < cycle
     → plan.setup ≤ place
-    → (task : Task) × (sent_by plan.setup commands cycle_begun place ++ requests cycle_begun place (of_task task ∷ []) ≡ sent_by plan.setup commands cycle_begun (place + 1))
-last_sent plan commands cycle_begun place [] at some many within = absurd (omega (arith, some))
-last_sent plan commands cycle_begun place (task ∷ others) at some many within = (task, sent_next plan.setup commands cycle_begun place task others at within many)
+    → (task : Task) × (commands_reached plan.setup commands cycle place ++ requests cycle place (of_task task ∷ []) ≡ commands_reached plan.setup commands cycle (place + 1))
+last_sent plan commands cycle place [] at some many within = absurd (omega (arith, some))
+last_sent plan commands cycle place (task ∷ others) at some many within = (task, sent_next plan.setup commands cycle place task others at within many)
 
 -- a request of this very place isn't before it
 not_in_front : (cycle place : ℕ) (r : Request) → r.cycle ≡ cycle → r.place ≡ place → IsInFront cycle place r → ⊥
@@ -400,29 +385,29 @@ chain_whole plan commands scope acts runs is chained = of_may needs.4 where
 
   -- the fields on chains of that model say what happened
   h : Chain plan commands scope acts s.progress
-  h = chain_stood plan commands scope acts runs
+  h = chain_holds plan commands scope acts runs
 
   -- the invariant of every run holds of it
   fine : Invariant plan commands s
-  fine = fine_stood plan commands scope acts
+  fine = invariant_holds plan commands scope acts
 
   -- the conditions of sending hold
-  needs : IsFor plan s.progress (waiting_of s) Send
-  needs = subst (λ (o : Action). IsFor plan s.progress (waiting_of s) o) is (action_for plan s.progress (waiting_of s))
+  needs : HoldsBefore plan s.progress (waiting_of s) Send
+  needs = subst (λ (o : Action). HoldsBefore plan s.progress (waiting_of s) o) is (action_for plan s.progress (waiting_of s))
 
   -- the next command waits for the answer of the one before it
   next_is_chained : s.progress.next_is_chained ≡ true
   next_is_chained = h.next_is_chained chained.0 ∙ ap (λ (b : Bool). s.progress.missed || b) chained.1 ∙ or_true s.progress.missed
 
-  -- the command before the next one, if no command is outstanding: `Whole` says that it was sent, and `Last` that the last
+  -- the command before the next one, if no command is outstanding: `Whole` says that it was sent, and `EndsAnsweredWell` that the last
   -- record was answered well; that record is its own, so `IsLinked` holds of it
-  of_last : commands_in s.marks ≡ 0 → s.progress.chain_unbroken ≡ true → Last s.records → Whole plan commands scope acts s.progress
+  of_last : commands_in s.marks ≡ 0 → s.progress.chain_unbroken ≡ true → EndsAnsweredWell s.records → Whole plan commands scope acts s.progress
       → (l : IsLinked plan commands scope acts) × StaysBegun plan commands (state_after plan commands scope l.before) (l.request ∷ l.between)
       × PreparesNothing plan commands (state_after plan commands scope l.before) (l.request ∷ l.between)
   of_last settled it l w =
       let b = state_after plan commands scope w.before in
-      let before = fine_stood plan commands scope w.before in
-      let asked = subst (λ (o : Action). IsFor plan b.progress (waiting_of b) o) w.sends (action_for plan b.progress (waiting_of b)) in
+      let before = invariant_holds plan commands scope w.before in
+      let asked = subst (λ (o : Action). HoldsBefore plan b.progress (waiting_of b) o) w.sends (action_for plan b.progress (waiting_of b)) in
       let some = asked.2 in
       let below = before.begun some in
       let many : 0 < cycles_begun plan b.progress = omega (arith, below) in
@@ -432,25 +417,26 @@ chain_whole plan commands scope acts runs is chained = of_may needs.4 where
       let within : plan.setup ≤ place = omega (arith, some, before.unsent) in
       let sent = last_sent plan commands cycle place (drop place commands) refl left many within in
       let b_passes = b.passes in
-      let there : sent_by plan.setup commands (cycles_begun plan s.progress) (place_next commands s.progress) ≡ sent_by plan.setup commands cycle (place + 1) =
-      ap (λ (n : ℕ). sent_by plan.setup commands n (place_next commands s.progress)) w.cycle ∙ ap (λ (n : ℕ). sent_by plan.setup commands cycle n) w.place in
+      let there : commands_reached plan.setup commands (cycles_begun plan s.progress) (place_next commands s.progress) ≡ commands_reached plan.setup commands cycle (place + 1) =
+      ap (λ (n : ℕ). commands_reached plan.setup commands n (place_next commands s.progress)) w.cycle ∙ ap (λ (n : ℕ). commands_reached plan.setup commands cycle n) w.place in
       let one : Request = record { cycle = cycle; place = place; asked = of_task sent.0 } in
-      let all : Parted (of_text commands (map of_record s.records)) b_passes (sent_by plan.setup commands cycle place ++ one ∷ []) =
+      let all : Parted (of_text commands (map of_record s.records)) b_passes (commands_reached plan.setup commands cycle place ++ one ∷ []) =
       subst (λ (xs : List Request). Parted (of_text commands (map of_record s.records)) b_passes xs) (there ∙ sym sent.1)
-      (subst (λ (ys : List Request). Parted (of_text commands (map of_record s.records)) ys (sent_by plan.setup commands (cycles_begun plan s.progress) (place_next commands s.progress))) w.passes
-      (subst (λ (xs : List Request). Parted xs s.passes (sent_by plan.setup commands (cycles_begun plan s.progress) (place_next commands s.progress)))
+      (subst (λ (ys : List Request). Parted (of_text commands (map of_record s.records)) ys
+      (commands_reached plan.setup commands (cycles_begun plan s.progress) (place_next commands s.progress))) w.passes
+      (subst (λ (xs : List Request). Parted xs s.passes (commands_reached plan.setup commands (cycles_begun plan s.progress) (place_next commands s.progress)))
       (sym (each_settled commands s.marks s.client.waiting s.records (of_text commands (map of_record s.records ++ still_waiting s.marks s.client.waiting)) settled refl)) fine.each)) in
       let front = parted_all (IsInFront cycle place) (of_text commands (map of_record b.records ++ still_waiting b.marks b.client.waiting)) b_passes
-      (sent_by plan.setup commands cycle place) before.each
+      (commands_reached plan.setup commands cycle place) before.each
       (sent_before plan.setup commands cycle place within) in
-      let kept = parted_last one (of_text commands (map of_record s.records)) b_passes (sent_by plan.setup commands cycle place) all
+      let kept = parted_last one (of_text commands (map of_record s.records)) b_passes (commands_reached plan.setup commands cycle place) all
       (λ xs e. not_in_front cycle place one refl refl (all_last (IsInFront cycle place) xs one (subst (AllByRecursion (IsInFront cycle place)) e front))) in
       let split = map-append of_record l.earlier (l.answer ∷ []) in
       let listed_all : map of_record s.records ≡ map of_record l.earlier ++ of_record l.answer ∷ [] = ap (map of_record) l.last ∙ split in
       let of_a_cycle : 0 < l.answer.cycle = last_of_cycle plan commands scope acts runs settled it (map of_record l.earlier) (of_record l.answer) listed_all in
       let ends : of_text commands (map of_record l.earlier) ++ in_text commands (of_record l.answer) ∷ [] ≡ kept.0 ++ one ∷ [] =
       sym (listed_last commands (map of_record l.earlier) (of_record l.answer) of_a_cycle) ∙ ap (of_text commands) (sym listed_all) ∙ kept.1 in
-      let own = end_same (of_text commands (map of_record l.earlier)) kept.0 (in_text commands (of_record l.answer)) one ends in
+      let own = (same_from_push (of_text commands (map of_record l.earlier)) kept.0 (in_text commands (of_record l.answer)) one ends).1 in
       let true_one = all_last (AnswerIsJustified plan commands scope acts) l.earlier l.answer
       (subst (λ (rs : List Record). AllByRecursion (AnswerIsJustified plan commands scope acts) rs) l.last (answers_true plan commands scope acts runs)) in
       let listed = all_last (λ (r : Record). IsAsListed scope.reads commands r) l.earlier l.answer
@@ -484,7 +470,7 @@ chain_whole plan commands scope acts runs is chained = of_may needs.4 where
   of_may : MayGo s.progress (waiting_of s) → (l : IsLinked plan commands scope acts) × StaysBegun plan commands (state_after plan commands scope l.before) (l.request ∷ l.between)
       × PreparesNothing plan commands (state_after plan commands scope l.before) (l.request ∷ l.between)
   of_may (inl free) = absurd (not_both s.progress.next_is_chained next_is_chained free)
-  of_may (inr it) = of_last it.0 it.2 (last_of s.records it.1) (h.chain_unbroken it.2)
+  of_may (inr it) = of_last it.0 it.2 (ends_well s.records it.1) (h.chain_unbroken it.2)
 
 -- a chained command is sent only after the answer of the one before it
 pub chain_kept : (plan : Plan) (commands : List Task) (scope : Scope) (acts : List Act) → Runs plan commands (opening plan scope) acts

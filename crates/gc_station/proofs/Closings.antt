@@ -1,7 +1,7 @@
 -- A connection is closed, and a run stops, only for a cause; and the act that decided the end shows that cause. The end is
 -- decided once the phase is `Closing` or `Over`, which name the cause. An act is one call on the link, with its result.
 -- `Decides` says why an act decided the end, or that it left the phase as it was; `Decided` says why it did.
-use Rattle.std.proofs.Common.{◌≡◌, ℕ, ◌⊎◌, inl, inr, ◌&&◌, ◌||◌, Bool, true, false, not, List, [], ◌∷◌, ◌++◌, length, drop, Option, Some, None, if◌then◌else◌, nat_lt, nat_eq, refl, sym, ap, ◌∙◌, subst, arith}
+use Rattle.std.proofs.Common.{◌≡◌, ℕ, ◌⊎◌, inl, inr, ◌&&◌, ◌||◌, Bool, true, false, not, List, [], ◌∷◌, ◌++◌, length, drop, Option, Some, None, if◌then◌else◌, nat_lt, refl, sym, ap, ◌∙◌, subst, arith}
 use Rattle.std.proofs.lemmas.Bool.Decides.{nat_tests}
 use Rattle.std.proofs.lemmas.List.{nil_from_length}
 use Rattle.gc_catalogue.specs.declared.asked.Asked.TheVariants.{Table}
@@ -23,12 +23,12 @@ use Rattle.gc_station.specs.Deciding.{has_begun, is_up, is_past, action_in}
 use Rattle.gc_station.specs.Marks.{commands_in}
 use Rattle.gc_station.specs.Progressing.{turned, moment_noted, failing, quieted, time_passed, is_finished, is_idle, cleared, closed, is_spared}
 use Rattle.gc_station.specs.Closing.{IsAlone, IsReasoned, Shows, ClosesForACause, EndsDone, EndsAfter, EndsDisconnected, Ends, StopsForACause}
-use Rattle.gc_station.specs.Reasons.{IsFor, IsAtItsEnd}
+use Rattle.gc_station.specs.Reasons.{HoldsBefore, IsAtItsEnd}
 use Rattle.gc_station.specs.Runs.{state_after}
-use Rattle.gc_station.specs.Model.{Model, requests_out, request_text, null_text, first_text, waiting_of, opening, action_at, place_next, with_progress, with_moment, is_heard, lines_completed, after_piece, Performs, moved, after, after_all, Runs, text_or_null}
+use Rattle.gc_station.specs.Model.{Model, commands_before, request_text, null_text, first_text, waiting_of, opening, action_at, place_next, with_progress, with_moment, is_heard, lines_completed, after_piece, Performs, moved, after, after_all, Runs, text_or_null}
 use Rattle.gc_station.proofs.Counts.{ended_progress}
-use Rattle.gc_station.proofs.EachRun.{fine_stood}
-use Rattle.gc_station.proofs.Facts.{action_for}
+use Rattle.gc_station.proofs.EachRun.{invariant_holds}
+use Rattle.gc_station.proofs.Facts.{action_for, finished_so}
 use Rattle.gc_station.proofs.Invariant.{Invariant, says_done}
 use Rattle.gc_station.proofs.Going.{after_all-append}
 use Rattle.gc_station.proofs.Walk.{asked_along, came_along, quieted_along, walk}
@@ -75,17 +75,13 @@ quiet_same plan phase p c =
     quieted_along (λ (q : Progress). end_of q.phase ≡ Some c → q.phase ≡ p.phase) plan phase p
     (λ e. paused_same p.phase (is_past p.pause p && not (is_idle plan p)) c e) (λ e. cc) (λ e. refl)
 
--- no line changes the phase
+-- a piece, whether it is heard or discarded, leaves the phase
 pub came_phase : (heard : Bool) (word piece : List ℕ) (s : Model) → (after_piece heard word piece s).progress.phase ≡ s.progress.phase
 came_phase heard word piece s =
     came_along (λ (t : Model). t.progress.phase ≡ s.progress.phase) (λ t line e. e) heard word piece s refl
     (asked_along (λ (q : Progress). q.phase ≡ s.progress.phase) (λ q line e. e) s.progress (lines_completed s.rest piece) refl) refl
 
--- if each of three numbers is 0 by its test, each is 0
-none_left : (a b n : ℕ) → nat_eq a 0 && nat_eq b 0 && nat_eq n 0 ≡ true → (a ≡ 0) × (b ≡ 0) × (n ≡ 0)
-none_left a b n e = grind (arith, nat_tests, e)
-
--- if a new connection isn't spared a try and none is left, by one test, it is so by each
+-- if one test says that a new connection isn't spared a try and that no try is left, both are true
 no_try : (spared : Bool) (tries : ℕ) → spared || nat_lt 0 tries ≡ false → (spared ≡ false) × (tries ≡ 0)
 no_try true tries e = cc
 no_try false tries e = (refl, grind (arith, nat_tests, e))
@@ -99,7 +95,7 @@ EndsAgain plan p n other c = EndsDone p n c ⊎ ((c ≡ other) × (is_finished n
 -- if the phase after a lost connection or a failed attempt ends the run, the cause is as `EndsAgain` says
 again_ends : (plan : Plan) (other c : Cause) (n : ℕ) (p : Progress) (done some : Bool) → is_finished n p ≡ done → (is_spared plan other p || nat_lt 0 p.tries) ≡ some
     → end_of (if done then Over cause.Done else if some then Pausing else Over other) ≡ Some c → EndsAgain plan p n other c
-again_ends plan other c n p true some finished tries e = let none = none_left p.left p.unsent n finished in inl (cc, none.0, none.1, none.2)
+again_ends plan other c n p true some finished tries e = let none = finished_so n p finished in inl (cc, none.0, none.1, none.2)
 again_ends plan other c n p false true finished tries e = cc
 again_ends plan other c n p false false finished tries e = let none = no_try (is_spared plan other p) p.tries tries in inr (cc, finished, none.0, none.1)
 
@@ -133,7 +129,7 @@ cleared_none : (begun : Bool) (c : Cause) → end_of (if begun then Draining els
 cleared_none true c e = cc
 cleared_none false c e = cc
 
--- after a line feed that was sent there is a connection
+-- after a line feed that was sent it can't be that there is no connection
 cleared_up : (begun : Bool) → is_up (if begun then Draining else Ready) ≡ false → ⊥
 cleared_up true e = cc
 cleared_up false e = cc
@@ -153,29 +149,29 @@ moved_decides plan commands action.Clear s act c o done e =
     let at = (cleared (turned s.progress)).phase in
     walk plan commands (DecidesSo plan s action.Clear c) action.Clear (with_progress turned s) act o (
       λ m g. absurd (cleared_none (has_begun s.progress) c g),
-      λ n g. fail_decides s.progress.phase at (is_up at) (cause.Write (requests_out plan commands (turned s.progress)) n) c (Cut (10 ∷ []) n) refl (10 ∷ [], refl)
+      λ n g. fail_decides s.progress.phase at (is_up at) (cause.Write (commands_before plan commands (turned s.progress)) n) c (Cut (10 ∷ []) n) refl (10 ∷ [], refl)
           (λ d. absurd (cleared_up (has_begun s.progress) d)) g,
     ) e
 moved_decides plan commands action.Ask s act c o done e =
     let text = null_text s.progress.word in
     let at = s.progress.phase in
     walk plan commands (DecidesSo plan s action.Ask c) action.Ask (with_progress turned s) act o
-    (λ m g. inr (inr refl), λ n g. fail_decides at at (is_up at) (cause.Write (requests_out plan commands (turned s.progress)) n) c (Cut text n) refl (text, refl) (λ d. d) g) e
+    (λ m g. inr (inr refl), λ n g. fail_decides at at (is_up at) (cause.Write (commands_before plan commands (turned s.progress)) n) c (Cut text n) refl (text, refl) (λ d. d) g) e
 moved_decides plan commands action.Prepare s act c o done e =
     let text = text_or_null s.progress.moment.utc s.client (drop s.progress.prepared commands) in
     let at = s.progress.phase in
     walk plan commands (DecidesSo plan s action.Prepare c) action.Prepare (with_progress turned s) act o
-    (λ m g. inr (inr refl), λ n g. fail_decides at at (is_up at) (cause.Write (requests_out plan commands (turned s.progress)) n) c (Cut text n) refl (text, refl) (λ d. d) g) e
+    (λ m g. inr (inr refl), λ n g. fail_decides at at (is_up at) (cause.Write (commands_before plan commands (turned s.progress)) n) c (Cut text n) refl (text, refl) (λ d. d) g) e
 moved_decides plan commands action.Send s act c o done e =
     let text = first_text s.progress.moment.utc s.client (drop (place_next commands s.progress) commands) in
     let at = s.progress.phase in
     walk plan commands (DecidesSo plan s action.Send c) action.Send (with_progress turned s) act o
-    (λ m g. inr (inr refl), λ n g. fail_decides at at (is_up at) (cause.Write (requests_out plan commands (turned s.progress)) n) c (Cut text n) refl (text, refl) (λ d. d) g) e
+    (λ m g. inr (inr refl), λ n g. fail_decides at at (is_up at) (cause.Write (commands_before plan commands (turned s.progress)) n) c (Cut text n) refl (text, refl) (λ d. d) g) e
 moved_decides plan commands action.Flush s act c o done e =
     let text = request_text s.client (Table NullProc) in
     let at = s.progress.phase in
     walk plan commands (DecidesSo plan s action.Flush c) action.Flush (with_progress turned s) act o
-    (λ m g. inr (inr refl), λ n g. fail_decides at at (is_up at) (cause.Write (requests_out plan commands (turned s.progress)) n) c (Cut text n) refl (text, refl) (λ d. d) g) e
+    (λ m g. inr (inr refl), λ n g. fail_decides at at (is_up at) (cause.Write (commands_before plan commands (turned s.progress)) n) c (Cut text n) refl (text, refl) (λ d. d) g) e
 moved_decides plan commands (action.Read until) s act c o done e =
     let t = with_progress turned s in
     walk plan commands (DecidesSo plan s (action.Read until) c) (action.Read until) t act o (
@@ -234,7 +230,7 @@ runs_split plan commands s [] later act runs = (tt, runs.0)
 runs_split plan commands s (x ∷ xs) later act runs = let r = runs_split plan commands (after plan commands s x) xs later act runs.1 in ((runs.0, r.0), r.1)
 
 -- if a null procedure of a synchronization is next, nothing is outstanding and the client is new
-goes_alone : (plan : Plan) (commands : List Task) (s : Model) (next : Action) → Invariant plan commands s → IsFor plan s.progress (waiting_of s) next → IsAlone next s
+goes_alone : (plan : Plan) (commands : List Task) (s : Model) (next : Action) → Invariant plan commands s → HoldsBefore plan s.progress (waiting_of s) next → IsAlone next s
 goes_alone plan commands s action.Ask fine needs = let new = fine.begins needs.1 in (new, nil_from_length s.marks (fine.paired ∙ ap (λ (c : ById Asked). length c.waiting) new))
 goes_alone plan commands s next fine needs = tt
 
@@ -247,13 +243,13 @@ act_reasoned plan commands scope earlier later act runs =
     record {
       obeys = (runs_split plan commands (opening plan scope) earlier later act runs).1;
       needs = needs;
-      alone = goes_alone plan commands s (action_at plan s) (fine_stood plan commands scope earlier) needs;
+      alone = goes_alone plan commands s (action_at plan s) (invariant_holds plan commands scope earlier) needs;
     }
 
 -- a list of acts is empty, or has a last act
-last_of : (acts : List Act) → (acts ≡ []) ⊎ ((earlier : List Act) × (last : Act) × (acts ≡ earlier ++ last ∷ []))
-last_of [] = inl refl
-last_of (x ∷ xs) = on (last_of xs) where
+none_or_last : (acts : List Act) → (acts ≡ []) ⊎ ((earlier : List Act) × (last : Act) × (acts ≡ earlier ++ last ∷ []))
+none_or_last [] = inl refl
+none_or_last (x ∷ xs) = on (none_or_last xs) where
   -- the lemma above for one act more before it
   on : ((xs ≡ []) ⊎ ((earlier : List Act) × (last : Act) × (xs ≡ earlier ++ last ∷ []))) → (x ∷ xs ≡ []) ⊎ ((earlier : List Act) × (last : Act) × (x ∷ xs ≡ earlier ++ last ∷ []))
   on (inl none) = inr ([], x, ap (λ ys. x ∷ ys) none)
@@ -264,9 +260,9 @@ pub closes_only : (commands : List Task) (s : Model) (next : Action) → Perform
 closes_only commands s (action.Close why) o = (why, refl)
 closes_only commands s next o = absurd o
 
--- the conditions of the action that is next hold
-pub needs_of : (plan : Plan) (s : Model) (next : Action) → action_at plan s ≡ next → IsFor plan s.progress (waiting_of s) next
-needs_of plan s next is = subst (λ (o : Action). IsFor plan s.progress (waiting_of s) o) is (action_for plan s.progress (waiting_of s))
+-- as `action_for`: the conditions of `next` hold, if that action is next
+pub needs_of : (plan : Plan) (s : Model) (next : Action) → action_at plan s ≡ next → HoldsBefore plan s.progress (waiting_of s) next
+needs_of plan s next is = subst (λ (o : Action). HoldsBefore plan s.progress (waiting_of s) o) is (action_for plan s.progress (waiting_of s))
 
 -- a connection is closed for being done only if no command is left to be sent, and none is outstanding
 pub done_sent : (plan : Plan) (commands : List Task) (scope : Scope) (acts : List Act) → action_at plan (state_after plan commands scope acts) ≡ action.Close cause.Done
@@ -276,14 +272,14 @@ done_sent plan commands scope acts is = by_needs (needs_of plan (state_after pla
   by_needs : (((state_after plan commands scope acts).progress.phase ≡ Closing cause.Done)
       ⊎ IsAtItsEnd plan (state_after plan commands scope acts).progress (waiting_of (state_after plan commands scope acts)) cause.Done)
       → NoneLeft (state_after plan commands scope acts).progress (commands_in (state_after plan commands scope acts).marks)
-  by_needs (inl phase) = (fine_stood plan commands scope acts).finished (ap says_done phase)
+  by_needs (inl phase) = (invariant_holds plan commands scope acts).finished (ap says_done phase)
   by_needs (inr end) = end
 
 -- in a run whose end is decided, the last act decided it
 decided_last : (plan : Plan) (commands : List Task) (scope : Scope) (acts : List Act) (c : Cause) → Runs plan commands (opening plan scope) acts
     → end_of (state_after plan commands scope acts).progress.phase ≡ Some c
     → (earlier : List Act) × (last : Act) × (acts ≡ earlier ++ last ∷ []) × Decided plan (state_after plan commands scope earlier) (state_after plan commands scope acts).progress.phase c last
-decided_last plan commands scope acts c runs e = by_last (last_of acts) where
+decided_last plan commands scope acts c runs e = by_last (none_or_last acts) where
   -- the lemma above, if there is a last act; at the start of a run no end is decided
   by_last : ((acts ≡ []) ⊎ ((earlier : List Act) × (last : Act) × (acts ≡ earlier ++ last ∷ [])))
       → (earlier : List Act) × (last : Act) × (acts ≡ earlier ++ last ∷ [])

@@ -13,7 +13,7 @@ use Rattle.gc_catalogue.specs.declared.asked.Asked.{Asked}
 use Rattle.gc_catalogue.specs.declared.asked.Asked.TheVariants.{Table, Raw}
 use Rattle.gc_catalogue.specs.Asked.{IsAskedReading}
 use Rattle.gc_client.specs.Rule.{Answered}
-use Rattle.gc_texts.specs.Codes.{are_accepted, no_codes}
+use Rattle.gc_texts.specs.Codes.{lists_code, no_codes}
 use Rattle.gc_texts.specs.Nears.{is_elsewhere}
 use Rattle.gc_texts.specs.Qualities.{is_good}
 use Rattle.gc_texts.specs.Zeroed.{as_zero}
@@ -44,18 +44,18 @@ value_well q good said line true = refl
 value_well q good said line false = good
 
 -- a code other than 0 isn't among places that all have 0
-none_is : (n code : ℕ) → (code ≡ 0 → ⊥) → list_any (λ c. c == code) (replicate n 0) ≡ true → ⊥
-none_is zero code some e = cc
-none_is (suc n) code some e = elim (eqb_tells 0 code) as (λ _. ⊥) [
+not_among_zeros : (n code : ℕ) → (code ≡ 0 → ⊥) → list_any (λ c. c == code) (replicate n 0) ≡ true → ⊥
+not_among_zeros zero code some e = cc
+not_among_zeros (suc n) code some e = elim (eqb_tells 0 code) as (λ _. ⊥) [
   | inl same ↦ some (sym same.1)
-  | inr other ↦ none_is n code some (sym (ap (λ b. b || list_any (λ c. c == code) (replicate n 0)) other.0) ∙ e)
+  | inr other ↦ not_among_zeros n code some (sym (ap (λ b. b || list_any (λ c. c == code) (replicate n 0)) other.0) ∙ e)
 ]
 
 -- no code is among no codes
-none_accepted : (code : ℕ) → are_accepted no_codes code ≡ true → ⊥
+none_accepted : (code : ℕ) → lists_code no_codes code ≡ true → ⊥
 none_accepted code e = elim (eqb_tells code 0) as (λ _. ⊥) [
   | inl same ↦ let bad : false ≡ true = sym (ap (λ b. not b && list_any (λ c. c == code) (replicate 16 0)) same.0) ∙ e in cc
-  | inr other ↦ none_is 16 code other.1 (sym (ap (λ b. not b && list_any (λ c. c == code) (replicate 16 0)) other.0) ∙ e)
+  | inr other ↦ not_among_zeros 16 code other.1 (sym (ap (λ b. not b && list_any (λ c. c == code) (replicate 16 0)) other.0) ∙ e)
 ]
 
 module _ (reads : Asked → List ℕ → Reading) (expected : Expected) (call : Asked) (line : List ℕ) (r : ReplyFields) (are : AreReadings reads) (is : IsReply line r) where
@@ -72,12 +72,12 @@ module _ (reads : Asked → List ℕ → Reading) (expected : Expected) (call : 
   ended said e = ap (λ x. answer_as expected x (reads call (as_zero line)) line) e
 
   -- a line that is a refusal ends the command as `refused_as` says, with b for whether the refusal's code is accepted
-  ended_refused : (code : ℕ) (b : Bool) → reads call line ≡ reading.Refused code → are_accepted expected.accepted code ≡ b
+  ended_refused : (code : ℕ) (b : Bool) → reads call line ≡ reading.Refused code → lists_code expected.accepted code ≡ b
       → end_of reads expected call (Answered line) ≡ refused_as b expected.near (reads call (as_zero line)) line
   ended_refused code b e accepted = ended (reading.Refused code) e ∙ ap (λ x. refused_as x expected.near (reads call (as_zero line)) line) accepted
 
   -- a command that is refused with a code that isn't accepted isn't answered well
-  refused_unwell : (code : ℕ) → reads call line ≡ reading.Refused code → are_accepted expected.accepted code ≡ false → is_well (end_of reads expected call (Answered line)) ≡ false
+  refused_unwell : (code : ℕ) → reads call line ≡ reading.Refused code → lists_code expected.accepted code ≡ false → is_well (end_of reads expected call (Answered line)) ≡ false
   refused_unwell code e none = ap is_well (ended_refused code false e none)
 
   -- a command is answered well only if the communication code of its reply is 0
@@ -88,26 +88,26 @@ module _ (reads : Asked → List ℕ → Reading) (expected : Expected) (call : 
   ]
 
   -- a command that is refused, and is answered well nevertheless, was refused with an accepted code
-  accepted_one : (b : Bool) → are_accepted expected.accepted r.rc ≡ b → reads call line ≡ reading.Refused r.rc → is_well (end_of reads expected call (Answered line)) ≡ true
-      → are_accepted expected.accepted r.rc ≡ true
+  accepted_one : (b : Bool) → lists_code expected.accepted r.rc ≡ b → reads call line ≡ reading.Refused r.rc → is_well (end_of reads expected call (Answered line)) ≡ true
+      → lists_code expected.accepted r.rc ≡ true
   accepted_one true e said well = e
   accepted_one false e said well = absurd (not_both _ well (refused_unwell r.rc said e))
 
   -- a command is answered well only if the return code of its reply is 0 or an accepted one
-  rc_zero : r.rc_com ≡ 0 → is_well (end_of reads expected call (Answered line)) ≡ true → (r.rc ≡ 0) ⊎ (are_accepted expected.accepted r.rc ≡ true)
-  rc_zero none well = elim (eqb_tells r.rc 0) as (λ _. (r.rc ≡ 0) ⊎ (are_accepted expected.accepted r.rc ≡ true)) [
+  rc_zero : r.rc_com ≡ 0 → is_well (end_of reads expected call (Answered line)) ≡ true → (r.rc ≡ 0) ⊎ (lists_code expected.accepted r.rc ≡ true)
+  rc_zero none well = elim (eqb_tells r.rc 0) as (λ _. (r.rc ≡ 0) ⊎ (lists_code expected.accepted r.rc ≡ true)) [
     | inl same ↦ inl same.1
-    | inr other ↦ inr (accepted_one (are_accepted expected.accepted r.rc) refl (says (reading.Refused r.rc) (refused_is call r none other.1)) well)
+    | inr other ↦ inr (accepted_one (lists_code expected.accepted r.rc) refl (says (reading.Refused r.rc) (refused_is call r none other.1)) well)
   ]
 
   -- if no code is accepted, the return code is 0
-  without_codes : expected.accepted ≡ no_codes → (r.rc ≡ 0) ⊎ (are_accepted expected.accepted r.rc ≡ true) → r.rc ≡ 0
+  without_codes : expected.accepted ≡ no_codes → (r.rc ≡ 0) ⊎ (lists_code expected.accepted r.rc ≡ true) → r.rc ≡ 0
   without_codes none (inl same) = same
-  without_codes none (inr some) = absurd (none_accepted r.rc (ap (λ (cs : Codes). are_accepted cs r.rc) (sym none) ∙ some))
+  without_codes none (inr some) = absurd (none_accepted r.rc (ap (λ (cs : Codes). lists_code cs r.rc) (sym none) ∙ some))
 
   -- a command whose line says anything but an answer or a refusal with an accepted code isn't answered well
   unread_well : (said : Reading) → reads call line ≡ said → ((answer : Answer) → said ≡ reading.Value answer → ⊥)
-      → ((code : ℕ) → said ≡ reading.Refused code → are_accepted expected.accepted code ≡ false) → is_well (end_of reads expected call (Answered line)) ≡ false
+      → ((code : ℕ) → said ≡ reading.Refused code → lists_code expected.accepted code ≡ false) → is_well (end_of reads expected call (Answered line)) ≡ false
   unread_well (reading.Value answer) e none unlisted = absurd (none answer refl)
   unread_well (reading.Refused code) e none unlisted = refused_unwell code e (unlisted code refl)
   unread_well (reading.ComFault code) e none unlisted = ap is_well (ended (reading.ComFault code) e)
@@ -121,7 +121,7 @@ module _ (reads : Asked → List ℕ → Reading) (expected : Expected) (call : 
 
   -- a reply with an accepted return code other than 0 ends a command as `warned_as` says, by what its line says with return
   -- code 0
-  warned_ends : (said : Reading) → r.rc_com ≡ 0 → (r.rc ≡ 0 → ⊥) → are_accepted expected.accepted r.rc ≡ true → IsAskedReading call (record r { rc = 0 }) said
+  warned_ends : (said : Reading) → r.rc_com ≡ 0 → (r.rc ≡ 0 → ⊥) → lists_code expected.accepted r.rc ≡ true → IsAskedReading call (record r { rc = 0 }) said
       → end_of reads expected call (Answered line) ≡ warned_as expected.near said line
   warned_ends said none some accepted read =
       ended_refused r.rc true (says (reading.Refused r.rc) (refused_is call r none some)) accepted ∙ ap (λ x. warned_as expected.near x line) (says_zeroed said read)

@@ -19,7 +19,7 @@ use Rattle.gc_links.specs.Acts.{Act, Told, Put, Gave, Silent, Opened}
 use Rattle.gc_station.specs.Deciding.{is_up, is_past, is_quiet}
 use Rattle.gc_station.specs.Marks.{commands_in}
 use Rattle.gc_station.specs.Progressing.{turned, moment_noted, cycle_begun, skipped, attempts_left_out, opened, cleared, request_noted, null_sent, renewed, sent, reckoned_early, time_passed, quieted, is_idle, drained, setup_sent}
-use Rattle.gc_station.specs.Model.{Model, requests_out, request_text, null_text, first_text, place_next, is_chained_after_next, others_after_next, is_chained_after, others_after, waiting_of, piece_at, with_progress, Performs, moved, cycle_length, text_or_null}
+use Rattle.gc_station.specs.Model.{Model, commands_before, request_text, null_text, first_text, place_next, is_chained_after_next, others_after_next, is_chained_after, others_after, waiting_of, piece_at, with_progress, Performs, moved, cycle_length, text_or_null}
 use Rattle.gc_station.proofs.Turns.{again_down, closed_down}
 use Rattle.gc_station.proofs.Walk.{walk}
 
@@ -105,9 +105,9 @@ module _ (plan : Plan) (commands : List Task) (F : Progress → List Act → Typ
   on_line actions.Open s act acts o h = walk plan commands (FactBehind acts) actions.Open (with_progress turned s) act o
       (h, λ n. unused _ _ (down_unused _ (again_down plan (commands_in s.marks) cause.Open (turned s.progress))))
   on_line actions.Clear s act acts o h = walk plan commands (FactBehind acts) actions.Clear (with_progress turned s) act o
-      (h, λ n. unused _ _ (failed_unused (is_up (cleared (turned s.progress)).phase) (cause.Write (requests_out plan commands (turned s.progress)) n)))
+      (h, λ n. unused _ _ (failed_unused (is_up (cleared (turned s.progress)).phase) (cause.Write (commands_before plan commands (turned s.progress)) n)))
   on_line actions.Ask s act acts o h = walk plan commands (FactBehind acts) actions.Ask (with_progress turned s) act o
-      (h, λ n. unused _ _ (failed_unused (is_up s.progress.phase) (cause.Write (requests_out plan commands (turned s.progress)) n)))
+      (h, λ n. unused _ _ (failed_unused (is_up s.progress.phase) (cause.Write (commands_before plan commands (turned s.progress)) n)))
   on_line (actions.Read until) s act acts o h =
       let up = is_up s.progress.phase in
       walk plan commands (FactBehind acts) (actions.Read until) (with_progress turned s) act o (
@@ -120,9 +120,9 @@ module _ (plan : Plan) (commands : List Task) (F : Progress → List Act → Typ
   on_line (actions.Close why) s act acts o h = unused _ _ (down_unused _ (closed_down plan (waiting_of s) why (turned s.progress)))
   on_line (actions.Stop why) s act acts o h = absurd o
   on_line actions.Prepare s act acts o h = walk plan commands (FactBehind acts) actions.Prepare (with_progress turned s) act o
-      (h, λ n. unused _ _ (failed_unused (is_up s.progress.phase) (cause.Write (requests_out plan commands (turned s.progress)) n)))
+      (h, λ n. unused _ _ (failed_unused (is_up s.progress.phase) (cause.Write (commands_before plan commands (turned s.progress)) n)))
   on_line actions.Send s act acts o h = walk plan commands (FactBehind acts) actions.Send (with_progress turned s) act o
-      (h, λ n. unused _ _ (failed_unused (is_up s.progress.phase) (cause.Write (requests_out plan commands (turned s.progress)) n)))
+      (h, λ n. unused _ _ (failed_unused (is_up s.progress.phase) (cause.Write (commands_before plan commands (turned s.progress)) n)))
   on_line actions.Flush s act acts o h = walk plan commands (FactBehind acts) actions.Flush (with_progress turned s) act o
-      (h, λ n. unused _ _ (failed_unused (is_up s.progress.phase) (cause.Write (requests_out plan commands (turned s.progress)) n)))
+      (h, λ n. unused _ _ (failed_unused (is_up s.progress.phase) (cause.Write (commands_before plan commands (turned s.progress)) n)))
   on_line next s act acts o h = walk plan commands (FactBehind acts) next (with_progress turned s) act o (h, λ n. unused _ _ (failed_unused (is_up s.progress.phase) cause.Clock))

@@ -9,25 +9,33 @@ use Rattle.gc_station.specs.Deciding.{later}
 use Rattle.gc_station.specs.declared.tally.Counts.{Counts}
 use Rattle.gc_station.specs.declared.tally.Tally.{Tally}
 
--- if an attempt is followed (q), its commands aren't counted, and neither is the next one of it; otherwise one with this ending
--- (e) counts as one
-grown : (q e : Bool) (s a h : ℕ) → at_most (s + ((if q then 0 else (if e then one_more a else a)) + h)) ≡ at_most (s + ((if q then 0 else a) + (if q then h else (if e then suc h else h))))
-grown true e s a h = refl
-grown false true s a h = omega arith
-grown false false s a h = refl
+-- a command may be counted in the count of its attempt or in the number `rest` of commands after it. `before` is the count of the
+-- chains before, `counts` whether the command has the ending that is counted. In an attempt that is `followed` by another one no
+-- command counts
+counted_either_way : (followed counts : Bool) (before attempt rest : ℕ)
+    → at_most (before + ((if followed then 0 else (if counts then one_more attempt else attempt)) + rest))
+    ≡ at_most (before + ((if followed then 0 else attempt) + (if followed then rest else (if counts then suc rest else rest))))
+counted_either_way true counts before attempt rest = refl
+counted_either_way false true before attempt rest = omega arith
+counted_either_way false false before attempt rest = refl
 
 -- 0 is chosen, whether an attempt is followed or not
-none_so : (q : Bool) → ◌≡◌ {A = ℕ} (if q then 0 else 0) 0
-none_so true = refl
-none_so false = refl
+zero_chosen : (followed : Bool) → ◌≡◌ {A = ℕ} (if followed then 0 else 0) 0
+zero_chosen true = refl
+zero_chosen false = refl
 
--- an attempt that adds 0 leaves a count, whether it is followed or not
-started_again : (q : Bool) (s k : ℕ) → at_most (s + ((if q then 0 else 0) + k)) ≡ at_most (s + (0 + k))
-started_again q s k = ap (λ n. at_most (s + (n + k))) (none_so q)
+-- an attempt without commands so far leaves a count, whether it is followed or not
+adds_nothing : (followed : Bool) (before rest : ℕ) → at_most (before + ((if followed then 0 else 0) + rest)) ≡ at_most (before + (0 + rest))
+adds_nothing followed before rest = ap (λ n. at_most (before + (n + rest))) (zero_chosen followed)
 
 -- an attempt that isn't followed is counted once the next chain begins
-settled_then : (q : Bool) (s a k : ℕ) → at_most (later s a + ((if q then 0 else 0) + k)) ≡ at_most (s + (a + k))
-settled_then q s a k = started_again q (later s a) k ∙ omega arith
+settled_then : (followed : Bool) (before attempt rest : ℕ) → at_most (later before attempt + ((if followed then 0 else 0) + rest)) ≡ at_most (before + (attempt + rest))
+settled_then followed before attempt rest = adds_nothing followed (later before attempt) rest ∙ omega arith
+
+-- the counts `c` once an attempt begins, as `started` gives them: it is a further one (`true`), or the first one of its chain
+abbrev attempt_begun : Counts → Bool → Counts
+attempt_begun c further =
+    if further then record { settled = record c.settled { again = one_more c.settled.again }; attempt = none_yet } else record { settled = sum c.settled c.attempt; attempt = none_yet }
 
 -- a count that grows by one for each command with this ending (`so`), stays for any other, adds up, and doesn't depend on `again`
 module _ (count : Tally → ℕ) (so : End → Bool) (step : (end : End) (t : Tally) → count (counted end t) ≡ (if so end then one_more (count t) else count t))
@@ -38,10 +46,10 @@ module _ (count : Tally → ℕ) (so : End → Bool) (step : (end : End) (t : Ta
   in_front false r rs = refl
 
   -- the next command of an attempt is counted in it
-  counts_next : (x s h : ℕ) (t : Tally) (r : Record) (rs : List Record) (q : Bool) → x ≡ at_most (s + ((if q then 0 else count (counted r.end t)) + how_many so rs))
+  counts_next : (x s : ℕ) (t : Tally) (r : Record) (rs : List Record) (q : Bool) → x ≡ at_most (s + ((if q then 0 else count (counted r.end t)) + how_many so rs))
       → x ≡ at_most (s + ((if q then 0 else count t) + how_many so (if q then rs else r ∷ rs)))
-  counts_next x s h t r rs q is =
-      is ∙ ap (λ n. at_most (s + ((if q then 0 else n) + how_many so rs))) (step r.end t) ∙ grown q (so r.end) s (count t) (how_many so rs)
+  counts_next x s t r rs q is =
+      is ∙ ap (λ n. at_most (s + ((if q then 0 else n) + how_many so rs))) (step r.end t) ∙ counted_either_way q (so r.end) s (count t) (how_many so rs)
       ∙ ap (λ n. at_most (s + ((if q then 0 else count t) + n))) (sym (in_front q r rs))
 
   -- a count after records is that of the chains before, that of the attempt before if no further one follows, and the number of
@@ -49,27 +57,23 @@ module _ (count : Tally → ℕ) (so : End → Bool) (step : (end : End) (t : Ta
   counts : (c : Counts) (rs : List Record) → count (total (tallied c rs)) ≡ at_most (count c.settled + ((if is_followed rs then 0 else count c.attempt) + how_many so (last_attempts rs)))
   counts c [] = adds c.settled c.attempt ∙ omega arith
   counts c (r ∷ rs) = by_tests (λ d. counts d rs) (nat_eq r.cycle 0) (nat_eq r.turn.link 0) (nat_lt 1 r.turn.attempt) where
-    -- the counts once an attempt begins: it is a further one (f), or the first one of its chain
-    begun : Bool → Counts
-    begun f = if f then record { settled = record c.settled { again = one_more c.settled.again }; attempt = none_yet } else record { settled = sum c.settled c.attempt; attempt = none_yet }
-
     -- the lemma above, whether the record is of the setup (z), whether an attempt begins with it (l), and whether that is a
     -- further one (f)
     by_tests : ((d : Counts) → count (total (tallied d rs)) ≡ at_most (count d.settled + ((if is_followed rs then 0 else count d.attempt) + how_many so (last_attempts rs)))) → (z l f : Bool)
-        → count (total (tallied (if z then c else (let d = (if l then begun f else c) in record d { attempt = counted r.end d.attempt })) rs))
+        → count (total (tallied (if z then c else (let d = (if l then attempt_begun c f else c) in record d { attempt = counted r.end d.attempt })) rs))
         ≡ at_most (count c.settled + ((if (if z || not l then is_followed rs else f) then 0 else count c.attempt) + how_many so
         (if z || is_followed rs then last_attempts rs else r ∷ last_attempts rs)))
     by_tests ih true l f = ih c
-    by_tests ih false false f = counts_next _ (count c.settled) 0 c.attempt r (last_attempts rs) (is_followed rs) (ih (record c { attempt = counted r.end c.attempt }))
+    by_tests ih false false f = counts_next _ (count c.settled) c.attempt r (last_attempts rs) (is_followed rs) (ih (record c { attempt = counted r.end c.attempt }))
     by_tests ih false true true =
-        counts_next _ (count (record c.settled { again = one_more c.settled.again })) 0 none_yet r (last_attempts rs) (is_followed rs)
+        counts_next _ (count (record c.settled { again = one_more c.settled.again })) none_yet r (last_attempts rs) (is_followed rs)
         (ih (record { settled = record c.settled { again = one_more c.settled.again }; attempt = counted r.end none_yet }))
         ∙ ap (λ n. at_most (n + ((if is_followed rs then 0 else count none_yet) + how_many so (if is_followed rs then last_attempts rs else r ∷ last_attempts rs))))
         (stays c.settled (one_more c.settled.again))
         ∙ ap (λ n. at_most (count c.settled + ((if is_followed rs then 0 else n) + how_many so (if is_followed rs then last_attempts rs else r ∷ last_attempts rs)))) none
-        ∙ started_again (is_followed rs) (count c.settled) _
+        ∙ adds_nothing (is_followed rs) (count c.settled) _
     by_tests ih false true false =
-        counts_next _ (count (sum c.settled c.attempt)) 0 none_yet r (last_attempts rs) (is_followed rs) (ih (record { settled = sum c.settled c.attempt; attempt = counted r.end none_yet }))
+        counts_next _ (count (sum c.settled c.attempt)) none_yet r (last_attempts rs) (is_followed rs) (ih (record { settled = sum c.settled c.attempt; attempt = counted r.end none_yet }))
         ∙ ap (λ n. at_most (n + ((if is_followed rs then 0 else count none_yet) + how_many so (if is_followed rs then last_attempts rs else r ∷ last_attempts rs)))) (adds c.settled c.attempt)
         ∙ ap (λ n. at_most (later (count c.settled) (count c.attempt) + ((if is_followed rs then 0 else n) + how_many so (if is_followed rs then last_attempts rs else r ∷ last_attempts rs)))) none
         ∙ settled_then (is_followed rs) (count c.settled) (count c.attempt) _
@@ -78,7 +82,7 @@ module _ (count : Tally → ℕ) (so : End → Bool) (step : (end : End) (t : Ta
   pub counts_all : (records : List Record) → count (tally_of records) ≡ at_most (how_many so (last_attempts records))
   counts_all records =
       counts nothing_yet records ∙ ap (λ n. at_most (n + ((if is_followed records then 0 else n) + how_many so (last_attempts records)))) none
-      ∙ started_again (is_followed records) 0 (how_many so (last_attempts records)) ∙ omega arith
+      ∙ adds_nothing (is_followed records) 0 (how_many so (last_attempts records)) ∙ omega arith
 
 -- a command that is counted leaves how many chains were sent again
 same_again : (end : End) (t : Tally) → (counted end t).again ≡ t.again
@@ -91,16 +95,13 @@ same_again Skipped t = refl
 same_again Missed t = refl
 
 -- how many chains were sent again after records is that before, and the number of further attempts among them
-agains : (c : Counts) (rs : List Record) → c.attempt.again ≡ 0 → (total (tallied c rs)).again ≡ at_most (c.settled.again + further_attempts rs)
-agains c [] none = omega (arith, none)
-agains c (r ∷ rs) none = by_tests (λ d n. agains d rs n) (nat_eq r.cycle 0) (nat_eq r.turn.link 0) (nat_lt 1 r.turn.attempt) where
-  -- the counts once an attempt begins: it is a further one (f), or the first one of its chain
-  begun : Bool → Counts
-  begun f = if f then record { settled = record c.settled { again = one_more c.settled.again }; attempt = none_yet } else record { settled = sum c.settled c.attempt; attempt = none_yet }
-
-  -- the lemma above, by the tests of the record
+again_counts : (c : Counts) (rs : List Record) → c.attempt.again ≡ 0 → (total (tallied c rs)).again ≡ at_most (c.settled.again + further_attempts rs)
+again_counts c [] none = omega (arith, none)
+again_counts c (r ∷ rs) none = by_tests (λ d n. again_counts d rs n) (nat_eq r.cycle 0) (nat_eq r.turn.link 0) (nat_lt 1 r.turn.attempt) where
+  -- the lemma above, whether the record is of the setup (z), whether an attempt begins with it (l), and whether that is a
+  -- further one (f)
   by_tests : ((d : Counts) → d.attempt.again ≡ 0 → (total (tallied d rs)).again ≡ at_most (d.settled.again + further_attempts rs)) → (z l f : Bool)
-      → (total (tallied (if z then c else (let d = (if l then begun f else c) in record d { attempt = counted r.end d.attempt })) rs)).again
+      → (total (tallied (if z then c else (let d = (if l then attempt_begun c f else c) in record d { attempt = counted r.end d.attempt })) rs)).again
       ≡ at_most (c.settled.again + (if not z && l && f then suc (further_attempts rs) else further_attempts rs))
   by_tests ih true l f = ih c none
   by_tests ih false false f = ih (record c { attempt = counted r.end c.attempt }) (same_again r.end c.attempt ∙ none)
@@ -155,5 +156,5 @@ count_records = record {
   skipped = counts_all (λ (t : Tally). t.skipped) is_skipped skipped (λ a b. refl) refl (λ t n. refl);
   missed = counts_all (λ (t : Tally). t.missed) is_missed missed (λ a b. refl) refl (λ t n. refl);
   elsewhere = counts_all (λ (t : Tally). t.elsewhere) is_elsewhere elsewhere (λ a b. refl) refl (λ t n. refl);
-  again = λ records. agains nothing_yet records refl ∙ omega arith;
+  again = λ records. again_counts nothing_yet records refl ∙ omega arith;
 }

@@ -9,7 +9,7 @@ use Rattle.gc_station.specs.declared.progress.Action.TheVariants.{Begin, Send, S
 use Rattle.gc_station.specs.declared.progress.Progress.{Progress}
 use Rattle.gc_links.specs.Acts.{Act, Told, Cut}
 use Rattle.gc_station.proofs.Walk.{moved_changed, is_sent}
-use Rattle.gc_station.specs.Model.{Model, cycle_length, requests_out, moved, losing, ended}
+use Rattle.gc_station.specs.Model.{Model, cycle_length, commands_before, moved, losing, ended}
 use Rattle.gc_station.specs.Progressing.{failing, skipped, loses_all}
 
 -- from p to q the turns, the cycles that are left and the commands that are unsent stay the same
@@ -52,7 +52,7 @@ moved_counts plan commands Skip s act = inl (kept s.progress _ refl refl refl)
 moved_counts plan commands Pass s (Told m) = inr (kept (counted_passed s.progress) _ refl refl refl)
 moved_counts plan commands Pass s act = inl (kept s.progress _ refl refl refl)
 moved_counts plan commands Send s (Cut bytes n) = subst (λ (x : Model). Kept (counted_sent s.progress)
-    (failing (cause.Write (requests_out plan commands s.progress) n) x.progress)) (is_sent plan commands s) (kept (counted_sent s.progress) _ refl refl refl)
+    (failing (cause.Write (commands_before plan commands s.progress) n) x.progress)) (is_sent plan commands s) (kept (counted_sent s.progress) _ refl refl refl)
 moved_counts plan commands Send s act = subst (λ (x : Model). Kept (counted_sent s.progress) x.progress) (is_sent plan commands s) (kept (counted_sent s.progress) _ refl refl refl)
 moved_counts plan commands action s act =
     let is = moved_changed plan commands action s act in

@@ -1,8 +1,8 @@
--- Cycles begin on a grid of due moments, and nothing of a missed cycle is sent, if the clock doesn't go back (`ClockRises`). An act
--- is one call on the link, with its result. A cycle is missed if it began so late that the next one was due. The chain's fields
--- of a progress are `next_is_chained`, whether the next command waits for the answer of the one before it, and
--- `chain_unbroken`. `Cycling` says which cycle the station is in, and when it began; `Begun` says that it is in one, or that
--- none has begun yet.
+-- Cycles begin on a grid of due moments, and nothing of a missed cycle is sent, if the clock doesn't go back (`ClockRises`). An
+-- act is one call on the link, with its result. A cycle is missed if it began so late that the next one was due. The chain's
+-- fields of a progress are `next_is_chained`, whether the next command waits for the answer of the one before it, and
+-- `chain_unbroken`. `Cycling` says which cycle the station is in, and when it began; `Begun` says that it is in one, or that none
+-- has begun yet.
 use Rattle.std.proofs.Common.{◌≡◌, ◌⊎◌, inl, inr, ℕ, suc, ◌+◌, ◌-◌, ◌<◌, ◌≤◌, ◌||◌, Bool, true, false, List, [], ◌∷◌, ◌++◌, length, drop, min, nat_lt, nat_le, nat_eq, refl, sym, ap, ◌∙◌, subst, arith, append_assoc}
 use Rattle.std.proofs.lemmas.Bool.{lt-ltb, ne_eqb, eq-eqb}
 use Rattle.gc_texts.specs.declared.tasks.Task.{Task}
@@ -11,7 +11,7 @@ use Rattle.gc_links.specs.declared.link.Moment.{Moment}
 use Rattle.gc_station.specs.Cycles.{ClockRises, due_after, BeginsAt, BeginsLate, LastBegan, CyclesBeginWhenDue, SentOnlyInTime}
 use Rattle.gc_station.specs.Deciding.{is_due}
 use Rattle.gc_station.specs.Progressing.{turned, moment_noted, cycle_begun, cycle_start, failing, time_passed, quieted, closed}
-use Rattle.gc_station.specs.Reasons.{IsFor, MayGo}
+use Rattle.gc_station.specs.Reasons.{HoldsBefore, MayGo}
 use Rattle.gc_station.specs.Runs.{state_after}
 use Rattle.gc_station.specs.Scopes.{Scope}
 use Rattle.gc_station.specs.Model.{Model, opening, action_at, waiting_of, cycles_begun, place_next, is_chained, is_chained_after_next, is_chained_after, is_heard, with_progress, with_moment, lines_completed, piece_at, moved, Performs, Runs, cycle_length}
@@ -28,7 +28,7 @@ use Rattle.gc_station.specs.Silences.{latest}
 use Rattle.gc_station.proofs.Parted.{drop_past}
 use Rattle.gc_station.proofs.Closings.{runs_split, needs_of}
 use Rattle.gc_station.proofs.Always.{always, progress_behind}
-use Rattle.gc_station.proofs.EachRun.{fine_stood}
+use Rattle.gc_station.proofs.EachRun.{invariant_holds}
 use Rattle.gc_station.proofs.Facts.{action_for}
 use Rattle.gc_station.proofs.Invariant.{Invariant}
 use Rattle.gc_station.proofs.Walk.{asked_along, came_along, quieted_along, closed_along, moved_changed, walk}
@@ -39,23 +39,19 @@ use Rattle.gc_station.proofs.Staying.{Stays, stays, broken}
 -- What every run keeps of its cycles.
 
 module _ (plan : Plan) (commands : List Task) (scope : Scope) (some : 0 < plan.every) where
-  -- among these acts the cycle with n before it began at the moment m, `late` milliseconds after its due moment
-  abbrev pub Late : List Act → ℕ → Moment → ℕ → Type 0
-  Late acts n m late = BeginsLate plan commands scope acts n m late
-
-  -- with the progress p a station is within a cycle: which one (n cycles came before it), when it began, how long after its due
-  -- moment (`late`), and what the fields on missed cycles and chains mean
+  -- with the progress p a station is within a cycle: which one (how many came before it, `earlier`), when it began (`moment`),
+  -- how long after its due moment (`late`), and what the fields on missed cycles and chains mean
   pub record Cycling (acts : List Act) (p : Progress) : Type 0 where
-    pub n : ℕ
-    pub m : Moment
+    pub earlier : ℕ
+    pub moment : Moment
     pub late : ℕ
-    pub begins : BeginsLate plan commands scope acts n m late
-    pub count : cycles_begun plan p ≡ suc n
+    pub begins : BeginsLate plan commands scope acts earlier moment late
+    pub count : cycles_begun plan p ≡ suc earlier
     pub fewer : p.left < plan.cycles
-    pub began : p.began + late ≡ m.elapsed
+    pub began : p.began + late ≡ moment.elapsed
     pub past : p.began ≤ p.moment.elapsed
     pub missed : p.missed ≡ nat_le plan.every late
-    pub due : p.due ≡ m.utc - late
+    pub due : p.due ≡ moment.utc - late
     pub held : p.missed ≡ true → (p.next_is_chained ≡ true) × (p.chain_unbroken ≡ false)
     pub chained : p.next_is_chained ≡ true → (p.missed ≡ true) ⊎ ((plan.setup < place_next commands p) × (is_chained (drop (place_next commands p) commands) ≡ true))
 
@@ -77,7 +73,8 @@ module _ (plan : Plan) (commands : List Task) (scope : Scope) (some : 0 < plan.e
   pub late_more : (acts more : List Act) (n : ℕ) (m : Moment) (late : ℕ) → BeginsLate plan commands scope acts n m late → BeginsLate plan commands scope (acts ++ more) n m late
   late_more acts more n m late b = record { first = b.first; first_begins = at_more acts more 0 b.first b.first_begins; begins = at_more acts more n m b.begins; grid = b.grid }
 
-  -- `Begun` is preserved by an act that stays in its cycle (`Stays`) and reads moments as `Ticks` says, if the clock doesn't go back
+  -- `Begun` is preserved by an act that stays in its cycle (`Stays`) and reads moments as `Ticks` says, if the clock doesn't go
+  -- back
   pub begun_stays : (acts : List Act) (act : Act) (p q : Progress) → Stays p q → Ticks p act q → ClockRises p.moment.elapsed (act ∷ []) → Begun acts p → Begun (acts ++ act ∷ []) q
   begun_stays acts act p q k t rises (inl none) = inl (k.left ∙ none.0, k.unsent ∙ none.1)
   begun_stays acts act p q k t rises (inr c) =
@@ -88,10 +85,10 @@ module _ (plan : Plan) (commands : List Task) (scope : Scope) (some : 0 < plan.e
       let left = k.left in
       let place_is : place_next commands q ≡ place_next commands p = ap (λ (x : ℕ). length commands - x) k.unsent in
       inr (record {
-        n = c.n;
-        m = c.m;
+        earlier = c.earlier;
+        moment = c.moment;
         late = c.late;
-        begins = late_more acts (act ∷ []) c.n c.m c.late c.begins;
+        begins = late_more acts (act ∷ []) c.earlier c.moment c.late c.begins;
         count = ap (λ (x : ℕ). plan.cycles - x) k.left ∙ c.count;
         fewer = omega (arith, few, left);
         began = omega (arith, same, before);
@@ -122,10 +119,10 @@ module _ (plan : Plan) (commands : List Task) (scope : Scope) (some : 0 < plan.e
       let few = c.fewer in
       let at : place_next commands q ≡ place_next commands p + 1 = omega (arith, unsent, here, within) in
       inr (record {
-        n = c.n;
-        m = c.m;
+        earlier = c.earlier;
+        moment = c.moment;
         late = c.late;
-        begins = late_more acts (act ∷ []) c.n c.m c.late c.begins;
+        begins = late_more acts (act ∷ []) c.earlier c.moment c.late c.begins;
         count = ap (λ (x : ℕ). plan.cycles - x) left ∙ c.count;
         fewer = omega (arith, few, left);
         began = omega (arith, same, before);
@@ -157,10 +154,10 @@ module _ (plan : Plan) (commands : List Task) (scope : Scope) (some : 0 < plan.e
       let at : drop (place_next commands p + p.next_others) commands ≡ drop (place_next commands q) commands =
       drop_past commands p.unsent p.next_others (omega (arith, within)) ∙ ap (λ (x : ℕ). drop (length commands - x) commands) (sym unsent) in
       inr (record {
-        n = c.n;
-        m = c.m;
+        earlier = c.earlier;
+        moment = c.moment;
         late = c.late;
-        begins = late_more acts (act ∷ []) c.n c.m c.late c.begins;
+        begins = late_more acts (act ∷ []) c.earlier c.moment c.late c.begins;
         count = ap (λ (x : ℕ). plan.cycles - x) left ∙ c.count;
         fewer = omega (arith, few, left);
         began = omega (arith, same, before);
@@ -182,8 +179,8 @@ module _ (plan : Plan) (commands : List Task) (scope : Scope) (some : 0 < plan.e
   pub begins_cycle : (acts : List Act) (m : Moment) (p : Progress) (n : ℕ) (b : ℕ) → cycle_start plan m p ≡ b → b ≤ m.elapsed → cycles_begun plan p ≡ n → 0 < p.left → p.left ≤ plan.cycles
       → BeginsLate plan commands scope (acts ++ Told m ∷ []) n m (m.elapsed - b) → Cycling (acts ++ Told m ∷ []) (cycle_begun plan (cycle_length plan commands) m p)
   begins_cycle acts m p n b is past number left within late = record {
-    n = n;
-    m = m;
+    earlier = n;
+    moment = m;
     late = m.elapsed - b;
     begins = late;
     count = omega (arith, number, left, within);
@@ -201,14 +198,15 @@ module _ (plan : Plan) (commands : List Task) (scope : Scope) (some : 0 < plan.e
       → cycles_begun plan (state_after plan commands scope acts).progress ≡ n → BeginsAt plan commands scope (acts ++ Told m ∷ []) n m
   begins_here acts m n is number = record { before = acts; behind = []; order = refl; begins = is; number = number }
 
-  -- what is known of a cycle that is begun at the moment m: the moment b that counts as its start, which is its due moment
+  -- what is known of a cycle that is begun at the moment m: how many came before it (`earlier`), and the moment that counts as its
+  -- start (`start`), which is its due moment
   pub record Start (acts : List Act) (m : Moment) (p : Progress) : Type 0 where
-    pub n : ℕ
-    pub b : ℕ
-    pub is : cycle_start plan m p ≡ b
-    pub past : b ≤ m.elapsed
-    pub number : cycles_begun plan p ≡ n
-    pub late : BeginsLate plan commands scope (acts ++ Told m ∷ []) n m (m.elapsed - b)
+    pub earlier : ℕ
+    pub start : ℕ
+    pub is : cycle_start plan m p ≡ start
+    pub past : start ≤ m.elapsed
+    pub number : cycles_begun plan p ≡ earlier
+    pub late : BeginsLate plan commands scope (acts ++ Told m ∷ []) earlier m (m.elapsed - start)
 
   -- the first cycle has a `Start`: it is due at the moment at which it begins
   pub start_first : (acts : List Act) (m : Moment) (p : Progress) → action_at plan (state_after plan commands scope acts) ≡ actions.Begin
@@ -218,8 +216,8 @@ module _ (plan : Plan) (commands : List Task) (scope : Scope) (some : 0 < plan.e
       let none : cycles_begun plan p ≡ 0 = omega (arith, all) in
       let here = begins_here acts m 0 is (same ∙ none) in
       record {
-        n = 0;
-        b = m.elapsed;
+        earlier = 0;
+        start = m.elapsed;
         is = picks (nat_eq p.left plan.cycles || nat_eq plan.every 0) _ _ (or_some (nat_eq p.left plan.cycles) (nat_eq plan.every 0) (eq-eqb p.left plan.cycles all));
         past = omega arith;
         number = none;
@@ -241,11 +239,11 @@ module _ (plan : Plan) (commands : List Task) (scope : Scope) (some : 0 < plan.e
       (due_since (nat_eq p.left plan.cycles) (nat_le plan.every (p.moment.elapsed - p.began)) apart due) in
       let now = rises.0 in
       let most = rises.1 in
-      let here = begins_here acts m (suc c.n) is (same ∙ c.count) in
-      let last : due_after c.begins.first.elapsed plan.every c.n ≡ p.began = omega (arith, grid, before) in
+      let here = begins_here acts m (suc c.earlier) is (same ∙ c.count) in
+      let last : due_after c.begins.first.elapsed plan.every c.earlier ≡ p.began = omega (arith, grid, before) in
       record {
-        n = suc c.n;
-        b = p.began + plan.every;
+        earlier = suc c.earlier;
+        start = p.began + plan.every;
         is = picks_other (nat_eq p.left plan.cycles || nat_eq plan.every 0) _ _ (or_none (nat_eq p.left plan.cycles) (nat_eq plan.every 0) apart never) ∙ omega (arith, long, past, now, most);
         past = omega (arith, long, past, now);
         number = c.count;
@@ -266,30 +264,31 @@ module _ (plan : Plan) (commands : List Task) (scope : Scope) (some : 0 < plan.e
       → Cycling (acts ++ Told m ∷ []) (cycle_begun plan (cycle_length plan commands) m p)
   begun_begins acts m p is same due left within rises h =
       let x = starts acts m p is same due rises h in
-      begins_cycle acts m p x.n x.b x.is x.past x.number left within x.late
+      begins_cycle acts m p x.earlier x.start x.is x.past x.number left within x.late
 
   -- Acts.
 
   -- from p to q, over an act after these acts: the moment read last is the act's if it reads one, else p's; and `Begun` holds
   -- of q if the clock doesn't go back at the act
-  abbrev pub OnTo : List Act → Progress → Act → Progress → Type 0
-  OnTo acts p act q = (q.moment.elapsed ≡ latest p.moment.elapsed (act ∷ [])) × (ClockRises p.moment.elapsed (act ∷ []) → Begun (acts ++ act ∷ []) q)
+  abbrev pub KeepsBegun : List Act → Progress → Act → Progress → Type 0
+  KeepsBegun acts p act q = (q.moment.elapsed ≡ latest p.moment.elapsed (act ∷ [])) × (ClockRises p.moment.elapsed (act ∷ []) → Begun (acts ++ act ∷ []) q)
 
-  -- `OnTo`, from a progress to that of a model
-  abbrev pub On : List Act → Progress → Act → Model → Type 0
-  On acts p act t = OnTo acts p act t.progress
+  -- `KeepsBegun`, from a progress to the progress of a model
+  abbrev pub KeepsBegunOf : List Act → Progress → Act → Model → Type 0
+  KeepsBegunOf acts p act t = KeepsBegun acts p act t.progress
 
   -- from p to q an act stays in the cycle, and reads moments as `Ticks` says
-  abbrev pub Same : Progress → Act → Progress → Type 0
-  Same p act q = Stays p q × Ticks p act q
+  abbrev pub StaysAndTicks : Progress → Act → Progress → Type 0
+  StaysAndTicks p act q = Stays p q × Ticks p act q
 
-  -- an act that stays in its cycle, as `Same` says, does what `OnTo` says
-  pub on_same : (acts : List Act) (p : Progress) (act : Act) (q : Progress) → Begun acts p → Same p act q → OnTo acts p act q
+  -- an act that stays in its cycle, as `StaysAndTicks` says, does what `KeepsBegun` says
+  pub on_same : (acts : List Act) (p : Progress) (act : Act) (q : Progress) → Begun acts p → StaysAndTicks p act q → KeepsBegun acts p act q
   on_same acts p act q h same = (last_ticks p q act same.1, λ rises. begun_stays acts act p q same.0 same.1 rises h)
 
-  -- a call that failed does what `On` says
-  pub fails : (acts : List Act) (s : Model) (act : Act) (why : Cause) → Begun acts s.progress → Ticks s.progress act s.progress → On acts s.progress act (with_progress (failing why) s)
-  fails acts s act why h t = (
+  -- a call that failed does what `KeepsBegunOf` says
+  pub begun_after_failure : (acts : List Act) (s : Model) (act : Act) (why : Cause) → Begun acts s.progress → Ticks s.progress act s.progress
+      → KeepsBegunOf acts s.progress act (with_progress (failing why) s)
+  begun_after_failure acts s act why h t = (
     last_ticks s.progress (failing why s.progress) act (ticks_failing act t),
     λ rises. begun_stays acts act s.progress (failing why s.progress) (stays s.progress (failing why s.progress) refl refl refl refl refl (inl refl)) (ticks_failing act t) rises h,
   ) where
@@ -301,7 +300,7 @@ module _ (plan : Plan) (commands : List Task) (scope : Scope) (some : 0 < plan.e
     ticks_failing a e = e
 
   -- a read that gave bytes stays in its cycle
-  pub gave_same : (until : Until) (s : Model) (bytes : List ℕ) (m : Moment) → Same s.progress (Gave bytes m) (piece_at plan until bytes m s).progress
+  pub gave_same : (until : Until) (s : Model) (bytes : List ℕ) (m : Moment) → StaysAndTicks s.progress (Gave bytes m) (piece_at plan until bytes m s).progress
   gave_same until s bytes m =
       let mid = with_moment m (with_progress (moment_noted m) s) in
       let heard_there = is_heard s.progress.phase in
@@ -313,15 +312,15 @@ module _ (plan : Plan) (commands : List Task) (scope : Scope) (some : 0 < plan.e
       )
 
   -- a read that gave nothing stays in its cycle
-  pub silent_same : (at : Phase) (p : Progress) (until : Until) (m : Moment) → Same p (Silent m) (quieted plan at (time_passed until m p))
+  pub silent_same : (at : Phase) (p : Progress) (until : Until) (m : Moment) → StaysAndTicks p (Silent m) (quieted plan at (time_passed until m p))
   silent_same at p until m =
-      quieted_along (λ (q : Progress). Same p (Silent m) q) plan at (time_passed until m p)
+      quieted_along (λ (q : Progress). StaysAndTicks p (Silent m) q) plan at (time_passed until m p)
       (stays p _ refl refl refl refl refl (inl refl), (refl, refl)) (stays p _ refl refl refl refl refl (inl refl), (refl, refl)) (stays p _ refl refl refl refl refl (inl refl), (refl, refl))
 
   -- a close stays in its cycle
-  pub closed_same : (s : Model) (why : Cause) → Same s.progress Closed (closed plan (waiting_of s) why s.progress)
+  pub closed_same : (s : Model) (why : Cause) → StaysAndTicks s.progress Closed (closed plan (waiting_of s) why s.progress)
   closed_same s why =
-      closed_along (λ (q : Progress). Same s.progress Closed q) plan (waiting_of s) why s.progress
+      closed_along (λ (q : Progress). StaysAndTicks s.progress Closed q) plan (waiting_of s) why s.progress
       (stays s.progress _ refl refl refl refl refl (inr refl), (refl, refl)) (stays s.progress _ refl refl refl refl refl (inr refl), (refl, refl))
 
   -- if a command may be sent, its cycle isn't missed
@@ -334,32 +333,32 @@ module _ (plan : Plan) (commands : List Task) (scope : Scope) (some : 0 < plan.e
     by_test true e (inl free) = absurd (not_both p.next_is_chained (c.held e).0 free)
     by_test true e (inr going) = absurd (not_both p.chain_unbroken going.2 (c.held e).1)
 
-  -- an act of each action does to the moment read last, and to `Begun`, what `On` says
+  -- an act of each action does to the moment read last, and to `Begun`, what `KeepsBegunOf` says
   pub on_moved : (acts : List Act) (next : Action) (act : Act) → action_at plan (state_after plan commands scope acts) ≡ next
       → Performs commands (state_after plan commands scope acts) next act → Invariant plan commands (state_after plan commands scope acts)
-      → IsFor plan (state_after plan commands scope acts).progress (waiting_of (state_after plan commands scope acts)) next → Begun acts (turned (state_after plan commands scope acts).progress)
-      → On acts (turned (state_after plan commands scope acts).progress) act (moved plan commands next (with_progress turned (state_after plan commands scope acts)) act)
+      → HoldsBefore plan (state_after plan commands scope acts).progress (waiting_of (state_after plan commands scope acts)) next → Begun acts (turned (state_after plan commands scope acts).progress)
+      → KeepsBegunOf acts (turned (state_after plan commands scope acts).progress) act (moved plan commands next (with_progress turned (state_after plan commands scope acts)) act)
   on_moved acts actions.ReadClock act is o fine needs h =
       let s = with_progress turned (state_after plan commands scope acts) in
-      walk plan commands (On acts s.progress) actions.ReadClock s act o
-      (λ m. on_same acts s.progress (Told m) _ h (stays s.progress _ refl refl refl refl refl (inl refl), (refl, refl)), λ n. fails acts s Untold cause.Clock h (refl, refl))
+      walk plan commands (KeepsBegunOf acts s.progress) actions.ReadClock s act o
+      (λ m. on_same acts s.progress (Told m) _ h (stays s.progress _ refl refl refl refl refl (inl refl), (refl, refl)), λ n. begun_after_failure acts s Untold cause.Clock h (refl, refl))
   on_moved acts actions.Renew act is o fine needs h =
       let s = with_progress turned (state_after plan commands scope acts) in
-      walk plan commands (On acts s.progress) actions.Renew s act o
-      (λ m. on_same acts s.progress (Told m) _ h (stays s.progress _ refl refl refl refl refl (inr refl), (refl, refl)), λ n. fails acts s Untold cause.Clock h (refl, refl))
+      walk plan commands (KeepsBegunOf acts s.progress) actions.Renew s act o
+      (λ m. on_same acts s.progress (Told m) _ h (stays s.progress _ refl refl refl refl refl (inr refl), (refl, refl)), λ n. begun_after_failure acts s Untold cause.Clock h (refl, refl))
   on_moved acts actions.Begin act is o fine needs h =
       let s = with_progress turned (state_after plan commands scope acts) in
-      walk plan commands (On acts s.progress) actions.Begin s act o (
+      walk plan commands (KeepsBegunOf acts s.progress) actions.Begin s act o (
         λ m. (
           refl,
           λ rises. inr (begun_begins acts m s.progress is refl
               (begin_due plan (state_after plan commands scope acts).progress (waiting_of (state_after plan commands scope acts)) is) needs.4 fine.left rises h),
         ),
-        λ n. fails acts s Untold cause.Clock h (refl, refl),
+        λ n. begun_after_failure acts s Untold cause.Clock h (refl, refl),
       )
   on_moved acts actions.Open act is o fine needs h =
       let s = with_progress turned (state_after plan commands scope acts) in
-      walk plan commands (On acts s.progress) actions.Open s act o (
+      walk plan commands (KeepsBegunOf acts s.progress) actions.Open s act o (
         λ m. on_same acts s.progress Opened _ h (stays s.progress _ refl refl refl refl refl (inl refl), (refl, refl)),
         λ n. on_same acts s.progress Unopened _
             h (stays s.progress _ refl refl refl refl refl (inr refl), (refl, refl)),
@@ -367,46 +366,48 @@ module _ (plan : Plan) (commands : List Task) (scope : Scope) (some : 0 < plan.e
   on_moved acts actions.Send act is o fine needs h =
       let s = with_progress turned (state_after plan commands scope acts) in
       let free = not_missed acts s.progress (waiting_of (state_after plan commands scope acts)) needs.2 needs.4 h in
-      walk plan commands (On acts s.progress) actions.Send s act o (
+      walk plan commands (KeepsBegunOf acts s.progress) actions.Send s act o (
         λ m. (refl, λ rises. begun_next acts _ s.progress _ refl refl refl refl refl (λ e. absurd (not_both s.progress.missed e free)) (refl, refl) rises needs.2 fine.unsent h),
         λ n. (refl, λ rises. begun_next acts _ s.progress _ refl refl refl refl refl (λ e. absurd (not_both s.progress.missed e free)) (refl, refl) rises needs.2 fine.unsent h),
       )
   on_moved acts actions.Prepare act is o fine needs h =
       let s = with_progress turned (state_after plan commands scope acts) in
-      walk plan commands (On acts s.progress) actions.Prepare s act o (
+      walk plan commands (KeepsBegunOf acts s.progress) actions.Prepare s act o (
         λ m. on_same acts s.progress _ _ h (stays s.progress _ refl refl refl refl refl (inr refl), (refl, refl)),
         λ n. on_same acts s.progress _ _ h (stays s.progress _ refl refl refl refl refl (inr refl), (refl, refl)),
       )
   on_moved acts actions.Skip act is o fine needs h =
       let s = with_progress turned (state_after plan commands scope acts) in
-      walk plan commands (On acts s.progress) actions.Skip s act o
-      (λ m. (refl, λ rises. begun_next acts (Told m) s.progress _ refl refl refl refl refl (λ e. refl) (refl, refl) rises needs.2 fine.unsent h), λ n. fails acts s Untold cause.Clock h (refl, refl))
+      walk plan commands (KeepsBegunOf acts s.progress) actions.Skip s act o (
+        λ m. (refl, λ rises. begun_next acts (Told m) s.progress _ refl refl refl refl refl (λ e. refl) (refl, refl) rises needs.2 fine.unsent h),
+        λ n. begun_after_failure acts s Untold cause.Clock h (refl, refl),
+      )
   on_moved acts actions.Pass act is o fine needs h =
       let s = with_progress turned (state_after plan commands scope acts) in
-      walk plan commands (On acts s.progress) actions.Pass s act o (
+      walk plan commands (KeepsBegunOf acts s.progress) actions.Pass s act o (
         λ m. (
           refl,
           λ rises. begun_past acts (Told m) s.progress _ refl refl refl refl refl needs.4 (λ e. refl)
               (refl, refl) rises needs.2 fine.unsent h,
         ),
-        λ n. fails acts s Untold cause.Clock h (refl, refl),
+        λ n. begun_after_failure acts s Untold cause.Clock h (refl, refl),
       )
   on_moved acts (actions.Read until) act is o fine needs h =
       let s = with_progress turned (state_after plan commands scope acts) in
-      walk plan commands (On acts s.progress) (actions.Read until) s act o (
+      walk plan commands (KeepsBegunOf acts s.progress) (actions.Read until) s act o (
         λ bytes m. on_same acts s.progress (Gave bytes m) (piece_at plan until bytes m s).progress h (gave_same until s bytes m),
         λ m. on_same acts s.progress (Silent m) (moved plan commands (actions.Read until) s (Silent m)).progress h (silent_same s.progress.phase s.progress until m),
-        fails acts s Ended cause.End h (refl, refl),
-        fails acts s Broke cause.Read h (refl, refl),
-        fails acts s Untold cause.Clock h (refl, refl),
+        begun_after_failure acts s Ended cause.End h (refl, refl),
+        begun_after_failure acts s Broke cause.Read h (refl, refl),
+        begun_after_failure acts s Untold cause.Clock h (refl, refl),
       )
   on_moved acts (actions.Close why) act is o fine needs h =
       let s = with_progress turned (state_after plan commands scope acts) in
-      walk plan commands (On acts s.progress) (actions.Close why) s act o (on_same acts s.progress Closed _ h (closed_same s why))
+      walk plan commands (KeepsBegunOf acts s.progress) (actions.Close why) s act o (on_same acts s.progress Closed _ h (closed_same s why))
   on_moved acts (actions.Stop why) act is o fine needs h = absurd o
   on_moved acts next act is o fine needs h =
       let s = with_progress turned (state_after plan commands scope acts) in
-      walk plan commands (On acts s.progress) next s act o (
+      walk plan commands (KeepsBegunOf acts s.progress) next s act o (
         λ m. on_same acts s.progress _ _ h (stays s.progress _ refl refl refl refl refl (inl refl), (refl, refl)),
         λ n. on_same acts s.progress _ _ h
             (stays s.progress _ refl refl refl refl refl (inl refl), (refl, refl)),
@@ -418,8 +419,8 @@ module _ (plan : Plan) (commands : List Task) (scope : Scope) (some : 0 < plan.e
   pub begun_turned : (acts : List Act) (p : Progress) → Begun acts p → Begun acts (turned p)
   begun_turned acts p (inl none) = inl none
   begun_turned acts p (inr c) = inr (record {
-    n = c.n;
-    m = c.m;
+    earlier = c.earlier;
+    moment = c.moment;
     late = c.late;
     begins = c.begins;
     count = c.count;
@@ -433,36 +434,38 @@ module _ (plan : Plan) (commands : List Task) (scope : Scope) (some : 0 < plan.e
   })
 
   -- if the clock doesn't go back in these acts, the moment read last is the last that they read, and `Begun` holds after them
-  abbrev pub Kept : List Act → Type 0
-  Kept acts = ClockRises 0 acts → ((state_after plan commands scope acts).progress.moment.elapsed ≡ latest 0 acts) × Begun acts (state_after plan commands scope acts).progress
+  abbrev pub BegunIfClockRises : List Act → Type 0
+  BegunIfClockRises acts = ClockRises 0 acts → ((state_after plan commands scope acts).progress.moment.elapsed ≡ latest 0 acts) × Begun acts (state_after plan commands scope acts).progress
 
   -- if the clock doesn't go back in acts and one more, it doesn't at the last act, counted from the moment read before it
   pub rises_here : (acts : List Act) (act : Act) → ClockRises 0 (acts ++ act ∷ []) → (state_after plan commands scope acts).progress.moment.elapsed ≡ latest 0 acts
       → ClockRises (state_after plan commands scope acts).progress.moment.elapsed (act ∷ [])
   rises_here acts act rises at = subst (λ (n : ℕ). ClockRises n (act ∷ [])) (sym at) (rises_last 0 acts act rises)
 
-  -- `Kept` is preserved by one act of a run more
-  pub kept_step : (done : List Act) (act : Act) → Runs plan commands (opening plan scope) done
-      → Performs commands (state_after plan commands scope done) (action_at plan (state_after plan commands scope done)) act → Kept done → Kept (done ++ act ∷ [])
-  kept_step done act runs o h rises =
+  -- `BegunIfClockRises` is preserved by one act of a run more
+  pub begun_step : (done : List Act) (act : Act) → Runs plan commands (opening plan scope) done
+      → Performs commands (state_after plan commands scope done) (action_at plan (state_after plan commands scope done)) act → BegunIfClockRises done → BegunIfClockRises (done ++ act ∷ [])
+  begun_step done act runs o h rises =
       let s = state_after plan commands scope done in
       let old = h (rises_front 0 done act rises) in
-      let on = on_moved done (action_at plan s) act refl o (fine_stood plan commands scope done) (action_for plan s.progress (waiting_of s)) (begun_turned done s.progress old.1) in
+      let on = on_moved done (action_at plan s) act refl o (invariant_holds plan commands scope done) (action_for plan s.progress (waiting_of s)) (begun_turned done s.progress old.1) in
       let t = moved plan commands (action_at plan s) (with_progress turned s) act in
       let there = progress_behind plan commands scope done act in (
         ap (λ (p : Progress). p.moment.elapsed) there ∙ on.0 ∙ ap (λ (n : ℕ). latest n (act ∷ [])) old.0 ∙ sym (latest_more 0 done act),
         subst (λ (p : Progress). Begun (done ++ act ∷ []) p) (sym there) (on.1 (rises_here done act rises old.0)),
       )
 
-  -- `Kept` holds after every run
-  pub kept_stood : (acts : List Act) → Runs plan commands (opening plan scope) acts → Kept acts
-  kept_stood acts runs = always plan commands (opening plan scope) (λ (xs : List Act) (t : Model). Kept xs) kept_step (λ rises. (refl, inl (refl, refl))) acts runs
+  -- `BegunIfClockRises` holds after every run
+  pub begun_if_clock_rises : (acts : List Act) → Runs plan commands (opening plan scope) acts → BegunIfClockRises acts
+  begun_if_clock_rises acts runs = always plan commands (opening plan scope) (λ (xs : List Act) (t : Model). BegunIfClockRises xs) begun_step (λ rises. (refl, inl (refl, refl))) acts runs
 
   -- a cycle that isn't missed is the last that began, and began in time
   pub last_began : (acts : List Act) (p : Progress) → p ≡ (state_after plan commands scope acts).progress → (c : Cycling acts p) → p.missed ≡ false
       → (last : LastBegan plan commands scope acts) × (last.late < plan.every)
-  last_began acts p is c free =
-      (record { n = c.n; moment = c.m; late = c.late; begins = c.begins; number = sym (ap (λ (q : Progress). cycles_begun plan q) is) ∙ c.count }, lt_of plan.every c.late (sym c.missed ∙ free))
+  last_began acts p is c free = (
+    record { n = c.earlier; moment = c.moment; late = c.late; begins = c.begins; number = sym (ap (λ (q : Progress). cycles_begun plan q) is) ∙ c.count },
+    lt_of plan.every c.late (sym c.missed ∙ free),
+  )
 
   -- if a command is sent, its cycle began before the next one was due
   pub sent_in_time : (acts : List Act) → Runs plan commands (opening plan scope) acts → ClockRises 0 acts
@@ -470,7 +473,7 @@ module _ (plan : Plan) (commands : List Task) (scope : Scope) (some : 0 < plan.e
   sent_in_time acts runs rises is =
       let s = state_after plan commands scope acts in
       let needs = needs_of plan s actions.Send is in
-      let cycle_begun = (kept_stood acts runs rises).1 in
+      let cycle_begun = (begun_if_clock_rises acts runs rises).1 in
       let free = not_missed acts s.progress (waiting_of s) needs.2 needs.4 cycle_begun in
       by_begun needs.2 cycle_begun free where
         -- the lemma above, by whether a cycle has begun: one has, as a command is unsent
@@ -486,9 +489,9 @@ module _ (plan : Plan) (commands : List Task) (scope : Scope) (some : 0 < plan.e
   begins_due acts later m runs rises is =
       let s = state_after plan commands scope acts in
       let split = runs_split plan commands (opening plan scope) acts later (Told m) runs in
-      let old = kept_stood acts split.0 (rises_front 0 acts (Told m) rises) in
+      let old = begun_if_clock_rises acts split.0 (rises_front 0 acts (Told m) rises) in
       let x = starts acts m s.progress is refl (begin_due plan s.progress (waiting_of s) is) (rises_here acts (Told m) rises old.0) old.1 in
-      (m.elapsed - x.b, subst (λ (k : ℕ). BeginsLate plan commands scope (acts ++ Told m ∷ []) k m (m.elapsed - x.b)) (sym x.number) x.late)
+      (m.elapsed - x.start, subst (λ (k : ℕ). BeginsLate plan commands scope (acts ++ Told m ∷ []) k m (m.elapsed - x.start)) (sym x.number) x.late)
 
 -- each cycle begins at or after its due moment
 pub begin_when_due : CyclesBeginWhenDue

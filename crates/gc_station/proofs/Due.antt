@@ -2,7 +2,7 @@
 -- action under some conditions. `BeginsDue` says of an action: if it begins a cycle, the cycle is due.
 use Rattle.std.proofs.Common.{◌≡◌, ◌&&◌, Bool, true, false, nat_lt, nat_le, nat_eq, if◌then◌else◌, not}
 use Rattle.gc_client.specs.declared.window.TheConstants.{WINDOW}
-use Rattle.gc_station.specs.Deciding.{is_up, is_idle, is_finished, has_begun, is_dead, is_due, has_room, action_of, action_in, action_on, action_of_phase, may_go, waits_for_all, action_again, action_ready, action_begun, action_beginning, action_sent, action_settled, action_done, action_next, action_room, action_waiting, action_without_turns, is_stale, is_stopping, is_held_back, action_cycle, action_prepare, action_turn, action_preparing, is_preparing}
+use Rattle.gc_station.specs.Deciding.{is_up, is_idle, is_finished, has_begun, is_dead, is_due, has_room, action_of, action_in, action_on, action_of_phase, may_go, waits_for_all, action_again, action_ready, action_begun, action_beginning, action_sent, action_settled, action_done, action_next, action_room, action_waiting, action_without_turns, is_stale, is_stopping, is_held_back, action_cycle, action_turn, action_preparing, is_preparing}
 use Rattle.gc_station.specs.declared.cause.Cause.TheVariants as cause
 use Rattle.gc_station.specs.declared.plan.Plan.{Plan}
 use Rattle.gc_station.specs.declared.progress.Action.{Action}
@@ -31,7 +31,7 @@ module _ (plan : Plan) (p : Progress) (w : Waiting) where
   room_not next not = either (BeginsDue plan p) next (action_waiting plan p w) (has_room plan w) (λ e. not) (λ e. waits_not)
 
   -- no cycle begins if the next command may be sent
-  pub next_not : BeginsDue plan p (action_next plan p w)
+  pub next_not : BeginsDue plan p (action_next plan p w actions.Send)
   next_not =
       either (BeginsDue plan p) (action_room plan p w actions.Send) _ (nat_lt p.behind WINDOW) (λ e. room_not actions.Send (λ b. cc))
       (λ e. either (BeginsDue plan p) (action_room plan p w actions.Flush) (action_waiting plan p w) (nat_eq w.current 0) (λ d. room_not actions.Flush (λ b. cc)) (λ d. waits_not))
@@ -46,9 +46,9 @@ module _ (plan : Plan) (p : Progress) (w : Waiting) where
   pub settled_due : BeginsDue plan p (action_settled plan p w)
   settled_due =
       either (BeginsDue plan p) (action_done plan p) _ (nat_eq p.unsent 0) (λ e. done_due)
-      (λ e. either (BeginsDue plan p) (action_again plan p w) (if may_go p w then action_next plan p w else actions.Skip) (nat_lt 0 p.next_others)
-      (λ more. either (BeginsDue plan p) (action_next plan p w) actions.Pass (w.listed && not p.next_is_chained) (λ d. next_not) (λ d b. cc))
-      (λ none. either (BeginsDue plan p) (action_next plan p w) actions.Skip (may_go p w) (λ d. next_not) (λ d b. cc)))
+      (λ e. either (BeginsDue plan p) (action_again plan p w) (if may_go p w then action_next plan p w actions.Send else actions.Skip) (nat_lt 0 p.next_others)
+      (λ more. either (BeginsDue plan p) (action_next plan p w actions.Send) actions.Pass (w.listed && not p.next_is_chained) (λ d. next_not) (λ d b. cc))
+      (λ none. either (BeginsDue plan p) (action_next plan p w actions.Send) actions.Skip (may_go p w) (λ d. next_not) (λ d b. cc)))
 
   -- if no command may be sent, the next cycle begins only when it is due
   pub sent_due : BeginsDue plan p (action_sent plan p w)
@@ -59,7 +59,7 @@ module _ (plan : Plan) (p : Progress) (w : Waiting) where
   -- no cycle begins if it is the turn of a command of the setup
   pub turn_not : BeginsDue plan p (action_turn plan p w)
   turn_not =
-      either (BeginsDue plan p) (action_prepare plan p w) (actions.Read Limit) (nat_lt p.prepared plan.setup)
+      either (BeginsDue plan p) (action_next plan p w actions.Prepare) (actions.Read Limit) (nat_lt p.prepared plan.setup)
       (λ n. either (BeginsDue plan p) (action_room plan p w actions.Prepare) _ (nat_lt p.behind WINDOW) (λ e. room_not actions.Prepare (λ b. cc))
       (λ e. either (BeginsDue plan p) (action_room plan p w actions.Flush) (action_waiting plan p w) (nat_eq w.current 0) (λ d. room_not actions.Flush (λ b. cc)) (λ d. waits_not)))
       (λ n b. cc)
@@ -77,7 +77,7 @@ module _ (plan : Plan) (p : Progress) (w : Waiting) where
   -- once the setup is done, a cycle begins only when it is due
   pub cycle_due : BeginsDue plan p (action_cycle plan p w)
   cycle_due =
-      either (BeginsDue plan p) (action_next plan p w) (action_sent plan p w) (nat_lt 0 p.unsent && not (waits_for_all p)) (λ d. next_not) (λ d. sent_due)
+      either (BeginsDue plan p) (action_next plan p w actions.Send) (action_sent plan p w) (nat_lt 0 p.unsent && not (waits_for_all p)) (λ d. next_not) (λ d. sent_due)
 
   -- once the station has synchronized, a cycle begins only when it is due
   pub begun_due : BeginsDue plan p (action_begun plan p w)

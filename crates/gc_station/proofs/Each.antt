@@ -2,7 +2,7 @@
 -- stands for these commands, whether they were sent or were left out.) A mark says which command an outstanding request is of,
 -- or `None` of a null procedure.
 use Rattle.std.proofs.Common.{◌≡◌, ℕ, zero, suc, ◌+◌, ◌-◌, ◌<◌, ◌≤◌, Bool, true, false, nat_eq, List, [], ◌∷◌, ◌++◌, length, take, drop, map, Option, Some, None, refl, sym, ap, ◌∙◌, arith, append_assoc, append-nil}
-use Rattle.std.proofs.lemmas.List.{length-map, length-drop, map-append}
+use Rattle.std.proofs.lemmas.List.{length-map, length-drop, map-append, take_all}
 use Rattle.gc_catalogue.specs.declared.answer.Reading.{Reading}
 use Rattle.gc_catalogue.specs.declared.asked.Asked.{Asked}
 use Rattle.gc_client.specs.declared.pending.Pending.{Pending}
@@ -12,12 +12,13 @@ use Rattle.gc_client.proofs.OneForOne.{expired_parts}
 use Rattle.gc_texts.specs.declared.near.Expected.{Expected}
 use Rattle.gc_texts.specs.declared.tasks.Task.{Task}
 use Rattle.gc_station.specs.declared.mark.Mark.{Mark}
-use Rattle.gc_station.specs.EachOnce.{Request, requests, of_task, all_cycles, sent_by, of_record, of_waiting, still_waiting, cycle_with, of_cycles, of_text, in_text}
+use Rattle.gc_station.specs.EachOnce.{Request, requests, of_task, all_cycles, commands_reached, of_record, of_waiting, still_waiting, cycle_with, of_cycles, of_text, in_text}
 use Rattle.gc_station.specs.Requests.{asked_at, of_command}
 use Rattle.gc_station.proofs.Timing.{asked_text, unsent_text}
 use Rattle.gc_station.proofs.Ticking.{not_none}
 use Rattle.gc_station.specs.Marks.{commands_in, record_of, records_of}
 use Rattle.gc_station.specs.Records.{Record}
+use Rattle.gc_station.proofs.Lists.{drop_append}
 
 -- the requests of one cycle for two lists of commands are those of the first list, and after them those of the second, from the
 -- next place on
@@ -74,7 +75,7 @@ marked_none (m ∷ ms) [] e = refl
 marked_none (None ∷ ms) (a ∷ asks) e = marked_none ms asks e
 marked_none (Some mark ∷ ms) (a ∷ asks) e = absurd (omega (arith, e))
 
--- those of two lists of requests that are of a cycle are those of the first list, and after them those of the second
+-- the requests of cycles in two lists, one after the other, are those in the first list, and after them those in the second
 pub cycles_append : (xs ys : List Request) → of_cycles (xs ++ ys) ≡ of_cycles xs ++ of_cycles ys
 cycles_append [] ys = refl
 cycles_append (x ∷ xs) ys = by_cycle (nat_eq x.cycle 0) (cycles_append xs ys) where
@@ -83,12 +84,11 @@ cycles_append (x ∷ xs) ys = by_cycle (nat_eq x.cycle 0) (cycles_append xs ys) 
   by_cycle true others = others
   by_cycle false others = ap (λ zs. x ∷ zs) others
 
--- those of two lists of requests that are of a cycle, as the text has them, are those of the first list, and after them those
--- of the second
+-- the requests of cycles in two lists, as the text has them, are those in the first list, and after them those in the second
 pub listed_append : (commands : List Task) (xs ys : List Request) → of_text commands (xs ++ ys) ≡ of_text commands xs ++ of_text commands ys
 listed_append commands xs ys = ap (map (in_text commands)) (cycles_append xs ys) ∙ map-append (in_text commands) (of_cycles xs) (of_cycles ys)
 
--- the requests of one cycle are all of a cycle
+-- the requests of one cycle are all requests of cycles, none of the setup
 cycles_all : (cycle place : ℕ) (asks : List (Wanted Asked)) → 0 < cycle → of_cycles (requests cycle place asks) ≡ requests cycle place asks
 cycles_all cycle place [] some = refl
 cycles_all cycle place (a ∷ others) some =
@@ -197,13 +197,7 @@ each_prepared commands mark ms ws p rs sent none paired h =
     ∙ ap (λ n. of_text commands (front ++ waits) ++ map (in_text commands) (cycle_with (nat_eq n 0) one [])) none
     ∙ append-nil (of_text commands (front ++ waits)) ∙ h
 
--- of two lists, the elements after the first n, if the first list has as many, are those of the first list, and the second list
-pub drop_front : (n : ℕ) (xs ys : List Task) → n ≤ length xs → drop n (xs ++ ys) ≡ drop n xs ++ ys
-drop_front zero xs ys h = refl
-drop_front (suc n) [] ys h = absurd (omega (arith, h))
-drop_front (suc n) (x ∷ xs) ys h = drop_front n xs ys (omega (arith, h))
-
--- nothing is after the first `setup` of the first `place` commands, if these are no more
+-- the first `place` commands have none after the first `setup`, if `place` is at most `setup`
 none_taken : (setup place : ℕ) (commands : List Task) → place ≤ setup → drop setup (take place commands) ≡ []
 none_taken zero zero commands e = refl
 none_taken (suc s) zero commands e = refl
@@ -213,7 +207,7 @@ none_taken (suc s) (suc p) (c ∷ cs) e = none_taken s p cs (omega (arith, e))
 
 -- the commands that had their turn, with the next one after them, are those that had their turn one place later
 pub sent_next : (setup : ℕ) (commands : List Task) (begun place : ℕ) (task : Task) (others : List Task) → drop place commands ≡ task ∷ others → setup ≤ place → 0 < begun
-    → sent_by setup commands begun place ++ requests begun place (of_task task ∷ []) ≡ sent_by setup commands begun (place + 1)
+    → commands_reached setup commands begun place ++ requests begun place (of_task task ∷ []) ≡ commands_reached setup commands begun (place + 1)
 sent_next setup commands zero place task others at within some = absurd (omega (arith, some))
 sent_next setup commands (suc n) place task others at within some =
     let one : List (Wanted Asked) = of_task task ∷ [] in
@@ -224,7 +218,7 @@ sent_next setup commands (suc n) place task others at within some =
     let taken_len : length taken ≡ length (take place commands) - setup = length-map front of_task ∙ length-drop setup (take place commands) in
     let taken_at : setup + length taken ≡ place = omega (arith, taken_len, size, within) in
     let more : drop setup (take (place + 1) commands) ≡ front ++ task ∷ [] =
-    ap (drop setup) (take_next commands place task others at) ∙ drop_front setup (take place commands) (task ∷ []) (omega (arith, size, within)) in
+    ap (drop setup) (take_next commands place task others at) ∙ drop_append setup (take place commands) (task ∷ []) (omega (arith, size, within)) in
     append_assoc cycles (requests (suc n) setup taken) (requests (suc n) place one)
     ∙ ap (λ b. cycles ++ (requests (suc n) setup taken ++ requests (suc n) b one)) (sym taken_at)
     ∙ ap (λ xs. cycles ++ xs) (sym (requests-append (suc n) setup taken one))
@@ -263,16 +257,13 @@ each_skipped commands begun place ms ws rs r task others none at is some kept h 
     ∙ ap (λ xs. xs ++ listed) (each_settled commands ms ws rs kept none h))
 
 -- at the end of a cycle, all commands of the cycles so far had their turn
-pub sent_whole : (setup : ℕ) (commands : List Task) (begun place : ℕ) → place ≡ length commands → sent_by setup commands begun place ≡ all_cycles setup commands begun
+pub sent_whole : (setup : ℕ) (commands : List Task) (begun place : ℕ) → place ≡ length commands → commands_reached setup commands begun place ≡ all_cycles setup commands begun
 sent_whole setup commands zero place e = refl
-sent_whole setup commands (suc n) place e = ap (λ xs. all_cycles setup commands n ++ requests (suc n) setup (map of_task (drop setup xs))) (ap (λ m. take m commands) e ∙ whole commands) where
-  -- a list has all its elements among its first ones, counted by its length
-  whole : (xs : List Task) → take (length xs) xs ≡ xs
-  whole [] = refl
-  whole (x ∷ xs) = ap (λ ys. x ∷ ys) (whole xs)
+sent_whole setup commands (suc n) place e = ap (λ xs. all_cycles setup commands n ++ requests (suc n) setup (map of_task (drop setup xs)))
+    (ap (λ m. take m commands) e ∙ take_all (length commands) commands (omega arith))
 
 -- at the beginning of a cycle, all commands of the cycles before it had their turn
-pub sent_none : (setup : ℕ) (commands : List Task) (begun next place : ℕ) → next ≡ suc begun → place ≤ setup → sent_by setup commands next place ≡ all_cycles setup commands begun
+pub sent_none : (setup : ℕ) (commands : List Task) (begun next place : ℕ) → next ≡ suc begun → place ≤ setup → commands_reached setup commands next place ≡ all_cycles setup commands begun
 sent_none setup commands begun next place is none =
-    ap (λ n. sent_by setup commands n place) is
+    ap (λ n. commands_reached setup commands n place) is
     ∙ ap (λ xs. all_cycles setup commands begun ++ requests (suc begun) setup (map of_task xs)) (none_taken setup place commands none) ∙ append-nil (all_cycles setup commands begun)

@@ -20,20 +20,20 @@ use Rattle.gc_station.specs.declared.progress.Progress.{Progress}
 use Rattle.gc_station.specs.declared.progress.Waiting.{Waiting}
 use Rattle.gc_links.specs.Acts.{Act, Told}
 use Rattle.gc_station.specs.Deciding.{later, has_begun, is_up}
-use Rattle.gc_station.specs.EachOnce.{EachOnce, Parted, Request, still_waiting, sent_by, of_record, all_cycles, of_text}
+use Rattle.gc_station.specs.EachOnce.{EachOnce, Parted, Request, still_waiting, commands_reached, of_record, all_cycles, of_text}
 use Rattle.gc_station.specs.Marks.{commands_in}
 use Rattle.gc_station.specs.Progressing.{turned, moment_noted, skipped_at, reckoned_early, cycle_begun, skipped, attempts_left_out, cleared, request_noted, null_sent, renewed, sent, is_over, is_over_in, setup_sent}
-use Rattle.gc_station.specs.Reasons.{IsFor}
+use Rattle.gc_station.specs.Reasons.{HoldsBefore}
 use Rattle.gc_station.specs.Records.{Record}
 use Rattle.gc_station.specs.Runs.{state_after}
-use Rattle.gc_station.specs.Tasked.{CommandsAreTheirTasks}
+use Rattle.gc_station.specs.Tasked.{EachRecordIsOfItsTask}
 use Rattle.gc_texts.specs.Endings.{Skipped, Missed}
 use Rattle.gc_station.specs.Model.{Model, opening, action_at, waiting_of, place_next, expected_first, mark_next, with_progress, asks_null, asks_first, asks_next, is_chained_after_next, others_after_next, is_chained_after, others_after, passes_next, with_passes, with_listed, skip_listed, after_pass, with_records, skips, skips_first, after_clock, moved, after, after_all, cycle_length, mark_setup, asks_or_null, asks_setup}
 use Rattle.gc_station.proofs.Acting.{mid_fail, mid_moment, mid_clock, mid_put, mid_open, mid_close, mid_read}
 use Rattle.gc_station.proofs.Each.{each_empty, sent_whole}
 use Rattle.gc_station.proofs.Facts.{action_for}
 use Rattle.gc_station.proofs.Invariant.{Invariant, is_bare, says_done}
-use Rattle.gc_station.proofs.Midway.{Placed, Mid, mid_of, sound_null, sound_sent, sound_skipped, sound_passed, sound_begun, fine_ended, sound_prepared}
+use Rattle.gc_station.proofs.Midway.{Placed, Mid, mid_of, sound_null, sound_sent, sound_skipped, sound_passed, sound_begun, invariant_ended, sound_prepared}
 use Rattle.gc_station.proofs.Tasked.{at_place, unsent_end}
 use Rattle.gc_station.specs.Scopes.{Scope}
 use Rattle.gc_station.proofs.Ticking.{not_both}
@@ -59,7 +59,7 @@ mid_begun plan commands s m is none settled some mid =
 mid_cleared : (plan : Plan) (commands : List Task) (s : Model) → s.progress.phase ≡ Clearing → Mid plan commands s → Mid plan commands (with_progress cleared s)
 mid_cleared plan commands s is mid = (mid.0, by_word (has_begun s.progress)) where
   -- the lemma above, whether the station has synchronized (`true`) or is synchronizing
-  by_word : (cycle_begun : Bool) → Placed (if cycle_begun then Draining else Ready) s.progress.left s.progress.unsent s.rest s.marks
+  by_word : (begun : Bool) → Placed (if begun then Draining else Ready) s.progress.left s.progress.unsent s.rest s.marks
   by_word true = record { empty = λ e. mid.1.empty (ap is_bare is); finished = λ e. cc }
   by_word false = record { empty = λ e. cc; finished = λ e. cc }
 
@@ -151,13 +151,13 @@ mid_pass plan commands s act is some mid = mid_fail plan commands s cause.Clock 
 
 -- if a connection is closed for being done, no cycle and no command is left
 close_done : (plan : Plan) (commands : List Task) (s : Model) (w : Waiting) (why : Cause) → Invariant plan commands s
-    → IsFor plan s.progress w (action.Close why) → why ≡ cause.Done → (s.progress.left ≡ 0) × (s.progress.unsent ≡ 0)
+    → HoldsBefore plan s.progress w (action.Close why) → why ≡ cause.Done → (s.progress.left ≡ 0) × (s.progress.unsent ≡ 0)
 close_done plan commands s w cause.Done fine (up, inl phase) is = let it = fine.finished (ap says_done phase) in (it.0, it.1)
 close_done plan commands s w cause.Done fine (up, inr end) is = (end.0, end.1)
 close_done plan commands s w why fine for_it is = cc
 
 -- each act preserves `Mid`, before what is outstanding is lost
-pub mid_moved : (plan : Plan) (commands : List Task) (s : Model) (action : Action) (act : Act) → Invariant plan commands s → IsFor plan s.progress (waiting_of s) action
+pub mid_moved : (plan : Plan) (commands : List Task) (s : Model) (action : Action) (act : Act) → Invariant plan commands s → HoldsBefore plan s.progress (waiting_of s) action
     → Mid plan commands (moved plan commands action (with_progress turned s) act)
 mid_moved plan commands s action.ReadClock act fine is =
     let t = with_progress turned s in mid_clock plan commands (λ m p. reckoned_early plan (commands_in t.marks) (moment_noted m p)) t act (mid_of plan commands s fine)
@@ -194,18 +194,19 @@ mid_moved plan commands s (action.Close why) act fine is = mid_close plan comman
 mid_moved plan commands s (action.Stop why) act fine is = mid_of plan commands s fine
 
 -- each act preserves the invariant of every run
-pub fine_after : (plan : Plan) (commands : List Task) (s : Model) (act : Act) → Invariant plan commands s → Invariant plan commands (after plan commands s act)
-fine_after plan commands s act fine =
-    fine_ended plan commands (moved plan commands (action_at plan s) (with_progress turned s) act) (mid_moved plan commands s (action_at plan s) act fine (action_for plan s.progress (waiting_of s)))
+pub invariant_after : (plan : Plan) (commands : List Task) (s : Model) (act : Act) → Invariant plan commands s → Invariant plan commands (after plan commands s act)
+invariant_after plan commands s act fine =
+    invariant_ended plan commands (moved plan commands (action_at plan s) (with_progress turned s) act)
+    (mid_moved plan commands s (action_at plan s) act fine (action_for plan s.progress (waiting_of s)))
 
 -- acts preserve the invariant of every run
-pub fine_all : (plan : Plan) (commands : List Task) (s : Model) (acts : List Act) → Invariant plan commands s → Invariant plan commands (after_all plan commands s acts)
-fine_all plan commands s [] fine = fine
-fine_all plan commands s (act ∷ acts) fine = fine_all plan commands (after plan commands s act) acts (fine_after plan commands s act fine)
+pub invariant_all : (plan : Plan) (commands : List Task) (s : Model) (acts : List Act) → Invariant plan commands s → Invariant plan commands (after_all plan commands s acts)
+invariant_all plan commands s [] fine = fine
+invariant_all plan commands s (act ∷ acts) fine = invariant_all plan commands (after plan commands s act) acts (invariant_after plan commands s act fine)
 
 -- a station that has done nothing has what every run keeps
-pub fine_opening : (plan : Plan) (commands : List Task) (scope : Scope) → Invariant plan commands (opening plan scope)
-fine_opening plan commands scope =
+pub invariant_opening : (plan : Plan) (commands : List Task) (scope : Scope) → Invariant plan commands (opening plan scope)
+invariant_opening plan commands scope =
     let none : plan.cycles - plan.cycles ≡ 0 = omega arith in
     record {
       unsent = omega arith;
@@ -218,17 +219,17 @@ fine_opening plan commands scope =
       rest = λ e. refl;
       over = λ e. refl;
       finished = λ e. cc;
-      each = subst (λ (xs : List Request). Parted [] [] xs) (sym (ap (λ n. sent_by plan.setup commands n (length commands - 0)) none)) (refl, refl);
+      each = subst (λ (xs : List Request). Parted [] [] xs) (sym (ap (λ n. commands_reached plan.setup commands n (length commands - 0)) none)) (refl, refl);
       own = tt;
-      told = tt;
+      tasked = tt;
     }
 
 -- what every run keeps holds after all acts
-pub fine_stood : (plan : Plan) (commands : List Task) (scope : Scope) (acts : List Act) → Invariant plan commands (state_after plan commands scope acts)
-fine_stood plan commands scope acts = fine_all plan commands (opening plan scope) acts (fine_opening plan commands scope)
+pub invariant_holds : (plan : Plan) (commands : List Task) (scope : Scope) (acts : List Act) → Invariant plan commands (state_after plan commands scope acts)
+invariant_holds plan commands scope acts = invariant_all plan commands (opening plan scope) acts (invariant_opening plan commands scope)
 
 -- if a run stops no act follows
-pub stop_over : (plan : Plan) (p : Progress) (w : Waiting) (why : Cause) → IsFor plan p w (action.Stop why) → is_over p ≡ true
+pub stop_over : (plan : Plan) (p : Progress) (w : Waiting) (why : Cause) → HoldsBefore plan p w (action.Stop why) → is_over p ≡ true
 stop_over plan p w why (down, inl over) = ap (λ (phase : Phase). is_over_in phase || (not (is_up phase) && nat_eq p.turns 0)) over
 stop_over plan p w why (down, inr turns) = either_way (is_over_in p.phase) (is_up p.phase) (nat_eq p.turns 0) down (ap (λ (n : ℕ). nat_eq n 0) turns.1) where
   -- the lemma above, if the phase says so (`o`), or there is no connection and no turn is left
@@ -241,15 +242,15 @@ stop_over plan p w why (down, inr turns) = either_way (is_over_in p.phase) (is_u
 -- if a run stops nothing is outstanding, and the records are of the commands that had their turn, in order; if it stops as
 -- done, no cycle and no command is left
 pub stopped : (plan : Plan) (commands : List Task) (s : Model) (why : Cause) → Invariant plan commands s → action_at plan s ≡ action.Stop why
-    → (s.client.waiting ≡ []) × Parted (of_text commands (map of_record s.records)) s.passes (sent_by plan.setup commands (plan.cycles - s.progress.left) (place_next commands s.progress))
+    → (s.client.waiting ≡ []) × Parted (of_text commands (map of_record s.records)) s.passes (commands_reached plan.setup commands (plan.cycles - s.progress.left) (place_next commands s.progress))
     × (why ≡ cause.Done → (s.progress.left ≡ 0) × (s.progress.unsent ≡ 0))
 stopped plan commands s why fine stop =
     let p = s.progress in
     let w = waiting_of s in
-    let is : IsFor plan p w (action.Stop why) = subst (λ (o : Action). IsFor plan p w o) stop (action_for plan p w) in
+    let is : HoldsBefore plan p w (action.Stop why) = subst (λ (o : Action). HoldsBefore plan p w o) stop (action_for plan p w) in
     let nothing = fine.over (stop_over plan p w why is) in (
       nothing,
-      subst (λ (xs : List Request). Parted xs s.passes (sent_by plan.setup commands (plan.cycles - p.left) (place_next commands p)))
+      subst (λ (xs : List Request). Parted xs s.passes (commands_reached plan.setup commands (plan.cycles - p.left) (place_next commands p)))
           (sym (each_empty commands s.marks s.client.waiting s.records (of_text commands (map of_record s.records ++ still_waiting s.marks s.client.waiting)) nothing refl)) fine.each,
       by_reason is.1,
     ) where
@@ -262,7 +263,7 @@ stopped plan commands s why fine stop =
 pub each_once : (plan : Plan) (commands : List Task) (scope : Scope) (acts : List Act) → EachOnce plan commands scope acts
 each_once plan commands scope acts =
     let s = state_after plan commands scope acts in
-    let fine = fine_stood plan commands scope acts in
+    let fine = invariant_holds plan commands scope acts in
     record {
       each = fine.each;
       settled = λ why stop. (stopped plan commands s why fine stop).1;
@@ -276,5 +277,5 @@ each_once plan commands scope acts =
     }
 
 -- each record after any acts is of its task
-pub of_tasks : CommandsAreTheirTasks
-of_tasks plan commands scope acts = (fine_stood plan commands scope acts).told
+pub of_tasks : EachRecordIsOfItsTask
+of_tasks plan commands scope acts = (invariant_holds plan commands scope acts).tasked

@@ -1,4 +1,4 @@
--- What holds if an action is next: its conditions (`IsFor`), whether the moment was read (`Timely`, `Wakes`), and that a
+-- What holds if an action is next: its conditions (`HoldsBefore`), whether the moment was read (`Timely`, `Wakes`), and that a
 -- request has room. `Holds` has all of these, and is shown once for each function that decides.
 use Rattle.std.proofs.Common.{◌≡◌, ℕ, ◌<◌, ◌≤◌, ◌⊎◌, ◌&&◌, ◌||◌, Bool, true, false, not, if◌then◌else◌, nat_lt, nat_le, nat_eq, refl, sym, ap, ◌∙◌, inl, inr, arith}
 use Rattle.std.proofs.lemmas.Bool.{ltb-true, ltb-false, leb-true, eqb-true}
@@ -14,8 +14,8 @@ use Rattle.gc_station.specs.declared.progress.Action.TheVariants as action
 use Rattle.gc_station.specs.declared.progress.Progress.{Progress}
 use Rattle.gc_station.specs.declared.progress.Until.TheVariants.{Limit, Due}
 use Rattle.gc_station.specs.declared.progress.Waiting.{Waiting}
-use Rattle.gc_station.specs.Reasons.{IsFor, IsHeld, HasRoom, MayGo, MayRetry, NothingMayGo, IsResting, StaysInItsChain, HasConnectionFor, MayPrepare}
-use Rattle.gc_station.specs.Deciding.{width_of, has_begun, is_up, is_dead, is_due, is_idle, is_finished, has_room, action_of, action_in, action_on, action_of_phase, may_go, waits_for_all, action_again, action_ready, action_begun, action_beginning, action_sent, action_settled, action_done, action_next, action_room, action_waiting, action_without_turns, is_stale, is_between, is_resting, is_stopping, is_held_back, action_cycle, action_prepare, action_turn, action_preparing, is_preparing}
+use Rattle.gc_station.specs.Reasons.{HoldsBefore, IsHeld, HasRoom, MayGo, MayRetry, NothingMayGo, IsResting, StaysInItsChain, HasConnectionFor, MayPrepare}
+use Rattle.gc_station.specs.Deciding.{width_of, has_begun, is_up, is_dead, is_due, is_idle, is_finished, has_room, action_of, action_in, action_on, action_of_phase, may_go, waits_for_all, action_again, action_ready, action_begun, action_beginning, action_sent, action_settled, action_done, action_next, action_room, action_waiting, action_without_turns, is_stale, is_between, is_resting, is_stopping, is_held_back, action_cycle, action_turn, action_preparing, is_preparing}
 use Rattle.gc_station.specs.Stations.{IsFitting}
 use Rattle.gc_station.proofs.Ticking.{not_true}
 
@@ -72,14 +72,14 @@ no_room plan p w (inr e) = inr (inr (inl (ltb-false w.all WINDOW e)))
 -- cleared.
 
 -- a read may be made: the moment was read, and the connection isn't to be cleared
-abbrev pub Reads : Progress → Type 0
-Reads p = (p.clock_due ≡ false) × (p.phase ≡ Clearing → ⊥)
+abbrev pub CanRead : Progress → Type 0
+CanRead p = (p.clock_due ≡ false) × (p.phase ≡ Clearing → ⊥)
 
 -- if this action reads the clock alone, the moment is out of date; if it connects or reads, it isn't
 abbrev pub Timely : Progress → Action → Type 0
 Timely p action.ReadClock = p.clock_due ≡ true
 Timely p action.Open = p.clock_due ≡ false
-Timely p (action.Read until) = Reads p
+Timely p (action.Read until) = CanRead p
 Timely p _ = Unit {0}
 
 -- A request is sent, the station resynchronizes, and a connection is closed for a dead line, only in the phase `Ready`, after a
@@ -100,24 +100,24 @@ Wakes p action.Flush = Awake p
 Wakes p (action.Close cause.Dead) = (p.phase ≡ Closing cause.Dead) ⊎ Awake p
 Wakes p _ = Unit {0}
 
--- what holds if this action is next: its conditions (`IsFor`), and whether the moment was read before it (`Timely`, `Wakes`)
+-- what holds if this action is next: its conditions (`HoldsBefore`), and whether the moment was read before it (`Timely`, `Wakes`)
 abbrev Holds : Plan → Progress → Waiting → Action → Type 0
-Holds plan p w next = IsFor plan p w next × Timely p next × Wakes p next
+Holds plan p w next = HoldsBefore plan p w next × Timely p next × Wakes p next
 
 -- in the phase `Ready` there is a connection
 awake_up : (p : Progress) → Awake p → is_up p.phase ≡ true
 awake_up p (now, is) = ap is_up is
 
 -- in the phase `Ready`, if the moment was read, a read may be made
-awake_reads : (p : Progress) → Awake p → Reads p
+awake_reads : (p : Progress) → Awake p → CanRead p
 awake_reads p (now, is) = (now, λ c. let other : Ready ≡ Clearing = sym is ∙ c in cc)
 
 -- if all outstanding requests have timed out, seven are outstanding
-abbrev Full : Waiting → Type 0
-Full w = w.current ≡ 0 → WINDOW ≤ w.all
+abbrev SevenIfAllTimedOut : Waiting → Type 0
+SevenIfAllTimedOut w = w.current ≡ 0 → WINDOW ≤ w.all
 
 -- `Holds` is true if a station waits
-waits : (plan : Plan) (p : Progress) (w : Waiting) → Awake p → has_begun p ≡ true → NothingMayGo plan p w → Full w → Holds plan p w (action_waiting plan p w)
+waits : (plan : Plan) (p : Progress) (w : Waiting) → Awake p → has_begun p ≡ true → NothingMayGo plan p w → SevenIfAllTimedOut w → Holds plan p w (action_waiting plan p w)
 waits plan p w awake begun nothing full =
     let P = Holds plan p w in
     let up = awake_up p awake in
@@ -130,7 +130,7 @@ some_wide : (plan : Plan) → 0 < width_of plan
 some_wide plan = omega arith
 
 -- if there is no room, seven are outstanding if all outstanding requests have timed out
-no_room_full : (plan : Plan) (w : Waiting) → (nat_lt w.current (width_of plan) ≡ false) ⊎ (nat_lt w.all WINDOW ≡ false) → Full w
+no_room_full : (plan : Plan) (w : Waiting) → (nat_lt w.current (width_of plan) ≡ false) ⊎ (nat_lt w.all WINDOW ≡ false) → SevenIfAllTimedOut w
 no_room_full plan w (inl e) none = let few : width_of plan ≤ w.current = ltb-false w.current (width_of plan) e in absurd (omega (arith, none, few, some_wide plan))
 no_room_full plan w (inr e) none = ltb-false w.all WINDOW e
 
@@ -143,7 +143,7 @@ room_for plan p w o awake begun step =
 
 -- `Holds` is true if the next command may be sent
 next_for : (plan : Plan) (p : Progress) (w : Waiting) → Awake p → has_begun p ≡ true → 0 < p.unsent → MayGo p w → MayRetry p w → StaysInItsChain p → is_preparing plan p w ≡ false
-    → Holds plan p w (action_next plan p w)
+    → Holds plan p w (action_next plan p w action.Send)
 next_for plan p w awake begun some may retry stays ready =
     let P = Holds plan p w in
     either P _ _ (nat_lt p.behind WINDOW)
@@ -156,8 +156,8 @@ next_for plan p w awake begun some may retry stays ready =
 -- If the end of the run was asked for.
 
 -- if the end of the run was asked for, a command is left, and it goes on with a chain that has begun, and no setup comes first
-abbrev GoesOnly : Progress → Type 0
-GoesOnly p = p.stops ≡ true → (0 < p.unsent) × (p.next_is_chained ≡ true) × (p.preparing ≡ false)
+abbrev IsInChainIfStopping : Progress → Type 0
+IsInChainIfStopping p = p.stops ≡ true → (0 < p.unsent) × (p.next_is_chained ≡ true) × (p.preparing ≡ false)
 
 -- what isn't true is false
 pub never_true : (b : Bool) → (b ≡ true → ⊥) → b ≡ false
@@ -165,7 +165,7 @@ never_true true never = absurd (never refl)
 never_true false never = refl
 
 -- if no command is left, the end of the run wasn't asked for
-none_asked : (p : Progress) → GoesOnly p → p.unsent ≡ 0 → p.stops ≡ false
+none_asked : (p : Progress) → IsInChainIfStopping p → p.unsent ≡ 0 → p.stops ≡ false
 none_asked p only none = never_true p.stops (λ stops. let some = (only stops).0 in absurd (omega (arith, none, some)))
 
 -- if there is a connection, the station has synchronized, the end of the run was asked for, and neither does the run end nor is
@@ -194,8 +194,8 @@ midway n chained prepares e = by_test (nat_eq n 0) chained prepares refl e where
   by_test false true true is f = cc
   by_test false false b is f = cc
 
--- if the run doesn't end, and no further chain is held back, `GoesOnly` holds
-goes_only : (p : Progress) (w : Waiting) → is_up p.phase ≡ true → has_begun p ≡ true → is_stopping p w ≡ false → is_held_back p w ≡ false → GoesOnly p
+-- if the run doesn't end, and no further chain is held back, `IsInChainIfStopping` holds
+goes_only : (p : Progress) (w : Waiting) → is_up p.phase ≡ true → has_begun p ≡ true → is_stopping p w ≡ false → is_held_back p w ≡ false → IsInChainIfStopping p
 goes_only p w up begun goes free stops =
     midway p.unsent p.next_is_chained p.preparing
     (not_between p.stops (is_up p.phase) (has_begun p) (nat_eq w.current 0) (is_between p) (nat_lt 0 w.current) up begun goes free (above_none w.current) stops)
@@ -265,7 +265,7 @@ again_for plan p w awake begun some settled more stays ready =
       by_test (inr bound) = inr (negated p.next_is_chained bound)
 
 -- `Holds` is true if each command that was sent is settled
-settled_for : (plan : Plan) (p : Progress) (w : Waiting) → Awake p → has_begun p ≡ true → IsHeld p → w.commands ≡ 0 → GoesOnly p → is_preparing plan p w ≡ false
+settled_for : (plan : Plan) (p : Progress) (w : Waiting) → Awake p → has_begun p ≡ true → IsHeld p → w.commands ≡ 0 → IsInChainIfStopping p → is_preparing plan p w ≡ false
     → Holds plan p w (action_settled plan p w)
 settled_for plan p w awake begun held settled only ready =
     let P = Holds plan p w in
@@ -276,7 +276,7 @@ settled_for plan p w awake begun held settled only ready =
     (λ broken. ((awake.1, begun, some_left p.unsent e, settled, chained p held e none, broken, ready), tt, tt))))
 
 -- `Holds` is true if no command may be sent before those that are outstanding are settled
-sent_for : (plan : Plan) (p : Progress) (w : Waiting) → Awake p → has_begun p ≡ true → IsHeld p → GoesOnly p → is_preparing plan p w ≡ false → Holds plan p w (action_sent plan p w)
+sent_for : (plan : Plan) (p : Progress) (w : Waiting) → Awake p → has_begun p ≡ true → IsHeld p → IsInChainIfStopping p → is_preparing plan p w ≡ false → Holds plan p w (action_sent plan p w)
 sent_for plan p w awake begun held only ready =
     let P = Holds plan p w in
     either P _ _ (nat_eq w.commands 0) (λ e. settled_for plan p w awake begun held (eqb-true w.commands 0 e) only ready)
@@ -309,7 +309,7 @@ free_both p e = by_test p.next_is_chained (nat_lt 0 p.next_others) refl refl e w
   by_test false false bound more e = (bound, none_left p.next_others more)
 
 -- `Holds` is true once the station has synchronized and its setup is done
-cycle_for : (plan : Plan) (p : Progress) (w : Waiting) → Awake p → has_begun p ≡ true → GoesOnly p → is_preparing plan p w ≡ false → Holds plan p w (action_cycle plan p w)
+cycle_for : (plan : Plan) (p : Progress) (w : Waiting) → Awake p → has_begun p ≡ true → IsInChainIfStopping p → is_preparing plan p w ≡ false → Holds plan p w (action_cycle plan p w)
 cycle_for plan p w awake begun only ready =
     either (Holds plan p w) _ _ (nat_lt 0 p.unsent && not (waits_for_all p))
     (λ some. let it = both_true (nat_lt 0 p.unsent) (not (waits_for_all p)) some in
@@ -325,7 +325,7 @@ finished_so commands p e =
     (eqb-true p.left 0 sent.0, eqb-true p.unsent 0 sent.1, eqb-true commands 0 it.1)
 
 -- `Holds` is true if the next command of the setup may be sent
-prepare_for : (plan : Plan) (p : Progress) (w : Waiting) → Awake p → has_begun p ≡ true → p.stops ≡ false → MayPrepare plan p w → Holds plan p w (action_prepare plan p w)
+prepare_for : (plan : Plan) (p : Progress) (w : Waiting) → Awake p → has_begun p ≡ true → p.stops ≡ false → MayPrepare plan p w → Holds plan p w (action_next plan p w action.Prepare)
 prepare_for plan p w awake begun unasked may =
     let P = Holds plan p w in
     either P _ _ (nat_lt p.behind WINDOW)
@@ -364,7 +364,7 @@ begun_for plan p w awake begun goes =
     (λ free. let only = goes_only p w (awake_up p awake) begun goes free in either (Holds plan p w) _ _ (is_preparing plan p w)
     (λ on. preparing_for plan p w awake begun (unasked only (both_true p.preparing _ on).0) on) (λ done. cycle_for plan p w awake begun only done)) where
       -- while the setup isn't done, the end of the run wasn't asked for
-      unasked : GoesOnly p → p.preparing ≡ true → p.stops ≡ false
+      unasked : IsInChainIfStopping p → p.preparing ≡ true → p.stops ≡ false
       unasked only on = never_true p.stops (λ stops. let ready = (only stops).2 in let both : true ≡ false = sym on ∙ ready in cc)
 
 -- `Holds` is true while the station synchronizes
@@ -418,7 +418,7 @@ in_for plan (Over why) p w is = ((ap is_up is, inl is), tt, tt)
 in_for plan phase p w is = on_for plan p w
 
 -- the conditions of the action that is next hold
-pub action_for : (plan : Plan) (p : Progress) (w : Waiting) → IsFor plan p w (action_of plan p w)
+pub action_for : (plan : Plan) (p : Progress) (w : Waiting) → HoldsBefore plan p w (action_of plan p w)
 action_for plan p w = (in_for plan p.phase p w refl).0
 
 -- the action that is next is `Timely`: it reads the clock if the moment is out of date, and connects or reads if it isn't
@@ -430,7 +430,7 @@ pub order_wakes : (plan : Plan) (p : Progress) (w : Waiting) → Wakes p (action
 order_wakes plan p w = (in_for plan p.phase p w refl).2
 
 -- the conditions of an action give what the call needs: room for a request, and a command for one of a command
-fits : (plan : Plan) (p : Progress) (w : Waiting) (next : Action) → IsFor plan p w next → IsFitting p w.all next
+fits : (plan : Plan) (p : Progress) (w : Waiting) (next : Action) → HoldsBefore plan p w next → IsFitting p w.all next
 fits plan p w action.Ask is = is.1
 fits plan p w action.Prepare is = is.3.1
 fits plan p w action.Send is = (is.2, is.3.1)

@@ -16,23 +16,23 @@ use Rattle.gc_station.specs.declared.tally.Tally.{Tally}
 
 module _ (plan : Plan) (commands : List Task) (scope : Scope) (text : Record → List ℕ) (told told' : Option (List Act)) (taken taken' : Option (List ℕ)) (tally : Tally) where
   -- the run stopped for this cause
-  abbrev To : Cause → Type 0
-  To cause = RanTo plan commands scope text told told' taken taken' cause tally
+  abbrev StoppedFor : Cause → Type 0
+  StoppedFor cause = RanTo plan commands scope text told told' taken taken' cause tally
 
   -- the run failed with this fault
-  abbrev With : RunFault → Type 0
-  With why = Ran plan commands scope text told told' taken taken' (Err why)
+  abbrev FailedWith : RunFault → Type 0
+  FailedWith why = Ran plan commands scope text told told' taken taken' (Err why)
 
-  -- a run that stopped for a cause with this fault is one that failed with the fault
-  pub faulty : (cause : Cause) (why : RunFault) → fault_of cause ≡ Some why → To cause → With why
+  -- a run that stopped for a cause failed with the fault of that cause
+  pub faulty : (cause : Cause) (why : RunFault) → fault_of cause ≡ Some why → StoppedFor cause → FailedWith why
   faulty Done why e ran = absurd (cc)
-  faulty Dead why e ran = let same : fault.Mute ≡ why = cc in subst With same (Dead, tally, ran, refl)
-  faulty Read why e ran = let same : fault.Read ≡ why = cc in subst With same (Read, tally, ran, refl)
-  faulty End why e ran = let same : fault.LinkClosed ≡ why = cc in subst With same (End, tally, ran, refl)
-  faulty (Write requests bytes) why e ran = let same : fault.Write requests bytes ≡ why = cc in subst With same (Write requests bytes, tally, ran, refl)
-  faulty Clock why e ran = let same : fault.Clock ≡ why = cc in subst With same (Clock, tally, ran, refl)
-  faulty Open why e ran = let same : fault.Socket ≡ why = cc in subst With same (Open, tally, ran, refl)
-  faulty SetUp why e ran = let same : fault.SetUp ≡ why = cc in subst With same (SetUp, tally, ran, refl)
-  faulty Turns why e ran = let same : fault.TooManyReads ≡ why = cc in subst With same (Turns, tally, ran, refl)
-  faulty Stale why e ran = let same : fault.Stale ≡ why = cc in subst With same (Stale, tally, ran, refl)
+  faulty Dead why e ran = let same : fault.Mute ≡ why = cc in subst FailedWith same (Dead, tally, ran, refl)
+  faulty Read why e ran = let same : fault.Read ≡ why = cc in subst FailedWith same (Read, tally, ran, refl)
+  faulty End why e ran = let same : fault.LinkClosed ≡ why = cc in subst FailedWith same (End, tally, ran, refl)
+  faulty (Write requests bytes) why e ran = let same : fault.Write requests bytes ≡ why = cc in subst FailedWith same (Write requests bytes, tally, ran, refl)
+  faulty Clock why e ran = let same : fault.Clock ≡ why = cc in subst FailedWith same (Clock, tally, ran, refl)
+  faulty Open why e ran = let same : fault.Socket ≡ why = cc in subst FailedWith same (Open, tally, ran, refl)
+  faulty SetUp why e ran = let same : fault.SetUp ≡ why = cc in subst FailedWith same (SetUp, tally, ran, refl)
+  faulty Turns why e ran = let same : fault.TooManyReads ≡ why = cc in subst FailedWith same (Turns, tally, ran, refl)
+  faulty Stale why e ran = let same : fault.Stale ≡ why = cc in subst FailedWith same (Stale, tally, ran, refl)
   faulty Stopped why e ran = absurd (cc)

@@ -19,7 +19,7 @@ use Rattle.gc_station.specs.Records.{Record}
 use Rattle.gc_station.specs.Model.{Model, action_at, waiting_of, with_progress, moved, losing, after, after_all, Runs}
 use Rattle.gc_station.proofs.Booking.{Books, books_both, books_nothing, books_restart, sent_records, restarting}
 use Rattle.gc_station.proofs.Counts.{losing_progress}
-use Rattle.gc_station.proofs.EachRun.{fine_after, mid_moved}
+use Rattle.gc_station.proofs.EachRun.{invariant_after, mid_moved}
 use Rattle.gc_station.proofs.Facts.{action_for}
 use Rattle.gc_station.proofs.Invariant.{Invariant}
 use Rattle.gc_station.proofs.Parting.{Leads, leads, keeps_action}
@@ -152,7 +152,7 @@ module _ (plan : Plan) (commands : List Task) (reads : Asked → List ℕ → Re
       let u = after plan commands s act in
       let ps = parts_of plan commands u acts in
       let end = after_all plan commands u acts in
-      let later = fine_after plan commands s act fine in
+      let later = invariant_after plan commands s act fine in
       let same : t.reads ≡ reads = moved_reads plan commands o (with_progress turned s) act ∙ is_so in
       let h = leads_by reads commands s p t is_so (leads plan commands s o act fine is runs.0) in
       subst (λ b. BooksInParts reads commands s.client s.marks (sent_of s.records) (in_front p (has_begun s.progress && b) ps) end) (sym (ap loses_all (losing_progress (loses_all t.progress) t)))

@@ -10,12 +10,12 @@ use Rattle.gc_station.specs.declared.progress.Waiting.{Waiting}
 use Rattle.gc_links.specs.Acts.{Act}
 use Rattle.gc_station.specs.EachOnce.{IsFurther}
 use Rattle.gc_station.specs.Progressing.{turned}
-use Rattle.gc_station.specs.Reasons.{IsFor}
+use Rattle.gc_station.specs.Reasons.{HoldsBefore}
 use Rattle.gc_station.specs.Runs.{state_after}
 use Rattle.gc_station.specs.Model.{Model, cycle_length, opening, action_at, waiting_of, with_progress, moved, after, after_all}
 use Rattle.gc_station.proofs.Going.{after_all-append}
 use Rattle.gc_station.proofs.Counts.{Kept, Counts, moved_counts, ended_progress}
-use Rattle.gc_station.proofs.EachRun.{fine_stood}
+use Rattle.gc_station.proofs.EachRun.{invariant_holds}
 use Rattle.gc_station.proofs.Facts.{action_for}
 use Rattle.gc_station.proofs.Invariant.{Invariant}
 use Rattle.gc_station.specs.Scopes.{Scope}
@@ -25,40 +25,40 @@ abbrev NotBack : Progress → Progress → Type 0
 NotBack p q = (q.left < p.left) ⊎ ((q.left ≡ p.left) × (q.unsent ≤ p.unsent))
 
 -- if the counts are kept, the progress doesn't go back
-kept_there : (p t q : Progress) → t.left ≡ p.left → t.unsent ≡ p.unsent → Kept t q → NotBack p q
-kept_there p t q left unsent k = inr (k.left ∙ left, omega (arith, k.unsent, unsent))
+not_back_if_kept : (p t q : Progress) → t.left ≡ p.left → t.unsent ≡ p.unsent → Kept t q → NotBack p q
+not_back_if_kept p t q left unsent k = inr (k.left ∙ left, omega (arith, k.unsent, unsent))
 
 -- an act that changes the counts as `Counts` says doesn't go back, from before its turn is taken on
-counts_on : (plan : Plan) (count : ℕ) (w : Waiting) (o : Action) (p t q : Progress) → t.left ≡ p.left → t.unsent ≡ p.unsent → IsFor plan p w o → Counts count o t q → NotBack p q
-counts_on plan count w action.Begin p t q left unsent needs (inl k) = kept_there p t q left unsent k
-counts_on plan count w action.Begin p t q left unsent needs (inr k) = inl (omega (arith, k.left, left, needs.4))
-counts_on plan count w action.Send p t q left unsent needs k = inr (k.left ∙ left, omega (arith, k.unsent, unsent))
-counts_on plan count w action.Skip p t q left unsent needs (inl k) = kept_there p t q left unsent k
-counts_on plan count w action.Skip p t q left unsent needs (inr k) = inr (k.left ∙ left, omega (arith, k.unsent, unsent))
-counts_on plan count w action.Pass p t q left unsent needs (inl k) = kept_there p t q left unsent k
-counts_on plan count w action.Pass p t q left unsent needs (inr k) = inr (k.left ∙ left, omega (arith, k.unsent, unsent))
-counts_on plan count w o p t q left unsent needs k = kept_there p t q left unsent k
+not_back_by_counts : (plan : Plan) (count : ℕ) (w : Waiting) (o : Action) (p t q : Progress) → t.left ≡ p.left → t.unsent ≡ p.unsent → HoldsBefore plan p w o → Counts count o t q → NotBack p q
+not_back_by_counts plan count w action.Begin p t q left unsent needs (inl k) = not_back_if_kept p t q left unsent k
+not_back_by_counts plan count w action.Begin p t q left unsent needs (inr k) = inl (omega (arith, k.left, left, needs.4))
+not_back_by_counts plan count w action.Send p t q left unsent needs k = inr (k.left ∙ left, omega (arith, k.unsent, unsent))
+not_back_by_counts plan count w action.Skip p t q left unsent needs (inl k) = not_back_if_kept p t q left unsent k
+not_back_by_counts plan count w action.Skip p t q left unsent needs (inr k) = inr (k.left ∙ left, omega (arith, k.unsent, unsent))
+not_back_by_counts plan count w action.Pass p t q left unsent needs (inl k) = not_back_if_kept p t q left unsent k
+not_back_by_counts plan count w action.Pass p t q left unsent needs (inr k) = inr (k.left ∙ left, omega (arith, k.unsent, unsent))
+not_back_by_counts plan count w o p t q left unsent needs k = not_back_if_kept p t q left unsent k
 
 -- no act takes the progress back
-after_on : (plan : Plan) (commands : List Task) (s : Model) (act : Act) → NotBack s.progress (after plan commands s act).progress
-after_on plan commands s act =
+not_back_after : (plan : Plan) (commands : List Task) (s : Model) (act : Act) → NotBack s.progress (after plan commands s act).progress
+not_back_after plan commands s act =
     let done = moved plan commands (action_at plan s) (with_progress turned s) act in
-    let on = counts_on plan (cycle_length plan commands) (waiting_of s) (action_at plan s) s.progress (turned s.progress) done.progress refl refl
+    let on = not_back_by_counts plan (cycle_length plan commands) (waiting_of s) (action_at plan s) s.progress (turned s.progress) done.progress refl refl
     (action_for plan s.progress (waiting_of s)) (moved_counts plan commands (action_at plan s) (with_progress turned s) act) in
     subst (λ (p : Progress). NotBack s.progress p) (sym (ended_progress done)) on
 
 -- `NotBack` holds over two steps if it does over each
-on_again : (p q r : Progress) → NotBack p q → NotBack q r → NotBack p r
-on_again p q r (inl a) (inl b) = inl (omega (arith, a, b))
-on_again p q r (inl a) (inr b) = inl (omega (arith, a, b.0))
-on_again p q r (inr a) (inl b) = inl (omega (arith, a.0, b))
-on_again p q r (inr a) (inr b) = inr (b.0 ∙ a.0, omega (arith, a.1, b.1))
+not_back_twice : (p q r : Progress) → NotBack p q → NotBack q r → NotBack p r
+not_back_twice p q r (inl a) (inl b) = inl (omega (arith, a, b))
+not_back_twice p q r (inl a) (inr b) = inl (omega (arith, a, b.0))
+not_back_twice p q r (inr a) (inl b) = inl (omega (arith, a.0, b))
+not_back_twice p q r (inr a) (inr b) = inr (b.0 ∙ a.0, omega (arith, a.1, b.1))
 
 -- acts don't take the progress back
-all_on : (plan : Plan) (commands : List Task) (s : Model) (acts : List Act) → NotBack s.progress (after_all plan commands s acts).progress
-all_on plan commands s [] = inr (refl, omega arith)
-all_on plan commands s (act ∷ acts) = on_again s.progress (after plan commands s act).progress (after_all plan commands s (act ∷ acts)).progress
-    (after_on plan commands s act) (all_on plan commands (after plan commands s act) acts)
+not_back_all : (plan : Plan) (commands : List Task) (s : Model) (acts : List Act) → NotBack s.progress (after_all plan commands s acts).progress
+not_back_all plan commands s [] = inr (refl, omega arith)
+not_back_all plan commands s (act ∷ acts) = not_back_twice s.progress (after plan commands s act).progress (after_all plan commands s (act ∷ acts)).progress
+    (not_back_after plan commands s act) (not_back_all plan commands (after plan commands s act) acts)
 
 -- after an act that makes one command less unsent (q), and further acts that don't go back (t), a station is further than before
 -- (s)
@@ -75,13 +75,13 @@ send_goes_on plan commands scope earlier later act is =
     let s = state_after plan commands scope earlier in
     let next = after plan commands s act in
     let w = waiting_of s in
-    let needs = subst (λ (o : Action). IsFor plan s.progress w o) is (action_for plan s.progress w) in
+    let needs = subst (λ (o : Action). HoldsBefore plan s.progress w o) is (action_for plan s.progress w) in
     let done = moved plan commands (action_at plan s) (with_progress turned s) act in
     let sends = moved plan commands action.Send (with_progress turned s) act in
     let next_is : next.progress ≡ sends.progress = ended_progress done ∙ ap (λ (o : Action). (moved plan commands o (with_progress turned s) act).progress) is in
     let k = moved_counts plan commands action.Send (with_progress turned s) act in
     let whole = after_all-append plan commands (opening plan scope) earlier (act ∷ later) in
-    let on = subst (λ (t : Model). NotBack next.progress t.progress) (sym whole) (all_on plan commands next later) in
-    further plan commands s (state_after plan commands scope (earlier ++ act ∷ later)) next.progress (fine_stood plan commands scope earlier)
-    (fine_stood plan commands scope (earlier ++ act ∷ later)) needs.2
+    let on = subst (λ (t : Model). NotBack next.progress t.progress) (sym whole) (not_back_all plan commands next later) in
+    further plan commands s (state_after plan commands scope (earlier ++ act ∷ later)) next.progress (invariant_holds plan commands scope earlier)
+    (invariant_holds plan commands scope (earlier ++ act ∷ later)) needs.2
     (ap (λ (p : Progress). p.left) next_is ∙ k.left) (ap (λ (p : Progress). p.unsent) next_is ∙ k.unsent) on

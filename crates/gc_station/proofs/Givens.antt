@@ -53,10 +53,10 @@ after_rest plan commands s act o = let t = moved plan commands (action_at plan s
     losing_rest (loses_all t.progress) t ∙ moved_rest plan commands (action_at plan s) s act o
 
 -- the bytes kept of all that came, after one act more, are what the act makes of the bytes kept before it
-joined : (heard : Bool) (act : Act) (bytes : List ℕ) → rest_with heard act (rest_of bytes) ≡ rest_of (bytes_heard_with heard act bytes)
-joined true (Gave piece m) bytes = sym (rest-append [] bytes piece)
-joined false (Gave piece m) bytes = refl
-joined heard act bytes = refl
+rest_one_more : (heard : Bool) (act : Act) (bytes : List ℕ) → rest_with heard act (rest_of bytes) ≡ rest_of (bytes_heard_with heard act bytes)
+rest_one_more true (Gave piece m) bytes = sym (rest-append [] bytes piece)
+rest_one_more false (Gave piece m) bytes = refl
+rest_one_more heard act bytes = refl
 
 -- if the bytes that are kept are the rest of `bytes`, after any acts they are the rest of what `bytes_heard_from` makes of `bytes`
 along_given : (plan : Plan) (commands : List Task) (s : Model) (bytes : List ℕ) (acts : List Act) → s.rest ≡ rest_of bytes → Runs plan commands s acts
@@ -65,7 +65,7 @@ along_given plan commands s bytes [] same runs = same
 along_given plan commands s bytes (act ∷ acts) same runs =
     let heard = is_heard s.progress.phase in
     along_given plan commands (after plan commands s act) (bytes_heard_with heard act bytes) acts
-    (after_rest plan commands s act runs.0 ∙ ap (λ r. rest_with heard act r) same ∙ joined heard act bytes) runs.1
+    (after_rest plan commands s act runs.0 ∙ ap (λ r. rest_with heard act r) same ∙ rest_one_more heard act bytes) runs.1
 
 -- the bytes of a line that a station keeps are the rest of what came on its connection
 pub rest_given : (plan : Plan) (commands : List Task) (scope : Scope) (acts : List Act) → Runs plan commands (opening plan scope) acts

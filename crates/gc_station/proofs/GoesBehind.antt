@@ -1,14 +1,15 @@
--- Each command is sent after a call of the table. What an act does to how many requests are after the last such call that a
--- reply ended is what the client's steps of its part do (`counted`); so it is that of the course since the synchronization, and
--- a command is sent only if it is below seven. A course is what a client has sent and settled so far, and the client after
--- that; a part reaches from one synchronization to the next. An act is one call on the link, with its result.
-use Rattle.std.proofs.Common.{◌≡◌, ◌⊎◌, inl, inr, ℕ, ◌+◌, ◌-◌, ◌<◌, ◌&&◌, ◌||◌, Bool, true, false, List, [], ◌∷◌, ◌++◌, length, map, drop, Option, Some, None, refl, sym, ap, ◌∙◌, subst, arith, append_assoc, append-nil, if◌then◌else◌, length-drop}
-use Rattle.std.specs.Prelude.{slice_get, not}
+-- Each command is sent after a call of the table. The station counts the requests after the last such call that a reply ended. An
+-- act changes this count as the client's steps of its part do (`counted`); so the count is that of the course since the
+-- synchronization, and a command is sent only if it is below seven. A course is what a client has sent and settled so far, and
+-- the client after that; a part reaches from one synchronization to the next. An act is one call on the link, with its result.
+use Rattle.std.proofs.Common.{◌≡◌, ◌⊎◌, inl, inr, ℕ, ◌+◌, ◌-◌, ◌<◌, ◌&&◌, Bool, true, false, List, [], ◌∷◌, ◌++◌, length, map, drop, Option, Some, None, refl, sym, ap, ◌∙◌, subst, arith, append_assoc, append-nil, if◌then◌else◌, length-drop}
+use Rattle.std.specs.Prelude.{slice_get}
 use Rattle.std.specs.List.{AllByRecursion}
 use Rattle.std.proofs.lemmas.List.{length-append}
 use Rattle.gc_lines.specs.Frames.{rest_behind}
 use Rattle.gc_catalogue.specs.declared.asked.Asked.{Asked}
 use Rattle.gc_client.specs.OneForOne.{Step, Send, Hear, Expire, begun}
+use Rattle.gc_client.specs.declared.window.TheConstants.{WINDOW}
 use Rattle.gc_client.specs.Rule.{ById, fresh}
 use Rattle.gc_texts.specs.declared.tasks.Task.{Task}
 use Rattle.gc_links.specs.Acts.{Act, Told, Untold, Put, Cut, Gave, Silent}
@@ -17,54 +18,54 @@ use Rattle.gc_station.specs.declared.plan.Plan.{Plan}
 use Rattle.gc_station.specs.declared.progress.Action.{Action}
 use Rattle.gc_station.specs.declared.progress.Action.TheVariants as action
 use Rattle.gc_station.specs.declared.progress.Progress.{Progress}
-use Rattle.gc_station.specs.Behind.{IsNearTheTable, CommandsGoOutBehindTheTable}
+use Rattle.gc_station.specs.Behind.{IsNearTheTable, CommandsAreSentNearTheTable}
 use Rattle.gc_station.specs.Deciding.{has_begun, is_none_left}
 use Rattle.gc_station.specs.Parts.{Part, joined, putting, asking_first, hearing, doing, beginning, acting, in_front, parts_of, asking_or_null}
-use Rattle.gc_station.specs.Progressing.{one_more, turned, moment_noted, time_passed, loses_all}
-use Rattle.gc_station.specs.Reasons.{IsFor}
+use Rattle.gc_station.specs.Progressing.{one_more_in_window, turned, moment_noted, time_passed, loses_all}
+use Rattle.gc_station.specs.Reasons.{HoldsBefore}
 use Rattle.gc_station.specs.Model.{Model, opening, action_at, waiting_of, place_next, mark_next, is_heard, with_progress, with_moment, with_rest, line_came, lines_came, lines_completed, after_piece, moved, losing, after, Performs, Runs, mark_setup}
-use Rattle.gc_station.proofs.Behind.{behind_by, Counts, counts_steps, near_so, reached, get_behind, course_append}
+use Rattle.gc_station.proofs.Behind.{behind_by, Counts, counts_steps, near_so, reached, course_append}
 use Rattle.gc_station.proofs.Booking.{client_after, sent_by, course_sent, course_client, sent_append, of_length}
 use Rattle.gc_station.proofs.Counts.{losing_progress}
-use Rattle.gc_station.proofs.EachRun.{fine_after, fine_opening}
+use Rattle.gc_station.proofs.EachRun.{invariant_after, invariant_opening}
 use Rattle.gc_station.proofs.Facts.{action_for}
 use Rattle.gc_station.proofs.Invariant.{Invariant}
 use Rattle.gc_station.proofs.Parting.{Leads, leads, keeps_action}
 use Rattle.gc_station.proofs.Walk.{quieted_along, closed_along, walk}
 use Rattle.gc_station.proofs.Ticking.{not_both}
-use Rattle.gc_station.proofs.Lists.{all_at}
-use Rattle.gc_station.proofs.Asked.{steps_none}
+use Rattle.gc_station.proofs.Lists.{all_at, get_behind}
+use Rattle.gc_station.proofs.Asked.{steps_none, goes_begun}
 
 -- What an act does.
 
--- lines that are heard do what their steps do
+-- lines that are heard change the count (`behind`) as the steps that hear them do
 lines_counted : (s : Model) (lines : List (List ℕ)) → (lines_came s lines).progress.behind ≡ behind_by s.client s.progress.behind (map Hear lines)
 lines_counted s [] = refl
 lines_counted s (line ∷ others) = lines_counted (line_came s line) others
 
--- a piece does what the steps do that hear its lines
+-- a piece changes the count as the steps that hear its lines do
 came_counted : (h : Bool) (word piece : List ℕ) (s : Model) → is_none_left word ≡ true → (after_piece h word piece s).progress.behind ≡ behind_by s.client s.progress.behind (hearing h s.rest piece)
 came_counted true (asked ∷ others) piece s begun = cc
 came_counted true [] piece s begun = lines_counted (with_rest (rest_behind s.rest piece) s) (lines_completed s.rest piece)
 came_counted false word piece s begun = refl
 
--- the first of some commands is one request more
-first_counted : (c : ById Asked) (b now : ℕ) (mark : Mark) (left : List Task) → 0 < length left → one_more b ≡ behind_by c b (asking_first now mark left).steps
+-- the step that sends the first of some commands counts one request more
+first_counted : (c : ById Asked) (b now : ℕ) (mark : Mark) (left : List Task) → 0 < length left → one_more_in_window b ≡ behind_by c b (asking_first now mark left).steps
 first_counted c b now mark [] some = absurd (omega (arith, some))
 first_counted c b now mark (task ∷ others) some = refl
 
--- the first of some commands of the setup is one request more
-setup_counted : (plan : Plan) (c : ById Asked) (b now : ℕ) (mark : Mark) (left : List Task) → one_more b ≡ behind_by c b (asking_or_null plan now mark left).steps
+-- the step that sends the first of some commands of the setup, or a null procedure if there is none, counts one request more
+setup_counted : (plan : Plan) (c : ById Asked) (b now : ℕ) (mark : Mark) (left : List Task) → one_more_in_window b ≡ behind_by c b (asking_or_null plan now mark left).steps
 setup_counted plan c b now mark [] = refl
 setup_counted plan c b now mark (task ∷ others) = refl
 
 module _ (plan : Plan) (commands : List Task) where
-  -- an act does what the steps of its part do
+  -- from s to t an act changes the count as the steps of its part do
   abbrev IsCounted : Action → Model → Act → Model → Type 0
   IsCounted o s act t = t.progress.behind ≡ behind_by s.client s.progress.behind (doing plan commands s o act).steps
 
-  -- once the station has synchronized, each act does what the steps of its part do, unless the station resynchronizes
-  pub counted : (s : Model) (o : Action) (act : Act) → Invariant plan commands s → IsFor plan s.progress (waiting_of s) o → Performs commands s o act → has_begun s.progress ≡ true
+  -- once the station has synchronized, each act changes the count as the steps of its part do, unless the station resynchronizes
+  pub counted : (s : Model) (o : Action) (act : Act) → Invariant plan commands s → HoldsBefore plan s.progress (waiting_of s) o → Performs commands s o act → has_begun s.progress ≡ true
       → has_begun (moved plan commands o (with_progress turned s) act).progress ≡ true → IsCounted o s act (moved plan commands o (with_progress turned s) act)
   counted s action.Renew (Told m) fine is obeys begun still = cc
   counted s action.Renew Untold fine is obeys begun still = refl
@@ -214,7 +215,7 @@ near_all [] h = tt
 near_all (p ∷ ps) h = h
 
 module _ (plan : Plan) (commands : List Task) (s : Model) (o : Action) (act : Act) (done : List (Step Asked)) (fine : Invariant plan commands s)
-    (is : IsFor plan s.progress (waiting_of s) o) (obeys : Performs commands s o act) (client : s.client ≡ (reached done).client)
+    (is : HoldsBefore plan s.progress (waiting_of s) o) (obeys : Performs commands s o act) (client : s.client ≡ (reached done).client)
     (counts : Counts (reached done) s.progress.behind) where
   -- the client's part of the act
   abbrev p : Part
@@ -234,8 +235,8 @@ module _ (plan : Plan) (commands : List Task) (s : Model) (o : Action) (act : Ac
       (near_so (reached done) s.progress.behind counts near) where
         -- if a command is sent next, fewer than seven requests were sent after the last call of the table that was answered
         by_action : (o ≡ action.Send) ⊎ (o ≡ action.Prepare) → s.progress.behind < 7
-        by_action (inl sends) = (subst (λ (x : Action). IsFor plan s.progress (waiting_of s) x) sends is).5
-        by_action (inr prepares) = (subst (λ (x : Action). IsFor plan s.progress (waiting_of s) x) prepares is).4
+        by_action (inl sends) = (subst (λ (x : Action). HoldsBefore plan s.progress (waiting_of s) x) sends is).5
+        by_action (inr prepares) = (subst (λ (x : Action). HoldsBefore plan s.progress (waiting_of s) x) prepares is).4
 
   -- the marks of the act's requests are as many as these
   as_many : length p.marks ≡ length (sent_by (reached done).client p.steps)
@@ -250,7 +251,7 @@ module _ (plan : Plan) (commands : List Task) (s : Model) (o : Action) (act : Ac
     by_case (inr (rest, is_front, there)) =
         let c = (reached done).client in
         let after : (reached (done ++ p.steps)).client ≡ client_after c p.steps =
-        ap (λ y. y.client) (course_append begun done p.steps) ∙ course_client p.steps (reached done) in
+        ap (λ y. y.client) (course_append WINDOW done p.steps begun) ∙ course_client p.steps (reached done) in
         let sent = sent_append c p.steps rest in
         let many = length-append (sent_by c p.steps) (sent_by (client_after c p.steps) rest) in
         let count : length (sent_by c front) ≡ length p.marks + length (sent_by (client_after c p.steps) rest) =
@@ -269,19 +270,11 @@ module _ (plan : Plan) (commands : List Task) (s : Model) (o : Action) (act : Ac
   front_near [] h = (alone_near, tt)
   front_near (q ∷ ps) h = (joined_near q h.0, h.1)
 
--- if nothing is lost, the station has synchronized
-not_lost : (p : Progress) → loses_all p ≡ false → has_begun p ≡ true
-not_lost p e = by_test (has_begun p) _ e where
-  -- the lemma above, by whether it has synchronized
-  by_test : (b over : Bool) → (not b || over) ≡ false → b ≡ true
-  by_test true over e = refl
-  by_test false over e = cc
-
--- a new client has sent nothing, so that none of its requests is after
+-- a new client has sent nothing, so `Counts` holds of it with any count
 none_sent : (b : ℕ) → Counts (reached []) b
 none_sent b low = inl (omega arith)
 
--- a new client is new, whether what is outstanding is lost or not
+-- a client that is new stays new, whether what is outstanding is lost or not
 new_client : (t : Model) (b : Bool) → t.client ≡ fresh → (losing b t).client ≡ fresh
 new_client t true e = refl
 new_client t false e = e
@@ -295,7 +288,7 @@ module _ (plan : Plan) (commands : List Task) (s : Model) (act : Act) (done : Li
   o = action_at plan s
 
   -- the conditions of that action hold
-  its : IsFor plan s.progress (waiting_of s) o
+  its : HoldsBefore plan s.progress (waiting_of s) o
   its = action_for plan s.progress (waiting_of s)
 
   -- the client's part of the act
@@ -314,7 +307,7 @@ module _ (plan : Plan) (commands : List Task) (s : Model) (act : Act) (done : Li
   part_is : (b : Bool) → has_begun s.progress ≡ b → part.steps ≡ (if b then doing plan commands s o act else beginning s o act).steps
   part_is b w = ap (λ (x : Bool). (if x then doing plan commands s o act else beginning s o act).steps) w
 
-  -- what the act does to how many are after, by its part
+  -- the act changes the count as the steps of its part do
   part_counted : has_begun s.progress ≡ true → has_begun t.progress ≡ true → t.progress.behind ≡ behind_by (reached done).client s.progress.behind part.steps
   part_counted w still =
       counted plan commands s o act fine its obeys w still ∙ ap (behind_by s.client s.progress.behind) (sym (part_is true w)) ∙ ap (λ (c : ById Asked). behind_by c s.progress.behind part.steps) client
@@ -322,10 +315,10 @@ module _ (plan : Plan) (commands : List Task) (s : Model) (act : Act) (done : Li
   -- the client after the act is that of the course after its steps
   part_client : (reached (done ++ part.steps)).client ≡ t.client
   part_client =
-      ap (λ y. y.client) (course_append begun done part.steps) ∙ course_client part.steps (reached done) ∙ ap (λ (c : ById Asked). client_after c part.steps) (sym client)
+      ap (λ y. y.client) (course_append WINDOW done part.steps begun) ∙ course_client part.steps (reached done) ∙ ap (λ (c : ById Asked). client_after c part.steps) (sym client)
       ∙ (led plan commands s o act done fine its obeys client counts).client
 
-  -- where what is known of the parts after the act holds, all parts are near
+  -- if `AreNear` holds of the parts after the act, it holds with the act's part before them
   by_case : (started all : Bool) → has_begun s.progress ≡ started → loses_all t.progress ≡ all
       → ((later : List (Step Asked)) → u.client ≡ (reached later).client → (has_begun u.progress ≡ false → later ≡ []) → Counts (reached later) u.progress.behind → AreNear later ps)
       → AreNear done (in_front part (started && all) ps)
@@ -333,7 +326,7 @@ module _ (plan : Plan) (commands : List Task) (s : Model) (act : Act) (done : Li
       (alone_near plan commands s o act done fine its obeys client counts, near_all ps (next [] (ap (λ b. (losing b t).client) l) (λ e. refl) (none_sent u.progress.behind)))
   by_case true false w l next =
       let same : u ≡ t = ap (λ b. losing b t) l in
-      let still = not_lost t.progress l in
+      let still = goes_begun plan commands t l in
       front_near plan commands s o act done fine its obeys client counts ps
       (next (done ++ part.steps) (ap (λ (x : Model). x.client) same ∙ sym part_client)
       (λ e. absurd (not_both (has_begun t.progress) still (ap (λ (x : Model). has_begun x.progress) (sym same) ∙ e)))
@@ -357,12 +350,12 @@ module _ (plan : Plan) (commands : List Task) where
       let ps = parts_of plan commands (after plan commands s act) acts in
       subst (λ b. AreNear done (in_front (acting plan commands s (action_at plan s) act) (has_begun s.progress && b) ps)) (sym (ap loses_all (losing_progress (loses_all t.progress) t)))
       (by_case plan commands s act done fine runs.0 client new counts ps (has_begun s.progress) (loses_all t.progress) refl refl
-      (λ later. near_from (after plan commands s act) acts later (fine_after plan commands s act fine) runs.1))
+      (λ later. near_from (after plan commands s act) acts later (invariant_after plan commands s act fine) runs.1))
 
 -- the law: each command is sent after a call of the table that a reply ended, or after the synchronization
-pub behind_the_table : CommandsGoOutBehindTheTable
+pub behind_the_table : CommandsAreSentNearTheTable
 behind_the_table plan commands scope acts runs i part at front later target call deadline mark e its =
     let all = near_all (parts_of plan commands (opening plan scope) acts)
-    (near_from plan commands (opening plan scope) acts [] (fine_opening plan commands scope) runs refl (λ b. refl) (λ low. inl (omega arith))) in
+    (near_from plan commands (opening plan scope) acts [] (invariant_opening plan commands scope) runs refl (λ b. refl) (λ low. inl (omega arith))) in
     all_at (IsNear []) (parts_of plan commands (opening plan scope) acts) i part all at front later target call deadline mark e
     (ap (λ l. slice_get part.marks (length l)) (sym (course_sent front begun)) ∙ its)

@@ -15,14 +15,14 @@ use Rattle.gc_station.specs.declared.station.Station.{Station}
 use Rattle.gc_links.specs.Acts.{Act, Closed, Tells}
 use Rattle.gc_station.specs.Progressing.{turned, loses_all}
 use Rattle.gc_station.specs.Records.{Record, texts_of}
-use Rattle.gc_station.specs.Runs.{state_after, BrokeAt, LeftAt}
+use Rattle.gc_station.specs.Runs.{state_after, FailedAtRecord, FailedAtSync}
 use Rattle.gc_station.specs.Model.{Model, opening, action_at, Performs, after, after_all, moved, ended, Runs, with_progress}
 use Rattle.gc_station.specs.Stations.{waiting_in, Refines, Took, Makes, Breaks, Made, ComesTo, stepped, OnCall, seen}
 use Rattle.gc_station.specs.Deciding.{action_of}
 use Rattle.gc_station.proofs.Counts.{unsent_within, ended_progress}
 use Rattle.gc_station.proofs.Growing.{losing_records, moved_grew}
 use Rattle.gc_station.proofs.Hearing.{tells_more}
-use Rattle.gc_station.proofs.Readings.{moved_reads, ended_reads, stood_reads, are_same}
+use Rattle.gc_station.proofs.Readings.{moved_reads, ended_reads, reads_as_in_scope, are_same}
 use Rattle.gc_station.proofs.Records.{part_grew, part_grows}
 use Rattle.gc_station.proofs.Turns.{left_to_do, less_stepped}
 use Rattle.gc_station.specs.Scopes.{Scope, AreReadings}
@@ -45,8 +45,8 @@ on_then (Stop cause) claim other step on = tt
 on_then action claim other step on = step on
 
 -- a station that took a turn is as the model that took one
-pub stands_turned : (station : Station) (p : Progress) (s : Model) → p ≡ turned station.progress → Refines station s → Refines (record station { progress = p }) (with_progress turned s)
-stands_turned station p s e stands = record {
+pub refines_turned : (station : Station) (p : Progress) (s : Model) → p ≡ turned station.progress → Refines station s → Refines (record station { progress = p }) (with_progress turned s)
+refines_turned station p s e stands = record {
   progress = e ∙ ap turned stands.progress;
   ids = stands.ids;
   width = stands.width;
@@ -71,7 +71,7 @@ makes_step plan commands action text told told' taken taken' taken'' station mid
   act = makes.act;
   tells = makes.tells;
   goes = λ s start stands so.
-      let one = makes.goes (with_progress turned s) start (stands_turned station p s e stands) so in
+      let one = makes.goes (with_progress turned s) start (refines_turned station p s e stands) so in
       let end = ends (moved plan commands action (with_progress turned s) makes.act) start one.1 one.2 in
       (turn_obeys commands action s makes.act one.0, end.0, end.1);
 }
@@ -79,7 +79,7 @@ makes_step plan commands action text told told' taken taken' taken'' station mid
   act = makes.act;
   tells = makes.tells;
   goes = λ s start stands so.
-      let one = makes.goes (with_progress turned s) start (stands_turned station p s e stands) so in
+      let one = makes.goes (with_progress turned s) start (refines_turned station p s e stands) so in
       let mid : Model = moved plan commands action (with_progress turned s) makes.act in
       let part = ends mid start one.1 one.2 in (
         turn_obeys commands action s makes.act one.0,
@@ -98,7 +98,7 @@ breaks_step plan commands action text told told' taken taken' station p e breaks
   tells = breaks.tells;
   goes = λ s start stands so.
       let mid : Model = moved plan commands action (with_progress turned s) breaks.act in
-      let one = breaks.goes (with_progress turned s) start (stands_turned station p s e stands) so in
+      let one = breaks.goes (with_progress turned s) start (refines_turned station p s e stands) so in
       let more = losing_records (loses_all mid.progress) mid in (
         turn_obeys commands action s breaks.act one.0,
         λ are. part_grows text s.records mid.records (ended mid).records start taken' more
@@ -158,9 +158,9 @@ abbrev pub went_same : (plan : Plan) (commands : List Task) (scope : Scope) (tex
 went_same plan commands scope text told told' taken taken' taken'' station same w =
     went_kept plan commands scope text told told' taken taken' taken'' station (subst (λ (t : Option (List ℕ)). Keeps taken' t) (sym same) (Keeps-refl taken')) w
 
--- if the records couldn't be made to last, and the connection was closed, the run ended as `LeftAt` says
+-- if the records couldn't be made to last, and the connection was closed, the run ended as `FailedAtSync` says
 pub went_left : (plan : Plan) (commands : List Task) (scope : Scope) (text : Record → List ℕ) (told told' told'' : Option (List Act)) (taken taken' : Option (List ℕ)) (station : Station)
-    → Went plan commands scope text told told' taken taken' station → Tells told' told'' (Closed ∷ []) → LeftAt plan commands scope text told told'' taken taken'
+    → Went plan commands scope text told told' taken taken' station → Tells told' told'' (Closed ∷ []) → FailedAtSync plan commands scope text told told'' taken taken'
 went_left plan commands scope text told told' told'' taken taken' station w closed = record {
   acts = w.acts;
   tells = tells_more told told' told'' w.acts (Closed ∷ []) w.tells closed;
@@ -193,7 +193,7 @@ abbrev pub went_on : (plan : Plan) (commands : List Task) (scope : Scope) (text 
 went_on plan commands scope text told told' told'' taken taken' taken'' station new action w is makes are =
     let s = state_after plan commands scope w.acts in
     let one = makes.goes s taken w.stands (λ ok. w.took) in
-    let same = stepped_reads plan commands action s makes.act ∙ stood_reads plan commands scope w.acts in
+    let same = stepped_reads plan commands action s makes.act ∙ reads_as_in_scope plan commands scope w.acts in
     let took = one.2 (are_same (stepped plan commands action s makes.act).reads scope.reads same are) in
     let whole = after_all-append plan commands (opening plan scope) w.acts (makes.act ∷ []) in
     let obeys : Performs commands s (action_at plan s) makes.act = subst (λ (o : Action). Performs commands s o makes.act) is one.0 in
@@ -205,18 +205,18 @@ went_on plan commands scope text told told' told'' taken taken' taken'' station 
       took = rw (whole, ← is) took;
     }
 
--- if the book failed at a record of the last act, and the connection was closed, the run ended as `BrokeAt` says
+-- if the book failed at a record of the last act, and the connection was closed, the run ended as `FailedAtRecord` says
 pub went_wrong : (plan : Plan) (commands : List Task) (scope : Scope) (text : Record → List ℕ) (told told' told'' told''' : Option (List Act))
     (taken taken' taken'' : Option (List ℕ)) (station : Station) (action : Action)
     → (w : Went plan commands scope text told told' taken taken' station)
     → action ≡ action_at plan (state_after plan commands scope w.acts)
     → Breaks commands action (stepped plan commands action) (seen told' text taken' station) told'' taken''
     → Tells told'' told''' (Closed ∷ [])
-    → AreReadings scope.reads → BrokeAt plan commands scope text told told''' taken taken''
+    → AreReadings scope.reads → FailedAtRecord plan commands scope text told told''' taken taken''
 went_wrong plan commands scope text told told' told'' told''' taken taken' taken'' station action w is breaks closed are =
     let s = state_after plan commands scope w.acts in
     let one = breaks.goes s taken w.stands (λ ok. w.took) in
-    let same = stepped_reads plan commands action s breaks.act ∙ stood_reads plan commands scope w.acts in
+    let same = stepped_reads plan commands action s breaks.act ∙ reads_as_in_scope plan commands scope w.acts in
     let took = one.1 (are_same (stepped plan commands action s breaks.act).reads scope.reads same are) in
     let whole = after_all-append plan commands (opening plan scope) w.acts (breaks.act ∷ []) in
     let obeys : Performs commands s (action_at plan s) breaks.act = subst (λ (o : Action). Performs commands s o breaks.act) is one.0 in
@@ -234,19 +234,19 @@ pub record IsNearer (plan : Plan) (commands : List Task) (from to : Progress) : 
   pub less : left_to_do to < left_to_do from
 
 -- a station stands for some model (`Refines`)
-abbrev pub Somewhere : Station → Type 0
-Somewhere station = (s : Model) × Refines station s
+abbrev pub HasModel : Station → Type 0
+HasModel station = (s : Model) × Refines station s
 
 -- a turn leads a station that stands for some model to one that stands for some model
-pub somewhere_on : (plan : Plan) (commands : List Task) (text : Record → List ℕ) (told told' : Option (List Act)) (taken taken' : Option (List ℕ)) (station new : Station) (action : Action)
-    → Makes commands action (stepped plan commands action) (seen told text taken station) (seen told' text taken' new) → Somewhere station → Somewhere new
-somewhere_on plan commands text told told' taken taken' station new action makes some =
+pub has_model_on : (plan : Plan) (commands : List Task) (text : Record → List ℕ) (told told' : Option (List Act)) (taken taken' : Option (List ℕ)) (station new : Station) (action : Action)
+    → Makes commands action (stepped plan commands action) (seen told text taken station) (seen told' text taken' new) → HasModel station → HasModel new
+has_model_on plan commands text told told' taken taken' station new action makes some =
     let one = makes.goes some.0 None some.1 (λ are. tt) in
     (stepped plan commands action some.0 makes.act, one.1)
 
 -- a turn leaves a station nearer to the end
 pub went_nearer : (plan : Plan) (commands : List Task) (text : Record → List ℕ) (told told' : Option (List Act)) (taken taken' : Option (List ℕ)) (station new : Station) (action : Action)
-    → action ≡ action_of plan station.progress (waiting_in station) → Somewhere station
+    → action ≡ action_of plan station.progress (waiting_in station) → HasModel station
     → Makes commands action (stepped plan commands action) (seen told text taken station) (seen told' text taken' new)
     → station.progress.unsent ≤ length commands - plan.setup → IsNearer plan commands station.progress new.progress
 went_nearer plan commands text told told' taken taken' station new action is some makes within =

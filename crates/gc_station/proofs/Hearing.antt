@@ -149,7 +149,7 @@ with_kept station kept rest s stands is = record {
 
 -- As many marks are taken out as requests are settled.
 
--- if a reply is of the request at place k, it settles k + 1 requests
+-- after a reply to the request at place k, as many requests are left as come after that place; none if there is no such place
 settle_less : (k : ℕ) (line : List ℕ) (ps : List (Pending Asked)) → length ps - length (settle k line ps) ≡ length ps - (k + 1)
 settle_less k line [] = omega arith
 settle_less zero line (p ∷ ps) = omega arith
@@ -203,20 +203,20 @@ records_same old mid s ids xs ys stands between e =
     ∙ ap (records_of s.reads s.progress.moment.utc s.marks) e
 
 -- between these two stations the tally counts the records of these settlements
-abbrev pub Counts : Station → Station → List (Settlement Asked) → Type 0
-Counts mid new xs = (reads : Asked → List ℕ → Reading) → AreReadings reads → new.tally ≡ tallied mid.tally (records_of reads mid.progress.moment.utc mid.marks.items xs)
+abbrev pub UpdatesTally : Station → Station → List (Settlement Asked) → Type 0
+UpdatesTally mid new xs = (reads : Asked → List ℕ → Reading) → AreReadings reads → new.tally ≡ tallied mid.tally (records_of reads mid.progress.moment.utc mid.marks.items xs)
 
 -- between these two stations `well` becomes whether the last command of these settlements was answered well
-abbrev pub Minds : Station → Station → List (Settlement Asked) → Type 0
-Minds mid new xs = (reads : Asked → List ℕ → Reading) → AreReadings reads → new.well ≡ last_well mid.well (records_of reads mid.progress.moment.utc mid.marks.items xs)
+abbrev pub UpdatesWell : Station → Station → List (Settlement Asked) → Type 0
+UpdatesWell mid new xs = (reads : Asked → List ℕ → Reading) → AreReadings reads → new.well ≡ last_well mid.well (records_of reads mid.progress.moment.utc mid.marks.items xs)
 
 -- between these two stations `listed` becomes whether a command of the attempt that was settled last ended as its rule names
-abbrev pub Lists : Station → Station → List (Settlement Asked) → Type 0
-Lists mid new xs = (reads : Asked → List ℕ → Reading) → AreReadings reads → new.listed ≡ listed_by reads mid.listed mid.marks.items xs
+abbrev pub UpdatesListed : Station → Station → List (Settlement Asked) → Type 0
+UpdatesListed mid new xs = (reads : Asked → List ℕ → Reading) → AreReadings reads → new.listed ≡ listed_by reads mid.listed mid.marks.items xs
 
 -- between these two stations `fresh` becomes the moment read last, if a command of these settlements was answered well
-abbrev pub Freshens : Station → Station → List (Settlement Asked) → Type 0
-Freshens mid new xs = (reads : Asked → List ℕ → Reading) → AreReadings reads
+abbrev pub UpdatesFresh : Station → Station → List (Settlement Asked) → Type 0
+UpdatesFresh mid new xs = (reads : Asked → List ℕ → Reading) → AreReadings reads
     → new.fresh ≡ fresh_after mid.progress.moment.elapsed mid.fresh (records_of reads mid.progress.moment.utc mid.marks.items xs)
 
 -- if the records of settlements were written, the station is as the model after them
@@ -224,7 +224,7 @@ pub settles_ok : (text : Record → List ℕ) (old mid new : Station) (s : Model
     → Refines old s → Between old mid x.client → xs ≡ x.settlements → n ≡ length x.settlements → StayPaired s.marks x
     → (AreReadings s.reads → Appends start taken' (texts_of text (s.records ++ records_of s.reads mid.progress.moment.utc mid.marks.items xs)))
     → new ≡ record mid { marks = record { items = drop n mid.marks.items }; tally = new.tally; well = new.well; listed = new.listed; fresh = new.fresh }
-    → Counts mid new xs → Minds mid new xs → Lists mid new xs → Freshens mid new xs
+    → UpdatesTally mid new xs → UpdatesWell mid new xs → UpdatesListed mid new xs → UpdatesFresh mid new xs
     → Refines new (settles x s) × Took text start taken' (settles x s)
 settles_ok text old mid new s x xs n start taken' stands between e many paired wrote is counts minds lists freshens =
     let added : List Record = records_of s.reads mid.progress.moment.utc mid.marks.items xs in
@@ -263,7 +263,7 @@ pub settles_either : {X E : Type 0} (text : Record → List ℕ) (old mid new : 
     → Refines old s → Between old mid x.client → xs ≡ x.settlements → n ≡ length x.settlements → StayPaired s.marks x
     → (AreReadings s.reads → WritesAll text s.records (s.records ++ records_of s.reads mid.progress.moment.utc mid.marks.items xs) start taken' result)
     → OnOk result (new ≡ record mid { marks = record { items = drop n mid.marks.items }; tally = new.tally; well = new.well; listed = new.listed; fresh = new.fresh })
-    → OnOk result (Counts mid new xs) → OnOk result (Minds mid new xs) → OnOk result (Lists mid new xs) → OnOk result (Freshens mid new xs)
+    → OnOk result (UpdatesTally mid new xs) → OnOk result (UpdatesWell mid new xs) → OnOk result (UpdatesListed mid new xs) → OnOk result (UpdatesFresh mid new xs)
     → ComesTo text s.records new start taken' (settles x s) result
 settles_either text old mid new s x xs n start taken' (Ok r) stands between e many paired wrote is counts minds lists freshens =
     settles_ok text old mid new s x xs n start taken' stands between e many paired wrote is counts minds lists freshens
@@ -309,11 +309,11 @@ with_caught mid p t t' n n' s stands e f is = record {
 }
 
 -- a station whose requests timed out at a moment is as the model at that moment
-pub stands_expired : (station : Station) (p q : Progress) (client : Windowed Asked) (fresh : ℕ) (m : Moment) (s : Model) → Refines station s → p ≡ q
+pub refines_expired : (station : Station) (p q : Progress) (client : Windowed Asked) (fresh : ℕ) (m : Moment) (s : Model) → Refines station s → p ≡ q
     → client ≡ record station.client { ids = expires station.client.ids m.elapsed }
     → fresh ≡ min station.fresh m.elapsed
     → Refines (record station { progress = p; client = client; fresh = fresh }) (with_moment m (with_progress (λ x. q) s))
-stands_expired station p q client fresh m s stands e is less = record {
+refines_expired station p q client fresh m s stands e is less = record {
   progress = e;
   ids = ap (λ (w : Windowed Asked). w.ids) is ∙ ap (λ ids. expires ids m.elapsed) stands.ids;
   width = ap (λ (w : Windowed Asked). w.width) is ∙ stands.width;

@@ -1,7 +1,7 @@
--- A text without raw commands is never held up: if each command is a call of the table, as many requests are after
--- the last call of the table that a reply ended as wait. An act is one call on the link, with its result; steps of the client
--- are to send, to hear a line, to read the clock and to restart.
-use Rattle.std.proofs.Common.{◌≡◌, ℕ, zero, suc, ◌+◌, ◌-◌, ◌<◌, ◌≤◌, ◌&&◌, Bool, true, false, List, [], ◌∷◌, ◌++◌, length, map, drop, Option, Some, None, refl, sym, ap, ◌∙◌, subst, arith, if◌then◌else◌, nat_lt, nat_eq, length-drop}
+-- A text without raw commands is never held up: if each command is a call of the table, the requests sent after the last call of
+-- the table that a reply ended are as many as the outstanding ones. An act is one call on the link, with its result; steps of the
+-- client are to send, to hear a line, to read the clock and to restart.
+use Rattle.std.proofs.Common.{◌≡◌, ℕ, zero, suc, ◌+◌, ◌-◌, ◌<◌, ◌≤◌, ◌&&◌, Bool, true, false, List, [], ◌∷◌, length, map, drop, Option, Some, None, refl, sym, ap, ◌∙◌, subst, arith, if◌then◌else◌, nat_lt, nat_eq, length-drop}
 use Rattle.std.specs.Prelude.{slice_get}
 use Rattle.std.specs.List.{AllByRecursion}
 use Rattle.std.proofs.lemmas.Bool.{ltb-true, ltb-false, eqb-true}
@@ -27,17 +27,17 @@ use Rattle.gc_station.specs.declared.progress.Action.TheVariants as action
 use Rattle.gc_station.specs.declared.progress.Progress.{Progress}
 use Rattle.gc_station.specs.declared.progress.Waiting.{Waiting}
 use Rattle.gc_station.specs.Behind.{AreOfTable, TheTableIsNeverHeldUp}
-use Rattle.gc_station.specs.Deciding.{has_begun, is_none_left, action_room, action_waiting, width_of}
+use Rattle.gc_station.specs.Deciding.{has_begun, is_none_left, action_next, action_room, action_waiting, width_of}
 use Rattle.gc_station.specs.Parts.{putting, asking_first, hearing, doing, beginning, acting, asking_or_null}
-use Rattle.gc_station.specs.Progressing.{one_more, turned, moment_noted, time_passed, is_over, loses_all}
-use Rattle.gc_station.specs.Reasons.{IsFor}
+use Rattle.gc_station.specs.Progressing.{one_more_in_window, turned, moment_noted, time_passed, is_over, loses_all}
+use Rattle.gc_station.specs.Reasons.{HoldsBefore}
 use Rattle.gc_station.specs.Runs.{state_after}
 use Rattle.gc_station.specs.Model.{Model, opening, action_at, waiting_of, place_next, mark_next, is_some_of_table, ends_with_table, is_heard, with_progress, with_moment, with_rest, lines_completed, after_piece, moved, losing, after, Performs, mark_setup}
 use Rattle.gc_station.proofs.Always.{always}
 use Rattle.gc_station.proofs.Behind.{behind_by, behind_step}
 use Rattle.gc_station.proofs.Booking.{stepped, client_after}
 use Rattle.gc_station.proofs.Counts.{losing_progress}
-use Rattle.gc_station.proofs.EachRun.{fine_stood}
+use Rattle.gc_station.proofs.EachRun.{invariant_holds}
 use Rattle.gc_station.proofs.Facts.{action_for}
 use Rattle.gc_station.proofs.GoesBehind.{counted}
 use Rattle.gc_station.proofs.Invariant.{Invariant}
@@ -47,20 +47,8 @@ use Rattle.gc_station.proofs.Turns.{over_stays}
 use Rattle.gc_station.proofs.Walk.{asked_along, quieted_along, closed_along, walk}
 use Rattle.gc_station.proofs.Words.{renews_only}
 use Rattle.gc_station.proofs.Ticking.{not_both}
-use Rattle.gc_station.proofs.Losing.{neither}
-
--- Lists.
-
--- what holds of each element of a list holds of each after the first n
-all_drop : {A : Type 0} (P : A → Type 0) (n : ℕ) (xs : List A) → AllByRecursion P xs → AllByRecursion P (drop n xs)
-all_drop P zero xs all = all
-all_drop P (suc n) [] all = tt
-all_drop P (suc n) (x ∷ xs) all = all_drop P n xs all.1
-
--- what holds of each element of a list, and of one more, holds of each of the longer list
-all_more : {A : Type 0} (P : A → Type 0) (xs : List A) (x : A) → AllByRecursion P xs → P x → AllByRecursion P (xs ++ x ∷ [])
-all_more P [] x all here = (here, tt)
-all_more P (y ∷ xs) x all here = (all.0, all_more P xs x all.1 here)
+use Rattle.gc_station.proofs.Losing.{loses_nothing}
+use Rattle.gc_station.proofs.Lists.{all_drop, all_append}
 
 -- Steps of the client.
 
@@ -92,8 +80,8 @@ settle_tables k line [] low all = absurd (omega (arith, low))
 settle_tables zero line (p ∷ ps) low all = all.0
 settle_tables (suc k) line (p ∷ ps) low all = settle_tables k line ps (omega (arith, low)) all.1
 
--- `one_more` of a number below seven is that number and 1
-more_is : (n : ℕ) → n < 7 → one_more n ≡ n + 1
+-- `one_more_in_window` of a number below seven is that number and 1
+more_is : (n : ℕ) → n < 7 → one_more_in_window n ≡ n + 1
 more_is n low = by_test (nat_lt n WINDOW) refl where
   -- the lemma above, by whether n is below the window
   by_test : (b : Bool) → nat_lt n WINDOW ≡ b → (if b then n + 1 else n) ≡ n + 1
@@ -102,18 +90,18 @@ more_is n low = by_test (nat_lt n WINDOW) refl where
 
 -- a send to a window that isn't full preserves `Level`; one to a full window changes nothing
 level_sent : (c : ById Asked) (b target : ℕ) (call : Asked) (deadline : ℕ) → is_of_table call ≡ true → Level c b → (full : Bool) → nat_eq (length c.waiting) 7 ≡ full
-    → Level (sent_on (record { sent = []; settlements = []; client = c }) target call (id_send c target call deadline full)).client (one_more b)
+    → Level (sent_on (record { sent = []; settlements = []; client = c }) target call (id_send c target call deadline full)).client (one_more_in_window b)
 level_sent c b target call deadline table h true e =
     let seven = eqb-true (length c.waiting) 7 e in
-    let same : one_more b ≡ length c.waiting = ap one_more (h.same ∙ seven) ∙ sym seven in
+    let same : one_more_in_window b ≡ length c.waiting = ap one_more_in_window (h.same ∙ seven) ∙ sym seven in
     record { tables = h.tables; few = h.few; same = same }
 level_sent c b target call deadline table h false e =
     let low : length c.waiting < 7 = less (length c.waiting) h.few e in
     let more = length-append c.waiting (pending_of target call deadline ∷ []) in
     record {
-      tables = all_more IsTableCall c.waiting (pending_of target call deadline) h.tables table;
+      tables = all_append IsTableCall c.waiting (pending_of target call deadline ∷ []) h.tables (table, tt);
       few = omega (arith, more, low);
-      same = ap one_more h.same ∙ more_is (length c.waiting) low ∙ sym more;
+      same = ap one_more_in_window h.same ∙ more_is (length c.waiting) low ∙ sym more;
     } where
       -- a number that is at most seven, and isn't seven, is below seven
       less : (n : ℕ) → n ≤ 7 → nat_eq n 7 ≡ false → n < 7
@@ -157,12 +145,12 @@ level_steps c b (step ∷ steps) all h = level_steps (stepped c step) (behind_st
 
 -- Acts.
 
--- steps that hear lines send nothing
+-- steps that hear lines send nothing, so they send calls of the table alone
 hears_tables : (lines : List (List ℕ)) → AllByRecursion SendsTableCalls (map Hear lines)
 hears_tables [] = tt
 hears_tables (line ∷ others) = (tt, hears_tables others)
 
--- a piece that is heard, or discarded, sends nothing
+-- the steps for a piece, which is heard or discarded, send calls of the table alone, as they send nothing
 hearing_tables : (h : Bool) (rest piece : List ℕ) → AllByRecursion SendsTableCalls (hearing h rest piece)
 hearing_tables true rest piece = hears_tables (lines_completed rest piece)
 hearing_tables false rest piece = tt
@@ -175,12 +163,12 @@ table_at task utc is = by_clock task.now where
   by_clock true = refl
   by_clock false = is
 
--- the first of some calls of the table is one
+-- the step that sends the first of these commands sends a call of the table, if all of them are
 first_tables : (now : ℕ) (mark : Mark) (left : List Task) → AreOfTable left → AllByRecursion SendsTableCalls (asking_first now mark left).steps
 first_tables now mark [] all = tt
 first_tables now mark (task ∷ others) all = (table_at task mark.sent all.0, tt)
 
--- the first of some calls of the table, as a command of the setup, is one, and so is the null procedure in its place
+-- the same for the first of these commands of the setup, or the null procedure that is sent if there is none
 setup_tables : (plan : Plan) (now : ℕ) (mark : Mark) (left : List Task) → AreOfTable left → AllByRecursion SendsTableCalls (asking_or_null plan now mark left).steps
 setup_tables plan now mark [] all = (refl, tt)
 setup_tables plan now mark (task ∷ others) all = (table_at task mark.sent all.0, tt)
@@ -206,24 +194,24 @@ module _ (plan : Plan) (commands : List Task) (all : AreOfTable commands) where
   do_tables s o (Cut bytes count) = put_tables s o
   do_tables s o act = tt
 
-  -- what every run of calls of the table keeps: while it synchronizes nothing is after; and once it has begun, and isn't over,
-  -- as many are after as wait
+  -- what every run of calls of the table keeps. `behind` counts the requests after the last call of the table that a reply ended:
+  -- while the station synchronizes it is 0; afterwards, until the run is over, it is the number of outstanding requests
   record Free (s : Model) : Type 0 where
     begins : has_begun s.progress ≡ false → s.progress.behind ≡ 0
     level : has_begun s.progress ≡ true → is_over s.progress ≡ false → Level s.client s.progress.behind
 
-  -- while the station synchronizes, nothing is after after an act
+  -- after an act the count (`behind`) is 0
   abbrev NoneBehind : Act → Model → Type 0
   NoneBehind act t = t.progress.behind ≡ 0
 
-  -- a piece that is heard while the station synchronizes, or discarded, leaves nothing after
+  -- while the station synchronizes, a piece, heard or discarded, leaves the count at 0
   came_none : (h : Bool) (word piece : List ℕ) (s : Model) → is_none_left word ≡ false → s.progress.behind ≡ 0 → (after_piece h word piece s).progress.behind ≡ 0
   came_none true [] piece s begins e = cc
   came_none true (asked ∷ others) piece s begins e = asked_along (λ (q : Progress). q.behind ≡ 0) (λ q line e. e) s.progress (lines_completed s.rest piece) e
   came_none false word piece s begins e = e
 
-  -- while the station synchronizes, an act leaves nothing after
-  none_behind : (s : Model) (o : Action) (act : Act) → IsFor plan s.progress (waiting_of s) o → Performs commands s o act → has_begun s.progress ≡ false → s.progress.behind ≡ 0
+  -- while the station synchronizes, an act leaves the count at 0
+  none_behind : (s : Model) (o : Action) (act : Act) → HoldsBefore plan s.progress (waiting_of s) o → Performs commands s o act → has_begun s.progress ≡ false → s.progress.behind ≡ 0
       → NoneBehind act (moved plan commands o (with_progress turned s) act)
   none_behind s action.Renew act is obeys begins e = absurd (not_both (has_begun s.progress) is.1 begins)
   none_behind s action.Begin act is obeys begins e = absurd (not_both (has_begun s.progress) is.1 begins)
@@ -246,7 +234,7 @@ module _ (plan : Plan) (commands : List Task) (all : AreOfTable commands) where
   none_behind s (action.Stop why) act is obeys begins e = absurd obeys
   none_behind s o act is obeys begins e = walk plan commands NoneBehind o (with_progress turned s) act obeys (λ m. e, λ n. e)
 
-  -- if the station resynchronizes, nothing is after
+  -- if the station resynchronizes, the count is 0
   renewed_none : (s : Model) (o : Action) (act : Act) (m : Moment) → o ≡ action.Renew → act ≡ Told m → (moved plan commands o (with_progress turned s) act).progress.behind ≡ 0
   renewed_none s o act m is moment_noted =
       ap (λ (x : Action). (moved plan commands x (with_progress turned s) act).progress.behind) is
@@ -254,7 +242,7 @@ module _ (plan : Plan) (commands : List Task) (all : AreOfTable commands) where
 
   -- where what is outstanding isn't lost, the client is as before
   kept_client : (t : Model) → has_begun t.progress ≡ true → is_over t.progress ≡ false → (losing (loses_all t.progress) t).client ≡ t.client
-  kept_client t begun going = ap (λ (b : Bool). (losing b t).client) (neither (has_begun t.progress) (is_over t.progress) begun going)
+  kept_client t begun going = ap (λ (b : Bool). (losing b t).client) (loses_nothing (has_begun t.progress) (is_over t.progress) begun going)
 
   module _ (s : Model) (act : Act) (fine : Invariant plan commands s) (obeys : Performs commands s (action_at plan s) act) (h : Free s) where
     -- the action that the act performs
@@ -262,7 +250,7 @@ module _ (plan : Plan) (commands : List Task) (all : AreOfTable commands) where
     o = action_at plan s
 
     -- the conditions of that action hold
-    its : IsFor plan s.progress (waiting_of s) o
+    its : HoldsBefore plan s.progress (waiting_of s) o
     its = action_for plan s.progress (waiting_of s)
 
     -- the model after the act, before what is outstanding is lost
@@ -274,8 +262,8 @@ module _ (plan : Plan) (commands : List Task) (all : AreOfTable commands) where
     u = losing (loses_all t.progress) t
 
     -- the loss of what is outstanding changes no progress
-    far : u.progress ≡ t.progress
-    far = losing_progress (loses_all t.progress) t
+    same_progress : u.progress ≡ t.progress
+    same_progress = losing_progress (loses_all t.progress) t
 
     -- the act so far, at a synchronized station
     moves : has_begun s.progress ≡ true → has_begun t.progress ≡ true → is_over s.progress ≡ false → Level t.client t.progress.behind
@@ -297,25 +285,25 @@ module _ (plan : Plan) (commands : List Task) (all : AreOfTable commands) where
     free_so : (b : Bool) → has_begun s.progress ≡ b → Free u
     free_so true begun = record {
       begins = λ anew.
-          let it = renews_only plan commands s o act obeys begun (sym (ap has_begun far) ∙ anew) in
-          ap (λ (p : Progress). p.behind) far ∙ renewed_none s o act it.1 it.0 it.2;
+          let it = renews_only plan commands s o act obeys begun (sym (ap has_begun same_progress) ∙ anew) in
+          ap (λ (p : Progress). p.behind) same_progress ∙ renewed_none s o act it.1 it.0 it.2;
       level = λ still going.
-          let now = sym (ap has_begun far) ∙ still in
-          let on = sym (ap is_over far) ∙ going in
+          let now = sym (ap has_begun same_progress) ∙ still in
+          let on = sym (ap is_over same_progress) ∙ going in
           subst (λ (c : ById Asked). Level c u.progress.behind) (sym (kept_client t now on))
-          (subst (λ (p : Progress). Level t.client p.behind) (sym far) (moves begun now (wasnt_over (is_over s.progress) refl)));
+          (subst (λ (p : Progress). Level t.client p.behind) (sym same_progress) (moves begun now (wasnt_over (is_over s.progress) refl)));
     }
     free_so false begins =
         let none = none_behind s o act its obeys begins (h.begins begins) in
         let kept = keeps_action plan commands s o act its obeys begins (fine.begins begins) in
         record {
-          begins = λ anew. ap (λ (p : Progress). p.behind) far ∙ none;
+          begins = λ anew. ap (λ (p : Progress). p.behind) same_progress ∙ none;
           level = λ still going.
-              let now = sym (ap has_begun far) ∙ still in
-              let on = sym (ap is_over far) ∙ going in
+              let now = sym (ap has_begun same_progress) ∙ still in
+              let on = sym (ap is_over same_progress) ∙ going in
               let new : u.client ≡ fresh = kept_client t now on ∙ kept.0 in
               subst (λ (c : ById Asked). Level c u.progress.behind) (sym new)
-              (subst (λ (n : ℕ). Level fresh n) (sym (ap (λ (p : Progress). p.behind) far ∙ none)) (record { tables = tt; few = omega arith; same = refl }));
+              (subst (λ (n : ℕ). Level fresh n) (sym (ap (λ (p : Progress). p.behind) same_progress ∙ none)) (record { tables = tt; few = omega arith; same = refl }));
         }
 
   -- each act preserves `Free`
@@ -330,11 +318,11 @@ full_waits plan p w o full = ap (λ (b : Bool). if b then o else action_waiting 
   both_false true b e = e
   both_false false b e = refl
 
--- where as many are after as wait, a command is sent as soon as there is room
-sends_on : (plan : Plan) (p : Progress) (w : Waiting) (o : Action) → p.behind ≡ w.all
-    → (if nat_lt p.behind WINDOW then action_room plan p w o else (if nat_eq w.current 0 then action_room plan p w action.Flush else action_waiting plan p w)) ≡ action_room plan p w o
+-- if as many requests were sent after the last call of the table that a reply ended (`behind`) as are outstanding, the command
+-- `o`, which may be sent, is sent as soon as there is room
+sends_on : (plan : Plan) (p : Progress) (w : Waiting) (o : Action) → p.behind ≡ w.all → action_next plan p w o ≡ action_room plan p w o
 sends_on plan p w o e = by_test (nat_lt p.behind WINDOW) refl where
-  -- the lemma above, by whether fewer than seven are after
+  -- the lemma above, by whether the count is below seven
   by_test : (b : Bool) → nat_lt p.behind WINDOW ≡ b
       → (if b then action_room plan p w o else (if nat_eq w.current 0 then action_room plan p w action.Flush else action_waiting plan p w)) ≡ action_room plan p w o
   by_test true is = refl
@@ -351,7 +339,7 @@ pub never_held_up : TheTableIsNeverHeldUp
 never_held_up plan commands scope acts runs all begun going =
     let s = state_after plan commands scope acts in
     let free : Free plan commands all s = always plan commands (opening plan scope) (λ (done : List Act) (t : Model). Free plan commands all t)
-    (λ done act before obeys h. free_after plan commands all (state_after plan commands scope done) act (fine_stood plan commands scope done) obeys h)
+    (λ done act before obeys h. free_after plan commands all (state_after plan commands scope done) act (invariant_holds plan commands scope done) obeys h)
     (record { begins = λ e. refl; level = λ e f. cc }) acts runs in
     let level = free.level begun going in
     (level.same, sends_on plan s.progress (waiting_of s) action.Send level.same, sends_on plan s.progress (waiting_of s) action.Prepare level.same)

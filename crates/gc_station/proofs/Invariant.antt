@@ -14,7 +14,7 @@ use Rattle.gc_station.specs.Marks.{commands_in}
 use Rattle.gc_station.specs.Progressing.{is_over}
 use Rattle.gc_station.specs.EachOnce.{IsEachOnce}
 use Rattle.gc_station.specs.Model.{Model}
-use Rattle.gc_station.specs.Parts.{AreOf}
+use Rattle.gc_station.specs.Parts.{MarksAsk}
 use Rattle.gc_station.specs.Tasked.{IsOfItsTask}
 
 -- whether a phase is without a connection, or before requests are sent: no byte of a line is kept in it
@@ -55,5 +55,5 @@ pub record Invariant (plan : Plan) (commands : List Task) (s : Model) : Type 0 w
   pub finished : says_done s.progress.phase ≡ true → (s.progress.left ≡ 0) × (s.progress.unsent ≡ 0) × (commands_in s.marks ≡ 0)
   pub each : IsEachOnce plan commands s
   -- each outstanding request asks what its mark says, and each record is of its task
-  pub own : AreOf commands s.marks (map of_pending s.client.waiting)
-  pub told : AllByRecursion (IsOfItsTask commands) s.records
+  pub own : MarksAsk commands s.marks (map of_pending s.client.waiting)
+  pub tasked : AllByRecursion (IsOfItsTask commands) s.records

@@ -17,7 +17,7 @@ mod Faulty
 pub mod Invariant
 pub mod Following
 mod Further
-mod Givens
+pub mod Givens
 mod Going
 mod Growing
 pub mod Hearing

@@ -4,7 +4,7 @@
 -- 0. `Back` says of an earlier command that it was sent, was answered well, and is of the part that still goes on.
 use Rattle.std.proofs.Common.{◌≡◌, ◌⊎◌, inl, inr, ℕ, zero, suc, ◌+◌, ◌-◌, ◌<◌, ◌≤◌, Bool, true, false, List, [], ◌∷◌, ◌++◌, length, drop, Option, Some, if◌then◌else◌, refl, sym, ◌∙◌, ap, subst, arith, append_assoc, append-nil}
 use Rattle.std.specs.Prelude.{slice_get, unwrap_or}
-use Rattle.std.proofs.lemmas.List.{length-drop}
+use Rattle.std.proofs.lemmas.List.{length-drop, append_cancel_left}
 use Rattle.gc_texts.specs.declared.tasks.Task.{Task}
 use Rattle.gc_station.specs.declared.mark.Mark.{Mark}
 use Rattle.gc_station.specs.declared.plan.Plan.{Plan}
@@ -16,7 +16,6 @@ use Rattle.gc_station.specs.Deciding.{has_begun}
 use Rattle.gc_station.specs.EachOnce.{IsFurther}
 use Rattle.gc_station.specs.Links.{AreChained, IsBefore, IsAnsweredEarlier, ChainsStay, MarksGoOn, parts}
 use Rattle.gc_station.specs.Parts.{Part, joined, asking_first, doing, beginning, acting, ends_part, in_front, parts_of, mark_of}
-use Rattle.gc_station.specs.Progressing.{cycle_begun}
 use Rattle.gc_station.specs.Records.{Record}
 use Rattle.gc_station.specs.Runs.{state_after}
 use Rattle.gc_station.specs.Scopes.{Scope}
@@ -27,14 +26,16 @@ use Rattle.gc_texts.specs.Qualities.{is_good}
 use Rattle.gc_texts.specs.declared.quality.Quality.{Quality}
 use Rattle.gc_catalogue.specs.declared.answer.Answer.{Answer}
 use Rattle.gc_station.proofs.Chaining.{StaysBegun, PreparesNothing, prepares_none, chain_whole}
-use Rattle.gc_station.proofs.EachRun.{fine_stood}
+use Rattle.gc_station.proofs.EachRun.{invariant_holds}
 use Rattle.gc_station.proofs.Outs.{of_a_cycle, send_cycle, send_place, sends_of_cycle}
 use Rattle.gc_station.proofs.Further.{send_goes_on}
 use Rattle.gc_station.proofs.Going.{after_all-append, runs_behind}
-use Rattle.gc_station.proofs.SentAt.{some_is, none_is_not, get_behind, fronts, records_stay, SentAt, sent_at, act_head, act_tail}
-use Rattle.gc_station.proofs.OnePart.{runs_front, needs_send, puts_text, same_part}
-use Rattle.gc_station.proofs.PartFronts.{IsFront, front_parts, front_last}
-use Rattle.gc_station.proofs.Lists.{get_more}
+use Rattle.gc_station.proofs.SentAt.{none_is_not, records_stay, SentAt, sent_at}
+use Rattle.gc_texts.proofs.Cutting.{some_injective}
+use Rattle.gc_station.proofs.OnePart.{runs_front, puts_text, same_part}
+use Rattle.gc_station.proofs.PartFronts.{IsNoLonger, no_longer_parts, no_longer_last}
+use Rattle.gc_station.proofs.Lists.{get_more, get_behind, cons_head, cons_tail, fronts}
+use Rattle.gc_station.proofs.Closings.{needs_of}
 
 -- The commands go on.
 
@@ -66,9 +67,9 @@ module _ (plan : Plan) (commands : List Task) (scope : Scope) where
       -- the first command isn't sent after the second one
       behind : (more : List Act) → x.before ≡ y.before ++ more → ⊥
       behind more e =
-          let front = subst (λ l. IsFront (parts_of plan commands (opening plan scope) y.before) (parts_of plan commands (opening plan scope) l)) (sym e)
-          (front_parts plan commands (opening plan scope) y.before more) in
-          let there = front_last (parts_of plan commands (opening plan scope) y.before)
+          let front = subst (λ l. IsNoLonger (parts_of plan commands (opening plan scope) y.before) (parts_of plan commands (opening plan scope) l)) (sym e)
+          (no_longer_parts plan commands (opening plan scope) y.before more) in
+          let there = no_longer_last (parts_of plan commands (opening plan scope) y.before)
           (parts_of plan commands (opening plan scope) x.before) j i y.first x.first front y.last x.last y.of_parts x.of_parts in
           let counts_x : length x.first.marks ≡ m = x.count in
           let counts_y : length y.first.marks ≡ n = y.count in
@@ -104,8 +105,8 @@ asked_mark now mark (task ∷ others) some = refl
 -- the part of an act that puts bytes if a command is next has the mark of that command
 put_asks : (plan : Plan) (commands : List Task) (s : Model) (act : Act) (bytes : List ℕ) → Puts bytes act → has_begun s.progress ≡ true → 0 < length (drop (place_next commands s.progress) commands)
     → slice_get (acting plan commands s Send act).marks 0 ≡ Some (Some (mark_next plan commands s.progress))
-put_asks plan commands s act bytes puts cycle_begun some = subst (λ (b : Bool). slice_get
-    (if b then doing plan commands s Send act else beginning s Send act).marks 0 ≡ Some (Some (mark_next plan commands s.progress))) (sym cycle_begun)
+put_asks plan commands s act bytes puts begun some = subst (λ (b : Bool). slice_get
+    (if b then doing plan commands s Send act else beginning s Send act).marks 0 ≡ Some (Some (mark_next plan commands s.progress))) (sym begun)
     (by_act act puts) where
       -- the lemma above, by how the act puts the bytes: whole or in part
       by_act : (a : Act) → Puts bytes a → slice_get (doing plan commands s Send a).marks 0 ≡ Some (Some (mark_next plan commands s.progress))
@@ -114,27 +115,27 @@ put_asks plan commands s act bytes puts cycle_begun some = subst (λ (b : Bool).
       by_act a puts = absurd puts
 
 -- part i of these parts, counted from 0, has a request with this mark
-abbrev Has : List Part → ℕ → Mark → Type 0
-Has ps i mark = (part : Part) × (slice_get ps i ≡ Some part) × (m : ℕ) × (slice_get part.marks m ≡ Some (Some mark))
+abbrev HasMark : List Part → ℕ → Mark → Type 0
+HasMark ps i mark = (part : Part) × (slice_get ps i ≡ Some part) × (m : ℕ) × (slice_get part.marks m ≡ Some (Some mark))
 
--- if an act's part has a mark first, the first of the parts with the act before it has it
-first_has : (p : Part) (b : Bool) (ps : List Part) (mark : Mark) → slice_get p.marks 0 ≡ Some (Some mark) → Has (in_front p b ps) 0 mark
+-- if the first request of an act's part has a mark, the first of the parts with the act before them has a request with it
+first_has : (p : Part) (b : Bool) (ps : List Part) (mark : Mark) → slice_get p.marks 0 ≡ Some (Some mark) → HasMark (in_front p b ps) 0 mark
 first_has p true ps mark e = (p, refl, 0, e)
 first_has p false [] mark e = (p, refl, 0, e)
 first_has p false (q ∷ ps) mark e = (joined p q, refl, 0, get_more p.marks q.marks 0 (Some mark) e)
 
--- where part i has a mark, it has it with a part joined to the front of the first one
-on_has : (p : Part) (qs : List Part) (i : ℕ) (mark : Mark) → Has qs i mark → Has (in_front p false qs) i mark
+-- if part i has a request with a mark, it still has it once another part is joined to the front of the first one
+on_has : (p : Part) (qs : List Part) (i : ℕ) (mark : Mark) → HasMark qs i mark → HasMark (in_front p false qs) i mark
 on_has p [] i mark h = absurd (none_is_not h.0 h.1)
 on_has p (y ∷ qs) zero mark h =
-    let same : h.0 ≡ y = sym (some_is y h.0 h.1) in
-    (joined p y, refl, length p.marks + h.2, get_behind p.marks y.marks h.2 (length p.marks + h.2) (Some mark) refl (subst (λ (x : Part). slice_get x.marks h.2 ≡ Some (Some mark)) same h.3))
+    let same : h.0 ≡ y = sym (some_injective y h.0 h.1) in
+    (joined p y, refl, length p.marks + h.2, get_behind p.marks y.marks (length p.marks + h.2) h.2 refl ∙ subst (λ (x : Part). slice_get x.marks h.2 ≡ Some (Some mark)) same h.3)
 on_has p (y ∷ qs) (suc i) mark h = h
 
 -- `ps` are the parts of some first acts, and `qs` those of all acts. If the part of `qs` at the place of the last part of `ps`
--- has a mark, it still has it with one act more, whose part is p, before both
+-- has a request with a mark, it still has it once one act more, whose part is p, is put before both
 step_has : (p : Part) (b : Bool) (ps qs : List Part) (i k : ℕ) (mark : Mark) → length ps ≡ suc k → length (in_front p b ps) ≡ suc i
-    → ((j : ℕ) → length ps ≡ suc j → Has qs j mark) → Has (in_front p b qs) i mark
+    → ((j : ℕ) → length ps ≡ suc j → HasMark qs j mark) → HasMark (in_front p b qs) i mark
 step_has p true ps qs zero k mark some size has = absurd (omega (arith, some, size))
 step_has p true ps qs (suc i) k mark some size has = has i (omega (arith, size))
 step_has p false [] qs i k mark some size has = absurd (omega (arith, some))
@@ -155,7 +156,7 @@ parts_some plan commands s (act ∷ acts) = front_some (acting plan commands s (
 mark_there : (plan : Plan) (commands : List Task) (s : Model) (start : List Act) (act : Act) (rest : List Act) (i : ℕ) → length (parts_of plan commands s start) ≡ suc i
     → slice_get (acting plan commands (after_all plan commands s start) (action_at plan (after_all plan commands s start)) act).marks 0 ≡ Some
     (Some (mark_next plan commands (after_all plan commands s start).progress))
-    → Has (parts_of plan commands s (start ++ act ∷ rest)) i (mark_next plan commands (after_all plan commands s start).progress)
+    → HasMark (parts_of plan commands s (start ++ act ∷ rest)) i (mark_next plan commands (after_all plan commands s start).progress)
 mark_there plan commands s [] act rest zero size e =
     first_has (acting plan commands s (action_at plan s) act) (ends_part plan commands s act) (parts_of plan commands (after plan commands s act) rest) (mark_next plan commands s.progress) e
 mark_there plan commands s [] act rest (suc i) size e = absurd (omega (arith, size))
@@ -183,22 +184,23 @@ module _ (plan : Plan) (commands : List Task) (scope : Scope) where
       → cycles_begun plan (at xs).progress ≡ cycles_begun plan (at ys).progress → place_next commands (at xs).progress ≡ place_next commands (at ys).progress → xs ≡ ys
   same_send acts xs us ys vs e f go_x go_y cycle place =
       elim (fronts xs us ys vs (sym e ∙ f)) [
-        | inl h ↦ sym (none h.0 xs ys h.1 go_x cycle place)
-        | inr h ↦ none h.0 ys xs h.1 go_y (sym cycle) (sym place)
+        | inl h ↦ sym (none_between h.0 xs ys h.1 go_x cycle place)
+        | inr h ↦ none_between h.0 ys xs h.1 go_y (sym cycle) (sym place)
       ]
     where
       -- no acts lie between two fronts after which the same command is to be sent
-      none : (more zs ws : List Act) → ws ≡ zs ++ more → action_at plan (at zs) ≡ Send
+      none_between : (more zs ws : List Act) → ws ≡ zs ++ more → action_at plan (at zs) ≡ Send
           → cycles_begun plan (at zs).progress ≡ cycles_begun plan (at ws).progress
           → place_next commands (at zs).progress ≡ place_next commands (at ws).progress → ws ≡ zs
-      none [] zs ws is go c p = is ∙ append-nil zs
-      none (act ∷ more) zs ws is go c p =
+      none_between [] zs ws is go c p = is ∙ append-nil zs
+      none_between (act ∷ more) zs ws is go c p =
           absurd (not_further (cycles_begun plan (at zs).progress) (place_next commands (at zs).progress) (cycles_begun plan (at ws).progress) (place_next commands (at ws).progress)
           (subst (λ l. IsFurther plan commands (at zs) (at l)) (sym is) (send_goes_on plan commands scope zs more act go)) c p)
 
   -- the command at place a of this cycle was sent among these acts, at `act`, and has a record that was answered well; and from
   -- then on all acts are of the same part
   record Back (before : List Act) (cycle a : ℕ) : Type 0 where
+    -- the place of the command's record, `answer`, among the records
     k : ℕ
     answer : Record
     among : slice_get (at before).records k ≡ Some answer
@@ -240,10 +242,10 @@ module _ (plan : Plan) (commands : List Task) (scope : Scope) where
   one_back acts a runs next place l keeps cycles =
       let t = l.in_time in
       let b = at l.before in
-      let cycle_begun = (fine_stood plan commands scope l.before).begun (needs_send plan b l.sends).2 in
+      let some_cycle = (invariant_holds plan commands scope l.before).begun (needs_of plan b Send l.sends).2 in
       let own : l.answer.cycle ≡ cycles_begun plan b.progress = l.own_cycle in
       let its : l.answer.cycle ≡ cycle_out plan (at t.before) = t.own.cycle in
-      let sends = sends_of_cycle plan (at t.before) t.own.sends (omega (arith, own, its, cycle_begun)) in
+      let sends = sends_of_cycle plan (at t.before) t.own.sends (omega (arith, own, its, some_cycle)) in
       let one : t.before ≡ l.before = same_send acts t.before _ l.before (l.request ∷ l.between) t.order l.order sends l.sends
       (sym (send_cycle plan (at t.before) sends) ∙ sym t.own.cycle ∙ l.own_cycle) (sym (send_place plan commands (at t.before) sends) ∙ sym t.own.place ∙ l.own_place) in
       let utc : l.answer.sent ≡ Some (at l.before).progress.moment.utc = t.own.sent ∙ ap (λ xs. Some (at xs).progress.moment.utc) one in
@@ -331,13 +333,8 @@ module _ (plan : Plan) (commands : List Task) (scope : Scope) where
   no_prepare s [] (y ∷ ys) zs act h e is = cc
   no_prepare s (x ∷ xs) [] zs act h e is = h.0 is
   no_prepare s (x ∷ xs) (y ∷ ys) zs act h e is =
-      no_prepare (after plan commands s x) xs ys zs act h.1 (act_tail x y xs (ys ++ act ∷ zs) e)
-      (subst (λ (a : Act). action_at plan (after_all plan commands (after plan commands s a) ys) ≡ Prepare) (sym (act_head x y xs (ys ++ act ∷ zs) e)) is)
-
-  -- what comes after the same front of equal lists is the same
-  same_behind : (xs ys zs : List Act) → xs ++ ys ≡ xs ++ zs → ys ≡ zs
-  same_behind [] ys zs e = e
-  same_behind (x ∷ xs) ys zs e = same_behind xs ys zs (act_tail x x (xs ++ ys) (xs ++ zs) e)
+      no_prepare (after plan commands s x) xs ys zs act h.1 (cons_tail x y xs (ys ++ act ∷ zs) e)
+      (subst (λ (a : Act). action_at plan (after_all plan commands (after plan commands s a) ys) ≡ Prepare) (sym (cons_head x y xs (ys ++ act ∷ zs) e)) is)
 
   -- of the part that still goes on, each command after the one that `Back` speaks of, which is request m, is of a cycle: one of
   -- the setup would be sent by an act after that one
@@ -353,13 +350,13 @@ module _ (plan : Plan) (commands : List Task) (scope : Scope) where
       (ap (λ (k : Mark). k.cycle) (sym p_is.1)) (ap (λ (k : Mark). k.place) (sym p_is.1)) in
       let more = goes_before plan commands scope acts i i m x own mark (inr (refl, later)) p q in
       let behind : q.before ≡ h.start ++ more.0 = more.1 ∙ ap (λ xs. xs ++ more.0) one in
-      let rest : h.act ∷ h.rest ≡ more.0 ++ q.act ∷ q.rest = same_behind h.start (h.act ∷ h.rest) (more.0 ++ q.act ∷ q.rest)
+      let rest : h.act ∷ h.rest ≡ more.0 ++ q.act ∷ q.rest = append_cancel_left h.start (h.act ∷ h.rest) (more.0 ++ q.act ∷ q.rest)
       (sym h.order ∙ q.order ∙ ap (λ xs. xs ++ q.act ∷ q.rest) behind ∙ append_assoc h.start more.0 (q.act ∷ q.rest)) in
       let there : at q.before ≡ after_all plan commands (at h.start) more.0 = ap at behind ∙ after_all-append plan commands (opening plan scope) h.start more.0 in
       elim q.its [
         | inl it ↦ (
             let own : mark.cycle ≡ cycles_begun plan (at q.before).progress = ap (λ (k : Mark). k.cycle) it.1 in
-            let below = (fine_stood plan commands scope q.before).begun (needs_send plan (at q.before) it.0).2 in
+            let below = (invariant_holds plan commands scope q.before).begun (needs_of plan (at q.before) Send it.0).2 in
             omega (arith, own, below)
             )
         | inr it ↦ absurd (no_prepare (at h.start) (h.act ∷ h.rest) more.0 q.rest q.act h.cycles rest (ap (action_at plan) (sym there) ∙ it.0))
@@ -372,14 +369,14 @@ module _ (plan : Plan) (commands : List Task) (scope : Scope) where
   in_part acts i cycle a first runs of_parts last h =
       let s = at h.start in
       let on = runs_behind plan commands (opening plan scope) h.start (h.act ∷ h.rest) (subst (λ xs. Runs plan commands (opening plan scope) xs) h.order runs) in
-      let fine = fine_stood plan commands scope h.start in
-      let needs = needs_send plan s h.sends in
+      let fine = invariant_holds plan commands scope h.start in
+      let needs = needs_of plan s Send h.sends in
       let unsent : 0 < s.progress.unsent = needs.2 in
       let many : length (drop (place_next commands s.progress) commands) ≡ length commands - place_next commands s.progress = length-drop (place_next commands s.progress) commands in
       let asks = put_asks plan commands s h.act _ (puts_text commands plan s h.act h.sends on.0) needs.1 (omega (arith, many, unsent, fine.unsent)) in
       let asks_here = subst (λ (o : Action). slice_get (acting plan commands s o h.act).marks 0 ≡ Some (Some (mark_next plan commands s.progress))) (sym h.sends) asks in
       let has = mark_there plan commands (opening plan scope) h.start h.act h.rest i (sym h.same ∙ last) asks_here in
-      let same : has.0 ≡ first = some_is has.0 first (sym has.1 ∙ ap (λ xs. slice_get (parts plan commands scope xs) i) (sym h.order) ∙ of_parts) in
+      let same : has.0 ≡ first = some_injective has.0 first (sym has.1 ∙ ap (λ xs. slice_get (parts plan commands scope xs) i) (sym h.order) ∙ of_parts) in
       record {
         k = h.k;
         answer = h.answer;

@@ -18,28 +18,29 @@ use Rattle.gc_station.specs.Attempts.{code_in, code_of}
 use Rattle.gc_station.specs.Marks.{end_of, answer_as}
 use Rattle.gc_station.specs.Model.{in_attempt}
 use Rattle.gc_station.specs.Records.{Record}
-use Rattle.gc_station.specs.Retries.{turn_as, rule_as, code_said, is_listed, HasListed}
+use Rattle.gc_station.specs.Retries.{turn_as, rule_as, code_of_end, is_listed, HasListed}
 use Rattle.gc_station.specs.Answers.{answer_of}
 use Rattle.gc_station.proofs.Facts.{or_true}
 use Rattle.gc_station.proofs.Meets.{answer_line}
-use Rattle.gc_station.proofs.SentAt.{some_is}
+use Rattle.gc_texts.proofs.Cutting.{some_injective}
 
--- What ends name.
+-- Which ends a rule names.
 
 -- an answered command ended by the line of its reply
 answered_line : (expected : Expected) (x zeroed : Reading) (q : Quality) (line l : List ℕ) (said : Option Answer) → answer_as expected x zeroed line ≡ Answered q said l → line ≡ l
-answered_line expected x zeroed q line l said e = some_is line l (sym (answer_line expected x zeroed line) ∙ ap answer_of e)
+answered_line expected x zeroed q line l said e = some_injective line l (sym (answer_line expected x zeroed line) ∙ ap answer_of e)
 
--- if a request's outcome makes it answered, its code is that of the line
+-- if a request ended as answered by the line l, the code of its outcome is the code in that line
 pub code_there : (reads : Asked → List ℕ → Reading) (expected : Expected) (call : Asked) (outcome : Rule.Outcome) (q : Quality) (said : Option Answer) (l : List ℕ)
     → end_of reads expected call outcome ≡ Answered q said l → code_of reads call outcome ≡ code_in (reads call l)
 code_there reads expected call (Rule.Answered line) q said l e = ap (λ k. code_in (reads call k)) (answered_line expected (reads call line) (reads call (as_zero line)) q line l said e)
 code_there reads expected call Rule.Late q said l e = cc
 code_there reads expected call Rule.Lost q said l e = cc
 
--- whether an end is named depends on its code only if it is answered
+-- whether a rule names an end is the same with the code `code` as with the code that the end's line has, if an answered end has
+-- that code in its line
 pub named_by : (reads : Asked → List ℕ → Reading) (again : Again) (call : Asked) (code : Option ℕ) (end : End)
-    → ((q : Quality) (said : Option Answer) (l : List ℕ) → end ≡ Answered q said l → code ≡ code_in (reads call l)) → is_named again code end ≡ is_named again (code_said reads call end) end
+    → ((q : Quality) (said : Option Answer) (l : List ℕ) → end ≡ Answered q said l → code ≡ code_in (reads call l)) → is_named again code end ≡ is_named again (code_of_end reads call end) end
 named_by reads again call code (Answered q said l) is = ap (has_code again.codes) (is q said l refl)
 named_by reads again call code (Unreadable line fault) is = refl
 named_by reads again call code (Elsewhere line) is = refl
@@ -55,18 +56,19 @@ abbrev pub any_listed : (Asked → List ℕ → Reading) → List Task → Bool 
 any_listed reads commands b [] = b
 any_listed reads commands b (r ∷ rs) = any_listed reads commands ((if nat_eq r.turn.link 0 then false else b) || is_listed reads commands r) rs
 
--- what two lists of records list is what the second does after the first
+-- `any_listed` of two lists of records, one after the other, is that of the second, from that of the first on
 pub any_append : (reads : Asked → List ℕ → Reading) (commands : List Task) (xs ys : List Record) (b : Bool)
     → any_listed reads commands b (xs ++ ys) ≡ any_listed reads commands (any_listed reads commands b xs) ys
 any_append reads commands [] ys b = refl
 any_append reads commands (x ∷ xs) ys b = any_append reads commands xs ys ((if nat_eq x.turn.link 0 then false else b) || is_listed reads commands x)
 
 -- no attempt begins with these records
-abbrev GoOn : List Record → Type 0
-GoOn rs = AllByRecursion (λ (r : Record). r.turn.link ≡ 0 → ⊥) rs
+abbrev BeginNoAttempt : List Record → Type 0
+BeginNoAttempt rs = AllByRecursion (λ (r : Record). r.turn.link ≡ 0 → ⊥) rs
 
--- if the records list, one of them is listed, or none begins an attempt and b is true
-has_of : (reads : Asked → List ℕ → Reading) (commands : List Task) (rs : List Record) (b : Bool) → any_listed reads commands b rs ≡ true → ((b ≡ true) × GoOn rs) ⊎ HasListed reads commands rs
+-- if `any_listed` holds of records, one of them ended as its rule names, or none begins an attempt and b is true
+has_of : (reads : Asked → List ℕ → Reading) (commands : List Task) (rs : List Record) (b : Bool) → any_listed reads commands b rs ≡ true
+    → ((b ≡ true) × BeginNoAttempt rs) ⊎ HasListed reads commands rs
 has_of reads commands [] b e = inl (e, tt)
 has_of reads commands (r ∷ rs) b e = by_rest (has_of reads commands rs ((if nat_eq r.turn.link 0 then false else b) || is_listed reads commands r) e) where
   -- a link that isn't 0 by its test isn't 0
@@ -74,8 +76,8 @@ has_of reads commands (r ∷ rs) b e = by_rest (has_of reads commands rs ((if na
   not_first n t is = grind (arith, nat_tests, t, is)
 
   -- the lemma above for the first record, by its tests
-  by_tests : (first listed : Bool) → nat_eq r.turn.link 0 ≡ first → is_listed reads commands r ≡ listed → ((if first then false else b) || listed) ≡ true → GoOn rs
-      → ((b ≡ true) × GoOn (r ∷ rs)) ⊎ HasListed reads commands (r ∷ rs)
+  by_tests : (first listed : Bool) → nat_eq r.turn.link 0 ≡ first → is_listed reads commands r ≡ listed → ((if first then false else b) || listed) ≡ true → BeginNoAttempt rs
+      → ((b ≡ true) × BeginNoAttempt (r ∷ rs)) ⊎ HasListed reads commands (r ∷ rs)
   by_tests first true t l is all = inr (record { front = []; one = r; behind = rs; order = refl; listed = l; same = all })
   by_tests true false t l is all = cc
   by_tests false false t l is all = inl (left b is, (not_first r.turn.link t, all)) where
@@ -84,22 +86,22 @@ has_of reads commands (r ∷ rs) b e = by_rest (has_of reads commands rs ((if na
     left true e = refl
     left false e = cc
 
-  -- the lemma above, by what the others list
-  by_rest : ((((if nat_eq r.turn.link 0 then false else b) || is_listed reads commands r) ≡ true) × GoOn rs) ⊎ HasListed reads commands rs
-      → ((b ≡ true) × GoOn (r ∷ rs)) ⊎ HasListed reads commands (r ∷ rs)
+  -- the lemma above, by what it gives for the others
+  by_rest : ((((if nat_eq r.turn.link 0 then false else b) || is_listed reads commands r) ≡ true) × BeginNoAttempt rs) ⊎ HasListed reads commands rs
+      → ((b ≡ true) × BeginNoAttempt (r ∷ rs)) ⊎ HasListed reads commands (r ∷ rs)
   by_rest (inl it) = by_tests (nat_eq r.turn.link 0) (is_listed reads commands r) refl refl it.0 it.1
   by_rest (inr h) = inr (record { front = r ∷ h.front; one = h.one; behind = h.behind; order = ap (λ xs. r ∷ xs) h.order; listed = h.listed; same = h.same })
 
--- where records list from none on, one of them is listed
+-- if `any_listed` holds of records, with none before them, one of them ended as its rule names
 pub listed_has : (reads : Asked → List ℕ → Reading) (commands : List Task) (rs : List Record) → any_listed reads commands false rs ≡ true → HasListed reads commands rs
 listed_has reads commands rs e = by_case (has_of reads commands rs false e) where
   -- the lemma above, of which one case can't be
-  by_case : ((false ≡ true) × GoOn rs) ⊎ HasListed reads commands rs → HasListed reads commands rs
+  by_case : ((false ≡ true) × BeginNoAttempt rs) ⊎ HasListed reads commands rs → HasListed reads commands rs
   by_case (inl it) = cc
   by_case (inr h) = h
 
--- what is listed stays so after records that begin no attempt
-stays_listed : (reads : Asked → List ℕ → Reading) (commands : List Task) (rs : List Record) → GoOn rs → any_listed reads commands true rs ≡ true
+-- `any_listed` stays true over records that begin no attempt
+stays_listed : (reads : Asked → List ℕ → Reading) (commands : List Task) (rs : List Record) → BeginNoAttempt rs → any_listed reads commands true rs ≡ true
 stays_listed reads commands [] all = refl
 stays_listed reads commands (r ∷ rs) all = by_test (λ b. stays_listed reads commands rs all.1) (nat_eq r.turn.link 0) refl where
   -- a link that is 0 by its test is 0
@@ -112,7 +114,7 @@ stays_listed reads commands (r ∷ rs) all = by_test (λ b. stays_listed reads c
   by_test ih true t = absurd (all.0 (is_first r.turn.link t))
   by_test ih false t = ih true
 
--- if one of the records is listed, they list
+-- if one of the records ended as its rule names, and no attempt begins after it, `any_listed` holds of all
 pub has_listed : (reads : Asked → List ℕ → Reading) (commands : List Task) (rs : List Record) (b : Bool) → HasListed reads commands rs → any_listed reads commands b rs ≡ true
 has_listed reads commands rs b h =
     ap (any_listed reads commands b) h.order ∙ any_append reads commands h.front (h.one ∷ h.behind) b
@@ -124,12 +126,12 @@ abbrev pub expected_as : Bool → ℕ → Expected → Expected
 expected_as true attempt expected = in_attempt attempt expected
 expected_as false attempt expected = expected
 
--- its turn is that of the command
+-- the turn in `expected_as` is that of the command (`turn_as`)
 pub turn_expected : (b : Bool) (attempt : ℕ) (expected : Expected) → (expected_as b attempt expected).turn ≡ turn_as b attempt expected.turn
 turn_expected true attempt expected = refl
 turn_expected false attempt expected = refl
 
--- its rule is that of the command
+-- the rule in `expected_as` is that of the command (`rule_as`)
 pub rule_expected : (b : Bool) (attempt : ℕ) (expected : Expected) → (expected_as b attempt expected).again ≡ rule_as b expected.again
 rule_expected true attempt expected = refl
 rule_expected false attempt expected = refl

@@ -1,6 +1,6 @@
 -- Lists: facts of each element alone (`AllByRecursion`), by its place and the element beside it in another list (`AllAt`), or
 -- with a rising number besides (`Rows`); and lists cut at an element.
-use Rattle.std.proofs.Common.{◌≡◌, ℕ, zero, suc, ◌+◌, ◌<◌, ◌≤◌, List, [], ◌∷◌, ◌++◌, length, drop, map, Some, refl, sym, ap, ◌∙◌, subst, arith, append_assoc}
+use Rattle.std.proofs.Common.{◌≡◌, ℕ, zero, suc, ◌+◌, ◌<◌, ◌≤◌, List, [], ◌∷◌, ◌++◌, length, drop, map, Some, refl, sym, ap, ◌∙◌, subst, arith, append_assoc, ◌⊎◌, inl, inr}
 use Rattle.std.specs.Prelude.{slice_get}
 use Rattle.std.specs.List.{AllByRecursion}
 
@@ -25,6 +25,31 @@ pub get_more : {A : Type 0} (xs ys : List A) (i : ℕ) (x : A) → slice_get xs 
 get_more [] ys i x e = cc
 get_more (y ∷ xs) ys zero x e = e
 get_more (y ∷ xs) ys (suc i) x e = get_more xs ys i x e
+
+-- place n of two lists in a row is place k of the second list, if k places of it come after the first list
+pub get_behind : {A : Type 0} (xs ys : List A) (n k : ℕ) → n ≡ length xs + k → slice_get (xs ++ ys) n ≡ slice_get ys k
+get_behind [] ys n k e = let same : n ≡ k = omega (arith, e) in ap (slice_get ys) same
+get_behind (x ∷ xs) ys zero k e = absurd (omega (arith, e))
+get_behind (x ∷ xs) ys (suc n) k e = get_behind xs ys n k (omega (arith, e))
+
+-- without its first n elements, two lists in a row are the rest of the first list and then the second, if the first has n
+pub drop_append : {A : Type 0} (n : ℕ) (xs ys : List A) → n ≤ length xs → drop n (xs ++ ys) ≡ drop n xs ++ ys
+drop_append zero xs ys le = refl
+drop_append (suc n) [] ys le = absurd (omega (arith, le))
+drop_append (suc n) (x ∷ xs) ys le = drop_append n xs ys (omega (arith, le))
+
+-- the element at place k + n of a list is at place n after its first k
+pub get_dropped : {A : Type 0} (k n j : ℕ) (xs : List A) (x : A) → j ≡ k + n → slice_get xs j ≡ Some x → slice_get (drop k xs) n ≡ Some x
+get_dropped zero n j xs x e got = let same : j ≡ n = omega (arith, e) in subst (λ i. slice_get xs i ≡ Some x) same got
+get_dropped (suc k) n zero xs x e got = absurd (omega (arith, e))
+get_dropped (suc k) n (suc j) [] x e got = cc
+get_dropped (suc k) n (suc j) (y ∷ xs) x e got = get_dropped k n j xs x (omega (arith, e)) got
+
+-- what holds of each element of a list holds of each after the first n
+pub all_drop : {A : Type 0} (P : A → Type 0) (n : ℕ) (xs : List A) → AllByRecursion P xs → AllByRecursion P (drop n xs)
+all_drop P zero xs all = all
+all_drop P (suc n) [] all = tt
+all_drop P (suc n) (x ∷ xs) all = all_drop P n xs all.1
 
 -- if one fact follows from another for an element with what comes before and after it, it holds of all elements if the other
 -- does
@@ -54,10 +79,10 @@ rows_from P low high k (x ∷ xs) [] le p = absurd p
 rows_from P low high k (x ∷ xs) (y ∷ ys) le p = let from : low ≤ p.0 = omega (arith, le, p.1) in (p.0, from, p.2, p.3)
 
 -- `Rows` of one property gives `Rows` of another that follows from it
-pub rows_same : {A B : Type 0} (P Q : ℕ → ℕ → A → B → Type 0) (low k : ℕ) (xs : List A) (ys : List B) → ((n j : ℕ) (x : A) (y : B) → P n j x y → Q n j x y) → Rows P low k xs ys → Rows Q low k xs ys
-rows_same P Q low k [] ys step p = tt
-rows_same P Q low k (x ∷ xs) [] step p = absurd p
-rows_same P Q low k (x ∷ xs) (y ∷ ys) step p = (p.0, p.1, step p.0 k x y p.2, rows_same P Q (suc p.0) (suc k) xs ys step p.3)
+pub rows_follow : {A B : Type 0} (P Q : ℕ → ℕ → A → B → Type 0) (low k : ℕ) (xs : List A) (ys : List B) → ((n j : ℕ) (x : A) (y : B) → P n j x y → Q n j x y) → Rows P low k xs ys → Rows Q low k xs ys
+rows_follow P Q low k [] ys step p = tt
+rows_follow P Q low k (x ∷ xs) [] step p = absurd p
+rows_follow P Q low k (x ∷ xs) (y ∷ ys) step p = (p.0, p.1, step p.0 k x y p.2, rows_follow P Q (suc p.0) (suc k) xs ys step p.3)
 
 -- `Rows` of one property, at places that are higher by d, gives `Rows` of another that follows from it
 pub rows_on : {A B : Type 0} (P Q : ℕ → ℕ → A → B → Type 0) (d low k : ℕ) (xs : List A) (ys : List B)
@@ -129,6 +154,25 @@ rows_all P Q f low k (x ∷ xs) [] step p = tt
 rows_all P Q f low k (x ∷ xs) (y ∷ ys) step p = (step p.0 k x y p.2, rows_all P Q f (suc p.0) (suc k) xs ys step p.3)
 
 -- Lists cut at an element.
+
+-- the first elements of equal lists are equal
+pub cons_head : {A : Type 0} (x y : A) (xs ys : List A) → x ∷ xs ≡ y ∷ ys → x ≡ y
+cons_head x y xs ys e = cc
+
+-- the rests of equal lists, after their first elements, are equal
+pub cons_tail : {A : Type 0} (x y : A) (xs ys : List A) → x ∷ xs ≡ y ∷ ys → xs ≡ ys
+cons_tail x y xs ys e = cc
+
+-- of two fronts of the same list, one is a front of the other
+pub fronts : {A : Type 0} (xs ys fs gs : List A) → xs ++ ys ≡ fs ++ gs → ((more : List A) × (fs ≡ xs ++ more)) ⊎ ((more : List A) × (xs ≡ fs ++ more))
+fronts [] ys fs gs e = inl (fs, refl)
+fronts (x ∷ xs) ys [] gs e = inr (x ∷ xs, refl)
+fronts (x ∷ xs) ys (f ∷ fs) gs e =
+    let head : x ≡ f = cons_head x f (xs ++ ys) (fs ++ gs) e in
+    elim (fronts xs ys fs gs (cons_tail x f (xs ++ ys) (fs ++ gs) e)) [
+      | inl h ↦ inl (h.0, ap (λ y. y ∷ fs) (sym head) ∙ ap (λ l. x ∷ l) h.1)
+      | inr h ↦ inr (h.0, ap (λ y. y ∷ xs) head ∙ ap (λ l. f ∷ l) h.1)
+    ]
 
 -- of two cuts of a list, one after `front` at x and one after `longer` at y, the second lies after the first: `between` lies
 -- between x and y

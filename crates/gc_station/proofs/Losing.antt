@@ -26,7 +26,7 @@ use Rattle.gc_station.specs.Answers.{IsWrittenAt}
 use Rattle.gc_station.specs.Ends.{Resynchronizes, IsLast, IsLostIn}
 use Rattle.gc_station.specs.Marks.{records_of}
 use Rattle.gc_station.specs.Progressing.{turned, sent, failing, is_over, is_over_in, loses_all, setup_sent}
-use Rattle.gc_station.specs.Reasons.{IsFor}
+use Rattle.gc_station.specs.Reasons.{HoldsBefore}
 use Rattle.gc_station.specs.Records.{Record}
 use Rattle.gc_station.specs.Runs.{state_after}
 use Rattle.gc_station.specs.Model.{Model, opening, action_at, waiting_of, request_text, Puts, Performs, with_progress, asks_next, is_chained_after_next, others_after_next, after_put, moved, losing, ended, after, IsSending, asks_setup}
@@ -116,8 +116,8 @@ loses_why plan commands scope acts act fine obeys loses = by_test (is_over t.pro
       inr (inr (record { none = refl; why = stops.0; stops = ap (λ (x : Model). action_at plan x) next ∙ stops.1 }))
   by_test false on e = renews (has_begun s.progress) refl (only_first (has_begun t.progress) e)
 
--- where requests are sent, the run isn't over
-going_on : (p : Progress) → p.phase ≡ Ready → is_over p ≡ false
+-- in the phase `Ready` the run isn't over
+pub going_on : (p : Progress) → p.phase ≡ Ready → is_over p ≡ false
 going_on p is = ap (λ (phase : Phase). is_over_in phase || (not (is_up phase) && nat_eq p.turns 0)) is
 
 -- where requests are sent, the run isn't over after a failure
@@ -130,36 +130,36 @@ put_goes requests f s (Cut bytes n) is = failing_goes (cause.Write requests n) (
 put_goes requests f s act is = going_on (f s).progress is
 
 -- if the station has synchronized (a), and the run isn't over (b), nothing is lost
-pub neither : (a b : Bool) → a ≡ true → b ≡ false → (not a || b) ≡ false
-neither true b x y = y
-neither false b x y = cc
+pub loses_nothing : (a b : Bool) → a ≡ true → b ≡ false → (not a || b) ≡ false
+loses_nothing true b x y = y
+loses_nothing false b x y = cc
 
 -- nothing is lost if a command is sent
-send_loses_none : (plan : Plan) (commands : List Task) (s : Model) (act : Act) → Invariant plan commands s → IsFor plan s.progress (waiting_of s) actions.Send
+send_loses_none : (plan : Plan) (commands : List Task) (s : Model) (act : Act) → Invariant plan commands s → HoldsBefore plan s.progress (waiting_of s) actions.Send
     → loses_all (moved plan commands actions.Send (with_progress turned s) act).progress ≡ false
 send_loses_none plan commands s act fine needs =
     let t = with_progress turned s in
     let f = λ (x : Model). with_progress (sent (is_chained_after_next commands x.progress) (others_after_next commands x.progress)) (asks_next plan commands x) in
-    neither (has_begun (moved plan commands actions.Send t act).progress) _ (ap (λ (x : Model). has_begun x.progress) (moved_changed plan commands actions.Send t act) ∙ needs.1)
+    loses_nothing (has_begun (moved plan commands actions.Send t act).progress) _ (ap (λ (x : Model). has_begun x.progress) (moved_changed plan commands actions.Send t act) ∙ needs.1)
     (put_goes _ f t act (sym (ap (λ (x : Model). x.progress.phase) (is_sent plan commands t)) ∙ needs.0))
 
 -- nothing is lost if a command of the setup is sent
-prepare_loses_none : (plan : Plan) (commands : List Task) (s : Model) (act : Act) → Invariant plan commands s → IsFor plan s.progress (waiting_of s) actions.Prepare
+prepare_loses_none : (plan : Plan) (commands : List Task) (s : Model) (act : Act) → Invariant plan commands s → HoldsBefore plan s.progress (waiting_of s) actions.Prepare
     → loses_all (moved plan commands actions.Prepare (with_progress turned s) act).progress ≡ false
 prepare_loses_none plan commands s act fine needs =
     let t = with_progress turned s in
     let f = λ (x : Model). with_progress (setup_sent plan) (asks_setup plan commands x) in
-    neither (has_begun (moved plan commands actions.Prepare t act).progress) _ (ap (λ (x : Model). has_begun x.progress) (moved_changed plan commands actions.Prepare t act) ∙ needs.1)
+    loses_nothing (has_begun (moved plan commands actions.Prepare t act).progress) _ (ap (λ (x : Model). has_begun x.progress) (moved_changed plan commands actions.Prepare t act) ∙ needs.1)
     (put_goes _ f t act (sym (ap (λ (x : Model). x.progress.phase) (is_prepared plan commands t)) ∙ needs.0))
 
 -- nothing is lost if a command is sent, of a cycle or of the setup
 sending_loses_none : (plan : Plan) (commands : List Task) (s : Model) (act : Act) → Invariant plan commands s → IsSending plan s
     → loses_all (moved plan commands (action_at plan s) (with_progress turned s) act).progress ≡ false
 sending_loses_none plan commands s act fine (inl sends) =
-    let needs = subst (λ (o : Action). IsFor plan s.progress (waiting_of s) o) sends (action_for plan s.progress (waiting_of s)) in
+    let needs = subst (λ (o : Action). HoldsBefore plan s.progress (waiting_of s) o) sends (action_for plan s.progress (waiting_of s)) in
     ap (λ (o : Action). loses_all (moved plan commands o (with_progress turned s) act).progress) sends ∙ send_loses_none plan commands s act fine needs
 sending_loses_none plan commands s act fine (inr sends) =
-    let needs = subst (λ (o : Action). IsFor plan s.progress (waiting_of s) o) sends (action_for plan s.progress (waiting_of s)) in
+    let needs = subst (λ (o : Action). HoldsBefore plan s.progress (waiting_of s) o) sends (action_for plan s.progress (waiting_of s)) in
     ap (λ (o : Action). loses_all (moved plan commands o (with_progress turned s) act).progress) sends ∙ prepare_loses_none plan commands s act fine needs
 
 -- The records of those that are lost.

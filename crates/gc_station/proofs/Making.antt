@@ -21,7 +21,7 @@ use Rattle.gc_station.specs.declared.progress.Action.TheVariants.{Read}
 use Rattle.gc_station.specs.declared.progress.Progress.{Progress}
 use Rattle.gc_station.specs.declared.progress.Until.{Until}
 use Rattle.gc_station.specs.declared.station.Station.{Station}
-use Rattle.gc_links.specs.Acts.{Act, Tells, put_as, IsPart}
+use Rattle.gc_links.specs.Acts.{Act, Tells, put_act, IsPart}
 use Rattle.gc_station.specs.Deciding.{later}
 use Rattle.gc_station.specs.Marks.{is_well, last_well}
 use Rattle.gc_station.specs.Progressing.{failing, skipped_at}
@@ -34,8 +34,8 @@ use Rattle.gc_station.specs.declared.station.sending.Asking.{Asking}
 use Rattle.gc_station.proofs.Records.{tallied-append, last-append}
 
 -- a station whose progress changes is as the model whose progress changes so
-pub stands_with : (station : Station) (p : Progress) (f : Progress → Progress) (s : Model) → Refines station s → p ≡ f station.progress → Refines (record station { progress = p }) (with_progress f s)
-stands_with station p f s stands is = record {
+pub refines_with : (station : Station) (p : Progress) (f : Progress → Progress) (s : Model) → Refines station s → p ≡ f station.progress → Refines (record station { progress = p }) (with_progress f s)
+refines_with station p f s stands is = record {
   progress = is ∙ ap f stands.progress;
   ids = stands.ids;
   width = stands.width;
@@ -51,22 +51,22 @@ stands_with station p f s stands is = record {
 -- Bytes are put.
 
 -- a link that recorded a write of these bytes recorded an act that puts them
-pub put_puts : (put : Result (Unit {0}) ℕ) (bytes want : List ℕ) → bytes ≡ want → IsPart put bytes → Puts want (put_as put bytes)
+pub put_puts : (put : Result (Unit {0}) ℕ) (bytes want : List ℕ) → bytes ≡ want → IsPart put bytes → Puts want (put_act put bytes)
 put_puts (Ok r) bytes want is part = is
 put_puts (Err n) bytes want is part = (is, subst (λ (xs : List ℕ). n < length xs) is part)
 
 -- after a write, whole or cut, the station is as the model after that write
-pub put_stands : (put : Result (Unit {0}) ℕ) (bytes : List ℕ) (requests wanted : ℕ) (f : Model → Model) (s : Model) (mid new : Station) → Refines mid (f s)
-    → new ≡ record mid { progress = cut_progress put requests mid.progress } → requests ≡ wanted → Refines new (after_put wanted f s (put_as put bytes))
-put_stands (Ok r) bytes requests wanted f s mid new stands is same = subst (λ (x : Station). Refines x (f s)) (sym is) stands
-put_stands (Err n) bytes requests wanted f s mid new stands is same =
+pub put_refines : (put : Result (Unit {0}) ℕ) (bytes : List ℕ) (requests wanted : ℕ) (f : Model → Model) (s : Model) (mid new : Station) → Refines mid (f s)
+    → new ≡ record mid { progress = cut_progress put requests mid.progress } → requests ≡ wanted → Refines new (after_put wanted f s (put_act put bytes))
+put_refines (Ok r) bytes requests wanted f s mid new stands is same = subst (λ (x : Station). Refines x (f s)) (sym is) stands
+put_refines (Err n) bytes requests wanted f s mid new stands is same =
     let why = ap (λ (k : ℕ). failing (cause.Write k n) mid.progress) same in
     subst (λ (x : Station). Refines x (with_progress (failing (cause.Write wanted n)) (f s))) (sym is)
-    (stands_with mid (cut_progress (Err n) requests mid.progress) (failing (cause.Write wanted n)) (f s) stands why)
+    (refines_with mid (cut_progress (Err n) requests mid.progress) (failing (cause.Write wanted n)) (f s) stands why)
 
 -- a write adds no records, so a book that has the model's records still has them
 pub put_took : (text : Record → List ℕ) (start taken : Option (List ℕ)) (put : Result (Unit {0}) ℕ) (bytes : List ℕ) (requests : ℕ) (f : Model → Model)
-    (s : Model) → Took text start taken (f s) → Took text start taken (after_put requests f s (put_as put bytes))
+    (s : Model) → Took text start taken (f s) → Took text start taken (after_put requests f s (put_act put bytes))
 put_took text start taken (Ok r) bytes requests f s so = so
 put_took text start taken (Err n) bytes requests f s so = so
 
@@ -78,13 +78,13 @@ sent_count c target call deadline true e = cc
 sent_count c target call deadline false e = length-append c.waiting _
 
 -- a station that sent a request is as the model that sent it
-pub asks_stands : (old new : Station) (s : Model) (wait : ℕ) (command other : Wish) (mark : Option Mark) → Refines old s → length old.client.ids.waiting < WINDOW → command ≡ other
+pub asks_refines : (old new : Station) (s : Model) (wait : ℕ) (command other : Wish) (mark : Option Mark) → Refines old s → length old.client.ids.waiting < WINDOW → command ≡ other
     → new ≡ record old {
       client = record old.client { ids = sent_to old.client.width old.client.ids command old.progress.moment.elapsed wait };
       marks = record { items = old.marks.items ++ mark ∷ [] };
     }
     → Refines new (asks wait other.target other.call mark s)
-asks_stands old new s wait command other mark stands room e is =
+asks_refines old new s wait command other mark stands room e is =
     let elapsed = old.progress.moment.elapsed in
     let fewer : length s.client.waiting < WINDOW = subst (λ (c : ById Asked). length c.waiting < WINDOW) stands.ids room in
     let more = sent_count s.client other.target other.call (later s.progress.moment.elapsed wait) (nat_eq (length s.client.waiting) WINDOW)
@@ -120,9 +120,9 @@ drop_some (y ∷ ys) zero below = (y, ys, refl)
 drop_some (y ∷ ys) (suc i) below = drop_some ys i (omega (arith, below))
 
 -- a station that sent the first of these commands is as the model that sent it
-pub first_stands : (new : Station) (s : Model) (mark mark' : Mark) (list : List Task) (task : Task) (others : List Task) → list ≡ task ∷ others → mark ≡ mark'
+pub first_refines : (new : Station) (s : Model) (mark mark' : Mark) (list : List Task) (task : Task) (others : List Task) → list ≡ task ∷ others → mark ≡ mark'
     → Refines new (asks task.deadline task.command.target (call_at task mark.sent) (Some mark) s) → Refines new (asks_first mark' list s)
-first_stands new s mark mark' list task others is e stands =
+first_refines new s mark mark' list task others is e stands =
     subst (λ (ts : List Task). Refines new (asks_first mark' ts s)) (sym is) (subst (λ (m : Mark). Refines new (asks task.deadline task.command.target (call_at task m.sent) (Some m) s)) e stands)
 
 -- a send adds no records, so a book that has the model's records still has them
@@ -132,9 +132,9 @@ first_took text start taken s mark (task ∷ others) so = so
 
 -- the model that sent what `setup_asked` says is that which sent the first of these commands of the setup, or a null procedure
 -- if there is none
-pub setup_stands : (plan : Plan) (station : Station) (s : Model) (asking : Asking) (mark : Mark) (list : List Task) → asking ≡ setup_asked plan mark list
+pub setup_refines : (plan : Plan) (station : Station) (s : Model) (asking : Asking) (mark : Mark) (list : List Task) → asking ≡ setup_asked plan mark list
     → Refines station (asks asking.wait asking.command.target asking.command.call asking.mark s) → Refines station (asks_or_null plan mark list s)
-setup_stands plan station s asking mark list is stands =
+setup_refines plan station s asking mark list is stands =
     subst (λ (t : Model). Refines station t) (by_list list)
     (subst (λ (a : Asking). Refines station (asks a.wait a.command.target a.command.call a.mark s)) is stands) where
       -- the two models are the same, whether there is a command or not
@@ -143,7 +143,8 @@ setup_stands plan station s asking mark list is stands =
       by_list [] = refl
       by_list (task ∷ others) = refl
 
--- its bytes are those of the first of these commands of the setup, or of a null procedure if there is none
+-- the bytes of the request that `setup_asked` says are those of the first of these commands of the setup, or of a null procedure if
+-- there is none
 pub setup_text : (plan : Plan) (client : ById Asked) (mark : Mark) (list : List Task) → request_text client (setup_asked plan mark list).command.call ≡ text_or_null mark.sent client list
 setup_text plan client mark [] = refl
 setup_text plan client mark (task ∷ others) = refl
@@ -179,9 +180,9 @@ pub skips_unwell : (b : Bool) (p : Progress) (m : Moment) (mark : Mark) (list : 
 skips_unwell b p m mark list task others is = ap (λ ts. last_well b (skips_first p m mark ts)) is ∙ unwell_end p.missed
 
 -- a station that counted the record of a command that isn't sent is as the model with that record
-pub skipped_stands : (old new : Station) (s : Model) (rs : List Record) (b b' : Bool) → Refines old s → ((b : Bool) → last_well b rs ≡ false) → (AreReadings s.reads → b ≡ b')
+pub skipped_refines : (old new : Station) (s : Model) (rs : List Record) (b b' : Bool) → Refines old s → ((b : Bool) → last_well b rs ≡ false) → (AreReadings s.reads → b ≡ b')
     → new ≡ record old { tally = tallied old.tally rs; well = false; listed = b } → Refines new (with_listed b' (with_records rs s))
-skipped_stands old new s rs b b' stands unwell same is = record {
+skipped_refines old new s rs b b' stands unwell same is = record {
   progress = ap (λ (n : Station). n.progress) is ∙ stands.progress;
   ids = ap (λ (n : Station). n.client.ids) is ∙ stands.ids;
   width = ap (λ (n : Station). n.client.width) is ∙ stands.width;

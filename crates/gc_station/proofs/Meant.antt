@@ -1,7 +1,6 @@
--- What each act of a run puts: a line feed, or a request's line, by the part (`Parts`) that the act has; and which bytes of a
--- line are kept after it. An act is one call on the link, with its result.
-use Rattle.std.proofs.Common.{◌≡◌, ◌⊎◌, inl, inr, ℕ, ◌-◌, ◌<◌, Bool, true, false, List, [], ◌∷◌, length, drop, Option, Some, None, refl, ◌∙◌, arith, length-drop}
-use Rattle.gc_lines.specs.Frames.{rest_behind}
+-- What each act of a run puts: a line feed, or a request's line, by the part (`Parts`) that the act has. An act is one call on
+-- the link, with its result.
+use Rattle.std.proofs.Common.{◌≡◌, ◌⊎◌, inl, inr, ℕ, ◌-◌, ◌<◌, true, false, List, [], ◌∷◌, length, drop, Option, Some, None, refl, arith, length-drop}
 use Rattle.gc_catalogue.specs.declared.asked.Asked.{Asked}
 use Rattle.gc_catalogue.specs.declared.asked.Asked.TheVariants.{Table}
 use Rattle.gc_catalogue.specs.declared.call.Call.TheVariants.{NullProc}
@@ -11,14 +10,13 @@ use Rattle.gc_station.specs.declared.mark.Mark.{Mark}
 use Rattle.gc_station.specs.declared.plan.Plan.{Plan}
 use Rattle.gc_station.specs.declared.progress.Action.{Action}
 use Rattle.gc_station.specs.declared.progress.Action.TheVariants as action
-use Rattle.gc_links.specs.Acts.{Act, Put, Cut, Gave, Closed}
+use Rattle.gc_links.specs.Acts.{Act, Put, Cut, Closed}
 use Rattle.gc_station.specs.Deciding.{later, has_begun}
 use Rattle.gc_station.specs.Parts.{Asks, Part, only_turns, nothing, asking, asking_first, putting, beginning, asking_or_null}
-use Rattle.gc_station.specs.Reasons.{IsFor}
-use Rattle.gc_station.specs.Model.{Model, action_at, waiting_of, place_next, mark_next, request_text, null_text, first_text, Puts, ReadsClock, IsOpening, IsReading, Performs, is_heard, after, mark_setup, text_or_null}
+use Rattle.gc_station.specs.Reasons.{HoldsBefore}
+use Rattle.gc_station.specs.Model.{Model, action_at, waiting_of, place_next, mark_next, request_text, null_text, first_text, Puts, ReadsClock, IsOpening, IsReading, Performs, mark_setup, text_or_null}
 use Rattle.gc_station.proofs.Facts.{action_for}
 use Rattle.gc_station.proofs.Invariant.{Invariant}
-use Rattle.gc_station.proofs.Givens.{rest_with, after_rest}
 use Rattle.gc_station.proofs.Ticking.{not_both}
 
 -- the part p is that of a request that is sent, and these bytes are its line
@@ -40,13 +38,6 @@ abbrev pub put_by : Act → Option (List ℕ)
 put_by (Put bytes) = Some bytes
 put_by (Cut bytes count) = Some bytes
 put_by _ = None
-
--- the bytes of an unfinished line that are kept after an act, by whether bytes are heard and by the bytes kept before it (the
--- second argument)
-abbrev pub left_of : Bool → List ℕ → Act → List ℕ
-left_of true rest (Gave piece m) = rest_behind rest piece
-left_of heard rest Closed = []
-left_of heard rest _ = rest
 
 module _ (plan : Plan) (commands : List Task) where
   -- the bytes that an act puts are those that it is to put
@@ -95,7 +86,7 @@ module _ (plan : Plan) (commands : List Task) where
   }
 
   -- once the station has synchronized, the bytes that an act of this action puts are as `IsPut` says of the action's part
-  put_order : (s : Model) (o : Action) (act : Act) (bytes : List ℕ) → Invariant plan commands s → IsFor plan s.progress (waiting_of s) o
+  put_order : (s : Model) (o : Action) (act : Act) (bytes : List ℕ) → Invariant plan commands s → HoldsBefore plan s.progress (waiting_of s) o
       → Performs commands s o act → put_by act ≡ Some bytes → has_begun s.progress ≡ true → IsPut s bytes (putting plan commands s o)
   put_order s action.Clear act bytes fine is obeys e begun = inl (puts_same (10 ∷ []) bytes act e obeys, refl)
   put_order s action.Ask act bytes fine is obeys e begun = absurd (not_both (has_begun s.progress) begun is.1)
@@ -134,7 +125,7 @@ module _ (plan : Plan) (commands : List Task) where
 
   -- while the station synchronizes, bytes that an act of this action puts are a line feed or the null procedure of the first id
   -- that isn't answered
-  asked_order : (s : Model) (o : Action) (act : Act) (bytes : List ℕ) → IsFor plan s.progress (waiting_of s) o → Performs commands s o act
+  asked_order : (s : Model) (o : Action) (act : Act) (bytes : List ℕ) → HoldsBefore plan s.progress (waiting_of s) o → Performs commands s o act
       → put_by act ≡ Some bytes → has_begun s.progress ≡ false → IsAsked s bytes (beginning s o act)
   asked_order s action.Clear act bytes is obeys e begins = inl (puts_same (10 ∷ []) bytes act e obeys, refl)
   asked_order s action.Ask act bytes is obeys e begins = inr (puts_same (null_text s.progress.word) bytes act e obeys, asked_turn s act bytes e)
@@ -156,16 +147,3 @@ module _ (plan : Plan) (commands : List Task) where
   pub asked_is : (s : Model) (act : Act) (bytes : List ℕ) → Performs commands s (action_at plan s) act → put_by act ≡ Some bytes
       → has_begun s.progress ≡ false → IsAsked s bytes (beginning s (action_at plan s) act)
   asked_is s act bytes obeys e begins = asked_order s (action_at plan s) act bytes (action_for plan s.progress (waiting_of s)) obeys e begins
-
-  -- What is left of a line.
-
-  -- `left_of` says the same as `rest_with`
-  left_same : (h : Bool) (act : Act) (rest : List ℕ) → rest_with h act rest ≡ left_of h rest act
-  left_same true (Gave piece m) rest = refl
-  left_same false (Gave piece m) rest = refl
-  left_same true act rest = refl
-  left_same false act rest = refl
-
-  -- an act of a run leaves the bytes of a line as `left_of` says
-  pub rest_is : (s : Model) (act : Act) → Performs commands s (action_at plan s) act → (after plan commands s act).rest ≡ left_of (is_heard s.progress.phase) s.rest act
-  rest_is s act obeys = after_rest plan commands s act obeys ∙ left_same (is_heard s.progress.phase) act s.rest

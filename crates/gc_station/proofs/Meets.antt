@@ -11,13 +11,13 @@ use Rattle.gc_catalogue.specs.declared.answer.Reading.TheVariants as reading
 use Rattle.gc_catalogue.specs.declared.asked.Asked.{Asked}
 use Rattle.gc_client.specs.declared.pending.Pending.{Pending}
 use Rattle.gc_client.specs.Ids
-use Rattle.gc_client.specs.Ids.{id_at, IsWindow}
-use Rattle.gc_client.specs.Rule.{ById, Outcome, Settlement, Settled, Answered, Late, Lost, place_in, met, settle, hears, id_settled}
+use Rattle.gc_client.specs.Ids.{id_at, IsWithinLimits}
+use Rattle.gc_client.specs.Rule.{ById, Outcome, Settlement, Settled, Answered, Late, Lost, place_in, settled_by_line, settle, hears, id_settled}
 use Rattle.gc_client.proofs.Digits.{settling}
 use Rattle.gc_texts.specs.declared.tasks.Task.{Task}
 use Rattle.gc_texts.specs.Endings.{End}
 use Rattle.gc_texts.specs.Endings as ends
-use Rattle.gc_texts.specs.Codes.{are_accepted}
+use Rattle.gc_texts.specs.Codes.{lists_code}
 use Rattle.gc_texts.specs.Nears.{is_elsewhere}
 use Rattle.gc_texts.specs.Zeroed.{as_zero}
 use Rattle.gc_texts.specs.declared.near.Expected.{Expected}
@@ -70,13 +70,13 @@ met_late true line e = refl
 met_late false line e = cc
 
 -- a request whose own reply comes isn't lost
-met_lost : (b : Bool) (line : List ℕ) → (if b then Late else Answered line) ≡ Lost → ⊥
+pub met_lost : (b : Bool) (line : List ℕ) → (if b then Late else Answered line) ≡ Lost → ⊥
 met_lost true line e = cc
 met_lost false line e = cc
 
 -- `EndedBy` holds of the request whose own reply came
 met_ended : (P : ℕ → ℕ → Pending Asked → Option Mark → Type 0) (c : ById Asked) (o : Option ℕ) (line : List ℕ) (number at : ℕ) (p : Pending Asked) (mark : Option Mark)
-    → HasPlace c o at → P number at p mark → EndedBy P c o line at (met p line) mark
+    → HasPlace c o at → P number at p mark → EndedBy P c o line at (settled_by_line p line) mark
 met_ended P c o line number at p mark place holds = record {
   number = number;
   pending = p;
@@ -154,12 +154,12 @@ pub left_count : (c : ById Asked) (x : Settled Asked (ById Asked)) (l : Left c x
 left_count c x l = ap length l.waiting ∙ length-drop l.count c.waiting
 
 -- what a line leaves is still a window
-pub left_window : (c : ById Asked) (x : Settled Asked (ById Asked)) → Left c x → IsWindow c → IsWindow x.client
+pub left_window : (c : ById Asked) (x : Settled Asked (ById Asked)) → Left c x → IsWithinLimits c → IsWithinLimits x.client
 left_window c x l w = let many = left_count c x l in record { digit = subst (λ (n : ℕ). n < 8) (sym l.next) w.digit; few = omega (arith, many, w.few) }
 
 -- the requests that a line leaves waiting are as they were (`WaitsAt`), with the same numbers and at lower places
 pub left_waits : (plan : Plan) (commands : List Task) (scope : Scope) (acts : List Act) (first : ById Asked) (now : ℕ) (c : ById Asked) (x : Settled Asked (ById Asked))
-    (marks : List (Option Mark)) → Left c x → IsWindow c
+    (marks : List (Option Mark)) → Left c x → IsWithinLimits c
     → Rows (WaitsAt plan commands scope acts first now c.next (length c.waiting)) 0 0 c.waiting marks
     → Rows (WaitsAt plan commands scope acts first now x.client.next (length x.client.waiting)) 0 0 x.client.waiting (drop (length x.settlements) marks)
 left_waits plan commands scope acts first now c x marks l w all =
@@ -205,7 +205,7 @@ refused_line false near x line = refl
 -- the ending by a reply in time has the reply's line, whatever it says
 pub answer_line : (expected : Expected) (x y : Reading) (line : List ℕ) → answer_of (answer_as expected x y line) ≡ Some line
 answer_line expected (reading.Value answer) y line = value_line quality.Fine (is_elsewhere expected.near answer) answer line
-answer_line expected (reading.Refused code) y line = refused_line (are_accepted expected.accepted code) expected.near y line
+answer_line expected (reading.Refused code) y line = refused_line (lists_code expected.accepted code) expected.near y line
 answer_line expected (reading.ComFault code) y line = refl
 answer_line expected (reading.Unreadable fault) y line = refl
 

@@ -23,18 +23,18 @@ use Rattle.gc_station.specs.declared.plan.Plan.{Plan}
 use Rattle.gc_station.specs.declared.progress.Phase.{Phase}
 use Rattle.gc_station.specs.declared.progress.Progress.{Progress}
 use Rattle.gc_station.specs.Deciding.{has_begun, is_up}
-use Rattle.gc_station.specs.EachOnce.{of_text, Parted, Request, requests, of_task, of_record, still_waiting, sent_by}
+use Rattle.gc_station.specs.EachOnce.{of_text, Parted, Request, requests, of_task, of_record, still_waiting, commands_reached}
 use Rattle.gc_station.proofs.Parted.{parted_more, parted_past, sent_past}
 use Rattle.gc_station.specs.Marks.{commands_in, records_of}
 use Rattle.gc_station.specs.Progressing.{is_over_in, is_over, loses_all}
-use Rattle.gc_station.specs.Parts.{AreOf, IsOf, went_out}
+use Rattle.gc_station.specs.Parts.{MarksAsk, MarkAsks, went_out}
 use Rattle.gc_station.specs.Records.{Record}
 use Rattle.gc_station.specs.Tasked.{IsOfItsTask}
 use Rattle.gc_station.specs.Model.{Model, client_sent, losing, ended}
 use Rattle.gc_station.proofs.Each.{each_moment, each_settles, each_null, each_sent, each_skipped, sent_next, sent_whole, sent_none, each_prepared}
 use Rattle.gc_station.proofs.Invariant.{Invariant, is_bare, says_done}
 use Rattle.gc_station.proofs.Lists.{all_append}
-use Rattle.gc_station.proofs.Tasked.{at_place, own_more, own_settled, settled_told, unsent_told}
+use Rattle.gc_station.proofs.Tasked.{at_place, own_more, own_settled, settled_tasked, unsent_tasked}
 use Rattle.gc_station.proofs.Ticking.{not_both}
 
 -- where `left` cycles haven't begun, and `unsent` commands of the present one haven't had their turn: the records, and after
@@ -47,9 +47,9 @@ pub record Sound (plan : Plan) (commands : List Task) (left unsent : ℕ) (clien
   pub paired : length marks ≡ length client.waiting
   pub window : length client.waiting ≤ 7
   pub digit : client.next < 8
-  pub each : Parted (of_text commands (map of_record records ++ still_waiting marks client.waiting)) passes (sent_by plan.setup commands (plan.cycles - left) (length commands - unsent))
-  pub own : AreOf commands marks (map of_pending client.waiting)
-  pub told : AllByRecursion (IsOfItsTask commands) records
+  pub each : Parted (of_text commands (map of_record records ++ still_waiting marks client.waiting)) passes (commands_reached plan.setup commands (plan.cycles - left) (length commands - unsent))
+  pub own : MarksAsk commands marks (map of_pending client.waiting)
+  pub tasked : AllByRecursion (IsOfItsTask commands) records
 
 -- what a phase says of the counts, the bytes that are kept and the marks
 pub record Placed (phase : Phase) (left unsent : ℕ) (rest : List ℕ) (marks : List (Option Mark)) : Type 0 where
@@ -80,7 +80,7 @@ mid_of plan commands s fine = (
     digit = fine.digit;
     each = fine.each;
     own = fine.own;
-    told = fine.told;
+    tasked = fine.tasked;
   },
   record {
     empty = fine.rest;
@@ -90,9 +90,9 @@ mid_of plan commands s fine = (
 
 -- What holds of the counts and the records.
 
--- what had its turn is parted alike where what was kept is the same
-as_kept : (xs xs' ys zs : List Request) → xs' ≡ xs → Parted xs ys zs → Parted xs' ys zs
-as_kept xs xs' ys zs e h = subst (λ (l : List Request). Parted l ys zs) (sym e) h
+-- `Parted` holds with a list xs' in place of an equal list xs
+parted_by_equal : (xs xs' ys zs : List Request) → xs' ≡ xs → Parted xs ys zs → Parted xs' ys zs
+parted_by_equal xs xs' ys zs e h = subst (λ (l : List Request). Parted l ys zs) (sym e) h
 
 -- a moment that times requests out preserves `Sound`
 pub sound_moment : (plan : Plan) (commands : List Task) (left unsent : ℕ) (client : ById Asked) (marks : List (Option Mark)) (records : List Record) (passes : List Request) (m : ℕ)
@@ -107,9 +107,9 @@ sound_moment plan commands left unsent client marks records passes m sound =
       paired = sound.paired ∙ sym same;
       window = omega (arith, same, sound.window);
       digit = sound.digit;
-      each = as_kept _ _ _ _ (each_moment commands marks client.waiting records (of_text commands (map of_record records ++ still_waiting marks client.waiting)) m refl) sound.each;
-      own = subst (AreOf commands marks) (sym (expired_parts m client.waiting)) sound.own;
-      told = sound.told;
+      each = parted_by_equal _ _ _ _ (each_moment commands marks client.waiting records (of_text commands (map of_record records ++ still_waiting marks client.waiting)) m refl) sound.each;
+      own = subst (MarksAsk commands marks) (sym (expired_parts m client.waiting)) sound.own;
+      tasked = sound.tasked;
     }
 
 -- settlements of the oldest requests preserve `Sound`
@@ -124,7 +124,7 @@ sound_settles reads plan commands left unsent client next marks records passes u
     let behind : length waits ≡ length next.waiting = length-map next.waiting of_pending in
     let count : length ended + length waits ≡ length client.waiting = sym (length-append ended waits) ∙ ap length parts ∙ length-map client.waiting of_pending in
     let fewer : length (drop (length ss) marks) ≡ length marks - length ss = length-drop (length ss) marks in
-    let all : AreOf commands marks (ended ++ waits) = subst (AreOf commands marks) (sym parts) sound.own in
+    let all : MarksAsk commands marks (ended ++ waits) = subst (MarksAsk commands marks) (sym parts) sound.own in
     record {
       unsents = sound.unsents;
       lefts = sound.lefts;
@@ -132,10 +132,10 @@ sound_settles reads plan commands left unsent client next marks records passes u
       paired = omega (arith, ends, behind, count, fewer, sound.paired);
       window = omega (arith, ends, behind, count, sound.window);
       digit = low;
-      each = as_kept _ _ _ _ (each_settles reads commands utc marks client.waiting next.waiting ss records
+      each = parted_by_equal _ _ _ _ (each_settles reads commands utc marks client.waiting next.waiting ss records
           (of_text commands (map of_record records ++ still_waiting marks client.waiting)) parts refl) sound.each;
       own = own_settled commands marks ss waits all;
-      told = all_append (IsOfItsTask commands) records _ sound.told (settled_told reads commands utc marks ss waits all);
+      tasked = all_append (IsOfItsTask commands) records _ sound.tasked (settled_tasked reads commands utc marks ss waits all);
     }
 
 -- if there is room, the client after a send has the next id, and one request more that waits
@@ -154,7 +154,7 @@ one_more marks ws m p paired = length-append marks (m ∷ []) ∙ ap (λ n. n + 
 -- a null procedure that is sent preserves `Sound`
 pub sound_null : (plan : Plan) (commands : List Task) (left unsent : ℕ) (client : ById Asked) (marks : List (Option Mark)) (records : List Record) (passes : List Request)
     (target : ℕ) (call : Asked) (deadline : ℕ)
-    → length client.waiting < 7 → IsOf commands None (record { target = target; call = call }) → Sound plan commands left unsent client marks records passes
+    → length client.waiting < 7 → MarkAsks commands None (record { target = target; call = call }) → Sound plan commands left unsent client marks records passes
     → Sound plan commands left unsent (client_sent client (sends WINDOW client target call deadline)) (marks ++ None ∷ []) records passes
 sound_null plan commands left unsent client marks records passes target call deadline room is sound =
     let p = pending_of target call deadline in
@@ -166,9 +166,9 @@ sound_null plan commands left unsent client marks records passes target call dea
       paired = one_more marks client.waiting None p sound.paired;
       window = omega (arith, more, room);
       digit = mod-lt (client.next + 1) (omega arith);
-      each = as_kept _ _ _ _ (each_null commands marks client.waiting p records (of_text commands (map of_record records ++ still_waiting marks client.waiting)) sound.paired refl) sound.each;
+      each = parted_by_equal _ _ _ _ (each_null commands marks client.waiting p records (of_text commands (map of_record records ++ still_waiting marks client.waiting)) sound.paired refl) sound.each;
       own = own_more commands marks client.waiting None p sound.own is;
-      told = sound.told;
+      tasked = sound.tasked;
     })
 
 -- a command that is sent preserves `Sound`, with one command less unsent
@@ -189,11 +189,11 @@ sound_sent plan commands left unsent client marks records passes utc deadline ex
     let kept = of_text commands (map of_record records ++ still_waiting marks client.waiting) in
     let within : plan.setup ≤ place = omega (arith, some, sound.unsents) in
     let one = requests begun place (of_task task ∷ []) in
-    let each : Parted (of_text commands (map of_record records ++ still_waiting (marks ++ Some mark ∷ []) (client.waiting ++ p ∷ []))) passes (sent_by plan.setup commands begun (place + 1)) =
+    let each : Parted (of_text commands (map of_record records ++ still_waiting (marks ++ Some mark ∷ []) (client.waiting ++ p ∷ []))) passes (commands_reached plan.setup commands begun (place + 1)) =
     subst (λ (xs : List Request). Parted (of_text commands (map of_record records ++ still_waiting (marks ++ Some mark ∷ []) (client.waiting ++ p ∷ []))) passes xs)
     (sent_next plan.setup commands begun place task others at within many)
-    (as_kept _ _ _ _ (each_sent commands begun place utc expected marks client.waiting p records task others sound.paired at refl many kept refl)
-    (parted_more kept passes (sent_by plan.setup commands begun place) one sound.each)) in
+    (parted_by_equal _ _ _ _ (each_sent commands begun place utc expected marks client.waiting p records task others sound.paired at refl many kept refl)
+    (parted_more kept passes (commands_reached plan.setup commands begun place) one sound.each)) in
     subst (λ (c : ById Asked). Sound plan commands left (unsent - 1) c (marks ++ Some mark ∷ []) records passes)
     (sym (client_behind client task.command.target (call_at task utc) deadline room)) (record {
       unsents = omega (arith, sound.unsents);
@@ -203,9 +203,9 @@ sound_sent plan commands left unsent client marks records passes utc deadline ex
       window = omega (arith, more, room);
       digit = mod-lt (client.next + 1) (omega arith);
       each = subst (λ (n : ℕ). Parted (of_text commands (map of_record records ++ still_waiting (marks ++ Some mark ∷ []) (client.waiting ++ p ∷ []))) passes
-          (sent_by plan.setup commands begun n)) (sym place_is) each;
+          (commands_reached plan.setup commands begun n)) (sym place_is) each;
       own = own_more commands marks client.waiting (Some mark) p sound.own (task, at_place place commands task others at, refl);
-      told = sound.told;
+      tasked = sound.tasked;
     })
 
 -- a command of the setup that is sent preserves `Sound`
@@ -224,10 +224,10 @@ sound_prepared plan commands left unsent client marks records passes deadline ma
       paired = one_more marks client.waiting (Some mark) p sound.paired;
       window = omega (arith, more, room);
       digit = mod-lt (client.next + 1) (omega arith);
-      each = as_kept _ _ _ _ (each_prepared commands mark marks client.waiting p records
+      each = parted_by_equal _ _ _ _ (each_prepared commands mark marks client.waiting p records
           (of_text commands (map of_record records ++ still_waiting marks client.waiting)) none sound.paired refl) sound.each;
       own = own_more commands marks client.waiting (Some mark) p sound.own (task, at, refl);
-      told = sound.told;
+      tasked = sound.tasked;
     })
 
 -- a command that isn't sent preserves `Sound`, with one command less unsent
@@ -254,14 +254,14 @@ sound_skipped plan commands left unsent client marks records passes utc end turn
           let kept = of_text commands (map of_record records ++ still_waiting marks client.waiting) in
           let one = requests begun place (of_task task ∷ []) in
           subst (λ (xs : List Request). Parted (of_text commands (map of_record (records ++ r ∷ []) ++ still_waiting marks client.waiting)) passes xs)
-          (sent_next plan.setup commands begun place task others at (omega (arith, some, sound.unsents)) many ∙ ap (λ (n : ℕ). sent_by plan.setup commands begun n) (sym place_is))
-          (as_kept _ _ _ _ (each_skipped commands begun place marks client.waiting records r task others none at refl many kept refl)
-          (parted_more kept passes (sent_by plan.setup commands begun place) one sound.each));
+          (sent_next plan.setup commands begun place task others at (omega (arith, some, sound.unsents)) many ∙ ap (λ (n : ℕ). commands_reached plan.setup commands begun n) (sym place_is))
+          (parted_by_equal _ _ _ _ (each_skipped commands begun place marks client.waiting records r task others none at refl many kept refl)
+          (parted_more kept passes (commands_reached plan.setup commands begun place) one sound.each));
       own = sound.own;
-      told = all_append (IsOfItsTask commands) records _ sound.told (unsent_told commands utc begun place turn end task (at_place place commands task others at) out, tt);
+      tasked = all_append (IsOfItsTask commands) records _ sound.tasked (unsent_tasked commands utc begun place turn end task (at_place place commands task others at) out, tt);
     }
 
--- the attempts of a chain that are left out preserve `Sound`, with so many commands less unsent
+-- the attempts of a chain that are left out, `count` commands, preserve `Sound`, with as many commands less unsent
 pub sound_passed : (plan : Plan) (commands : List Task) (left unsent count : ℕ) (client : ById Asked) (marks : List (Option Mark)) (records : List Record) (passes : List Request)
     → 0 < unsent → Sound plan commands left unsent client marks records passes
     → Sound plan commands left (unsent - count) client marks records
@@ -282,11 +282,11 @@ sound_passed plan commands left unsent count client marks records passes some so
       digit = sound.digit;
       each = subst (λ (xs : List Request). Parted kept (passes ++ past) xs)
           (sent_past plan.setup commands begun place count (length commands - (unsent - count)) (omega (arith, some, sound.unsents)) (omega (arith, sound.unsents)) many
-          (by_count (nat_lt unsent count) refl)) (parted_past kept passes (sent_by plan.setup commands begun place) past sound.each);
+          (by_count (nat_lt unsent count) refl)) (parted_past kept passes (commands_reached plan.setup commands begun place) past sound.each);
       own = sound.own;
-      told = sound.told;
+      tasked = sound.tasked;
     } where
-      -- the new place is so many places after, or at the end, where fewer are unsent
+      -- the new place is `count` places further on, or at the end if fewer commands are unsent
       by_count : (b : Bool) → nat_lt unsent count ≡ b → (length commands - (unsent - count) ≡ (length commands - unsent) + count)
           ⊎ ((length commands - (unsent - count) ≡ length commands) × (length commands ≤ (length commands - unsent) + count))
       by_count true e = let more = ltb-true unsent count e in inr (omega (arith, more), omega (arith, more, sound.unsents))
@@ -309,7 +309,7 @@ sound_begun plan commands left unsent client marks records passes none some soun
           ∙ sym (sent_none plan.setup commands (plan.cycles - left) (plan.cycles - (left - 1)) (length commands - (length commands - plan.setup))
           (omega (arith, some, lefts)) (omega arith))) sound.each;
       own = sound.own;
-      told = sound.told;
+      tasked = sound.tasked;
     }
 
 -- The end of what is outstanding.
@@ -326,8 +326,8 @@ still_finished p marks not_over (left, unsent, inl over) = absurd (not_both (is_
 still_finished p marks not_over (left, unsent, inr none) = (left, unsent, none)
 
 -- once all that is outstanding is lost where `loses_all` says so, `Mid` gives the invariant of every run
-fine_losing : (plan : Plan) (commands : List Task) (s : Model) (b : Bool) → loses_all s.progress ≡ b → Mid plan commands s → Invariant plan commands (losing b s)
-fine_losing plan commands s true is (sound, placed) =
+invariant_losing : (plan : Plan) (commands : List Task) (s : Model) (b : Bool) → loses_all s.progress ≡ b → Mid plan commands s → Invariant plan commands (losing b s)
+invariant_losing plan commands s true is (sound, placed) =
     let p = s.progress in
     let ss = map lost s.client.waiting in
     let x = sound_settles s.reads plan commands p.left p.unsent s.client fresh s.marks s.records s.passes p.moment.utc ss
@@ -346,9 +346,9 @@ fine_losing plan commands s true is (sound, placed) =
       finished = λ e. let it = placed.finished e in (it.0, it.1, ap commands_in nothing);
       each = x.each;
       own = x.own;
-      told = x.told;
+      tasked = x.tasked;
     }
-fine_losing plan commands s false is (sound, placed) =
+invariant_losing plan commands s false is (sound, placed) =
     let p = s.progress in
     let kept = kept_for (has_begun p) (is_over p) is in
     record {
@@ -364,9 +364,9 @@ fine_losing plan commands s false is (sound, placed) =
       finished = λ e. still_finished p s.marks kept.1 (placed.finished e);
       each = sound.each;
       own = sound.own;
-      told = sound.told;
+      tasked = sound.tasked;
     }
 
 -- `Mid` gives the invariant of every run after the whole act
-pub fine_ended : (plan : Plan) (commands : List Task) (s : Model) → Mid plan commands s → Invariant plan commands (ended s)
-fine_ended plan commands s mid = fine_losing plan commands s (loses_all s.progress) refl mid
+pub invariant_ended : (plan : Plan) (commands : List Task) (s : Model) → Mid plan commands s → Invariant plan commands (ended s)
+invariant_ended plan commands s mid = invariant_losing plan commands s (loses_all s.progress) refl mid

@@ -25,14 +25,14 @@ use Rattle.gc_links.specs.Acts.{Act, Told, Put, Gave, Silent}
 use Rattle.gc_station.specs.Deciding.{has_begun, is_none_left, goes_on, later, dead_after}
 use Rattle.gc_station.specs.Progressing.{turned, moment_noted, lines_synchronizing}
 use Rattle.gc_station.specs.Quiet.{TellsMoment, IsListening, StaysConnected}
-use Rattle.gc_station.specs.Reasons.{IsFor}
+use Rattle.gc_station.specs.Reasons.{HoldsBefore}
 use Rattle.gc_station.specs.Runs.{state_after}
 use Rattle.gc_station.specs.Silences.{latest, IsNoReply, BringsNoReply, IsMute, WentBack, IsMuteFor}
 use Rattle.gc_station.specs.Model.{Model, request_text, null_text, first_text, opening, action_at, waiting_of, with_progress, with_moment, with_rest, lines_came, lines_completed, after_piece, is_heard, place_next, Performs, moved, after, after_all, Runs, text_or_null}
-use Rattle.gc_station.proofs.Always.{always_far}
+use Rattle.gc_station.proofs.Always.{always_of_progress}
 use Rattle.gc_station.proofs.Connected.{is_in_use, OnLine, on_line}
 use Rattle.gc_station.proofs.Since.{Since, since_now, since_on, cut_on}
-use Rattle.gc_station.proofs.EachRun.{fine_stood}
+use Rattle.gc_station.proofs.EachRun.{invariant_holds}
 use Rattle.gc_station.proofs.Facts.{both_true, either_true, or_true, action_for, order_wakes, Awake, Wakes}
 use Rattle.gc_station.proofs.Going.{after_all-append}
 use Rattle.gc_station.proofs.Lists.{all_append}
@@ -335,7 +335,7 @@ module _ (plan : Plan) (commands : List Task) (scope : Scope) where
   mute_where false on alive now at acts q = q
 
   -- what `MuteAt` says holds on after an act of any action that leaves a connection in use
-  mute_line : (next : Action) (s : Model) (acts : List Act) → IsFor plan s.progress (waiting_of s) next → Tells s.progress acts next → (state_after plan commands scope acts).rest ≡ s.rest
+  mute_line : (next : Action) (s : Model) (acts : List Act) → HoldsBefore plan s.progress (waiting_of s) next → Tells s.progress acts next → (state_after plan commands scope acts).rest ≡ s.rest
       → MuteAt s.progress acts → OnLine plan commands MuteAt next (with_progress turned s) acts
   mute_line actions.Open s acts needs tells rest q = λ m. tt
   mute_line actions.Clear s acts needs tells rest q = λ m. cleared_mute (has_begun s.progress) s.progress (acts ++ Put (10 ∷ []) ∷ []) refl
@@ -371,8 +371,8 @@ module _ (plan : Plan) (commands : List Task) (scope : Scope) where
   tells_in p acts next awake last = tt
 
   -- `MuteAt` holds after every run
-  mute_stood : (acts : List Act) → Runs plan commands (opening plan scope) acts → MuteAt (state_after plan commands scope acts).progress acts
-  mute_stood acts runs = always_far plan commands (opening plan scope) MuteAt step tt acts runs where
+  mute_holds : (acts : List Act) → Runs plan commands (opening plan scope) acts → MuteAt (state_after plan commands scope acts).progress acts
+  mute_holds acts runs = always_of_progress plan commands (opening plan scope) MuteAt step tt acts runs where
     -- one act of a run preserves `MuteAt`
     step : (done : List Act) (act : Act) → Runs plan commands (opening plan scope) done
         → Performs commands (state_after plan commands scope done) (action_at plan (state_after plan commands scope done)) act
@@ -439,4 +439,4 @@ module _ (plan : Plan) (commands : List Task) (scope : Scope) where
 
     -- a silence has lasted since `alive`
     q : IsMuted s.progress.asked s.progress.alive s.progress.moment.elapsed acts
-    q = in_phase s.progress phase.Ready acts awake.1 (mute_stood acts runs) (sought_dead s (fine_stood plan commands scope acts) dead.0)
+    q = in_phase s.progress phase.Ready acts awake.1 (mute_holds acts runs) (sought_dead s (invariant_holds plan commands scope acts) dead.0)

@@ -1,8 +1,8 @@
 -- Each request's mark has what its text expects of the answer: where the target is, and which return codes are accepted. Each
 -- record keeps to that: an answer that ends as answered is near the place or has no direction, one that ends as elsewhere isn't
 -- near it, and its quality is as listed. An act is one call on the link, with its result. A mark says which command an
--- outstanding request is of, and what is expected of its answer. `IsPlaced` says that a mark expects what its command's text
--- says, and `IsSo` that a record keeps to the place, the codes and the quality; `KeepsToText` says both of a model.
+-- outstanding request is of, and what is expected of its answer. `ExpectsAsText` says that a mark expects what its command's text
+-- says, and `KeepsToItsText` that a record keeps to the place, the codes and the quality; `KeepsToText` says both of a model.
 use Rattle.std.proofs.Common.{◌≡◌, ℕ, zero, suc, Bool, true, false, List, [], ◌∷◌, ◌++◌, drop, Option, Some, None, if◌then◌else◌, refl, sym, ap, ◌∙◌, subst}
 use Rattle.std.specs.Prelude.{slice_get}
 use Rattle.std.specs.List.{AllByRecursion}
@@ -36,7 +36,7 @@ use Rattle.gc_station.specs.declared.plan.Plan.{Plan}
 use Rattle.gc_station.specs.declared.progress.Action.{Action}
 use Rattle.gc_station.specs.declared.progress.Action.TheVariants as actions
 use Rattle.gc_station.specs.declared.progress.Progress.{Progress}
-use Rattle.gc_station.proofs.Lists.{all_append}
+use Rattle.gc_station.proofs.Lists.{all_append, all_drop, all_on}
 use Rattle.gc_station.proofs.Qualified.{ended_near, ended_away, ended_quality}
 use Rattle.gc_station.proofs.Walk.{lines_along, moved_changed}
 
@@ -52,18 +52,18 @@ expected_there (t ∷ commands) zero task e = let same : t ≡ task = cc in ap e
 expected_there (t ∷ commands) (suc k) task e = expected_there commands k task e
 
 module _ (plan : Plan) (commands : List Task) (scope : Scope) where
-  -- a mark has where its command's target is, and which codes are accepted
-  abbrev IsPlaced : Option Mark → Type 0
-  IsPlaced None = Unit {0}
-  IsPlaced (Some mark) =
+  -- a mark expects what the text says of its command: where the target is, and which codes are accepted
+  abbrev ExpectsAsText : Option Mark → Type 0
+  ExpectsAsText None = Unit {0}
+  ExpectsAsText (Some mark) =
       (mark.expected.near ≡ (expected_first (drop mark.place commands)).near) × (mark.expected.accepted ≡ (expected_first (drop mark.place commands)).accepted)
 
-  -- a record keeps to where its target is: an answer is near it, and one that is elsewhere isn't
-  abbrev IsSo : Record → Type 0
-  IsSo r = IsAtItsTarget commands r × ElsewhereIsJustified scope.reads commands r × IsAsListed scope.reads commands r
+  -- a record keeps to its text: an answer is near its target, one that is elsewhere isn't, and its quality is as listed
+  abbrev KeepsToItsText : Record → Type 0
+  KeepsToItsText r = IsAtItsTarget commands r × ElsewhereIsJustified scope.reads commands r × IsAsListed scope.reads commands r
 
-  -- the record of a settlement whose mark is `IsPlaced` is `IsSo`
-  record_so : (utc : ℕ) (mark : Mark) (x : Rule.Settlement Asked) → IsPlaced (Some mark) → IsSo (record_of scope.reads utc mark x)
+  -- the record of a settlement whose mark is `ExpectsAsText` is `KeepsToItsText`
+  record_so : (utc : ℕ) (mark : Mark) (x : Rule.Settlement Asked) → ExpectsAsText (Some mark) → KeepsToItsText (record_of scope.reads utc mark x)
   record_so utc mark x placed = (
     (λ task near quality answer line d at has e toward.
         let stands : mark.expected.near ≡ Some near = placed.0 ∙ ap (λ (k : Expected). k.near) (expected_there commands mark.place task at) ∙ has in
@@ -87,36 +87,32 @@ module _ (plan : Plan) (commands : List Task) (scope : Scope) where
         (ended_quality scope.reads mark.expected x.call line quality said x.outcome e)),
   )
 
-  -- the records of settlements whose marks are `IsPlaced` are all `IsSo`
-  records_so : (utc : ℕ) (marks : List (Option Mark)) (settlements : List (Rule.Settlement Asked)) → AllByRecursion IsPlaced marks → AllByRecursion IsSo (records_of scope.reads utc marks settlements)
+  -- the records of settlements whose marks are `ExpectsAsText` are all `KeepsToItsText`
+  records_so : (utc : ℕ) (marks : List (Option Mark)) (settlements : List (Rule.Settlement Asked)) → AllByRecursion ExpectsAsText marks
+      → AllByRecursion KeepsToItsText (records_of scope.reads utc marks settlements)
   records_so utc [] settlements all = tt
   records_so utc (mark ∷ marks) [] all = tt
   records_so utc (None ∷ marks) (x ∷ others) all = records_so utc marks others all.1
   records_so utc (Some mark ∷ marks) (x ∷ others) all = (record_so utc mark x all.0, records_so utc marks others all.1)
 
-  -- without the first n marks, all are `IsPlaced` still
-  all_drop : (n : ℕ) (marks : List (Option Mark)) → AllByRecursion IsPlaced marks → AllByRecursion IsPlaced (drop n marks)
-  all_drop zero marks all = all
-  all_drop (suc n) [] all = tt
-  all_drop (suc n) (mark ∷ marks) all = all_drop n marks all.1
-
-  -- a model reads replies as the scope does, each of its marks is `IsPlaced`, and each of its records `IsSo`
+  -- a model reads replies as the scope does, each of its marks is `ExpectsAsText`, and each of its records `KeepsToItsText`
   record KeepsToText (s : Model) : Type 0 where
     reads : s.reads ≡ scope.reads
-    marks : AllByRecursion IsPlaced s.marks
-    records : AllByRecursion IsSo s.records
+    marks : AllByRecursion ExpectsAsText s.marks
+    records : AllByRecursion KeepsToItsText s.records
 
-  -- settlements that are recorded keep all records `IsSo`
-  settles_so : (s : Model) (x : List (Rule.Settlement Asked)) → KeepsToText s → AllByRecursion IsSo (s.records ++ records_of s.reads s.progress.moment.utc s.marks x)
+  -- settlements that are recorded keep all records `KeepsToItsText`
+  settles_so : (s : Model) (x : List (Rule.Settlement Asked)) → KeepsToText s → AllByRecursion KeepsToItsText (s.records ++ records_of s.reads s.progress.moment.utc s.marks x)
   settles_so s x k =
-      all_append IsSo s.records _ k.records
-      (subst (λ (reads : Asked → List ℕ → Reading). AllByRecursion IsSo (records_of reads s.progress.moment.utc s.marks x)) (sym k.reads) (records_so s.progress.moment.utc s.marks x k.marks))
+      all_append KeepsToItsText s.records _ k.records
+      (subst (λ (reads : Asked → List ℕ → Reading). AllByRecursion KeepsToItsText (records_of reads s.progress.moment.utc s.marks x)) (sym k.reads)
+      (records_so s.progress.moment.utc s.marks x k.marks))
 
   -- `KeepsToText` is preserved by a line that is heard
   line_so : (s : Model) (line : List ℕ) → KeepsToText s → KeepsToText (line_came s line)
   line_so s line k =
       let x = hears s.client line (heard line) in
-      record { reads = k.reads; marks = all_drop _ s.marks k.marks; records = settles_so s x.settlements k }
+      record { reads = k.reads; marks = all_drop ExpectsAsText _ s.marks k.marks; records = settles_so s x.settlements k }
 
   -- `KeepsToText` is preserved by a piece
   came_so : (b : Bool) (word piece : List ℕ) (s : Model) → KeepsToText s → KeepsToText (after_piece b word piece s)
@@ -127,15 +123,15 @@ module _ (plan : Plan) (commands : List Task) (scope : Scope) where
 
   -- `KeepsToText` is preserved by the loss of what is outstanding
   losing_so : (b : Bool) (s : Model) → KeepsToText s → KeepsToText (losing b s)
-  losing_so true s k = let x = restarts s.client in record { reads = k.reads; marks = all_drop _ s.marks k.marks; records = settles_so s x.settlements k }
+  losing_so true s k = let x = restarts s.client in record { reads = k.reads; marks = all_drop ExpectsAsText _ s.marks k.marks; records = settles_so s x.settlements k }
   losing_so false s k = k
 
-  -- `KeepsToText` is preserved by a request that is sent, if its mark is `IsPlaced`
-  asks_so : (wait target : ℕ) (call : Asked) (mark : Option Mark) (s : Model) → IsPlaced mark → KeepsToText s → KeepsToText (asks wait target call mark s)
-  asks_so wait target call mark s placed k = record { reads = k.reads; marks = all_append IsPlaced s.marks _ k.marks (placed, tt); records = k.records }
+  -- `KeepsToText` is preserved by a request that is sent, if its mark is `ExpectsAsText`
+  asks_so : (wait target : ℕ) (call : Asked) (mark : Option Mark) (s : Model) → ExpectsAsText mark → KeepsToText s → KeepsToText (asks wait target call mark s)
+  asks_so wait target call mark s placed k = record { reads = k.reads; marks = all_append ExpectsAsText s.marks _ k.marks (placed, tt); records = k.records }
 
-  -- `KeepsToText` is preserved by the send of the first of these commands, if its mark is `IsPlaced`
-  first_so : (mark : Mark) (left : List Task) (s : Model) → IsPlaced (Some mark) → KeepsToText s → KeepsToText (asks_first mark left s)
+  -- `KeepsToText` is preserved by the send of the first of these commands, if its mark is `ExpectsAsText`
+  first_so : (mark : Mark) (left : List Task) (s : Model) → ExpectsAsText (Some mark) → KeepsToText s → KeepsToText (asks_first mark left s)
   first_so mark [] s placed k = k
   first_so mark (task ∷ others) s placed k = asks_so task.deadline task.command.target (call_at task mark.sent) (Some mark) s placed k
 
@@ -161,8 +157,8 @@ module _ (plan : Plan) (commands : List Task) (scope : Scope) where
   unsent_elsewhere true line e = cc
   unsent_elsewhere false line e = cc
 
-  -- the record of a command that isn't sent is `IsSo`
-  skips_so : (p : Progress) (m : Moment) (mark : Mark) (left : List Task) → AllByRecursion IsSo (skips_first p m mark left)
+  -- the record of a command that isn't sent is `KeepsToItsText`
+  skips_so : (p : Progress) (m : Moment) (mark : Mark) (left : List Task) → AllByRecursion KeepsToItsText (skips_first p m mark left)
   skips_so p m mark [] = tt
   skips_so p m mark (task ∷ others) = (
     (
@@ -184,9 +180,9 @@ module _ (plan : Plan) (commands : List Task) (scope : Scope) where
   moved_so actions.Skip s (Told m) k = record {
     reads = k.reads;
     marks = k.marks;
-    records = all_append IsSo s.records _ k.records (skips_so s.progress m (mark_next plan commands s.progress) (drop (place_next commands s.progress) commands));
+    records = all_append KeepsToItsText s.records _ k.records (skips_so s.progress m (mark_next plan commands s.progress) (drop (place_next commands s.progress) commands));
   }
-  moved_so actions.Skip s act k = record { reads = k.reads; marks = k.marks; records = all_append IsSo s.records [] k.records tt }
+  moved_so actions.Skip s act k = record { reads = k.reads; marks = k.marks; records = all_append KeepsToItsText s.records [] k.records tt }
   moved_so (actions.Read until) s (Gave bytes m) k =
       let n = came_so (is_heard s.progress.phase) s.progress.word bytes (with_moment m (with_progress (moment_noted m) s)) (record { reads = k.reads; marks = k.marks; records = k.records }) in
       record { reads = n.reads; marks = n.marks; records = n.records }
@@ -204,23 +200,18 @@ module _ (plan : Plan) (commands : List Task) (scope : Scope) where
   along s [] k = k
   along s (act ∷ acts) k = along (after plan commands s act) acts (after_so s act k)
 
--- each record of a run is `IsSo`
-all_so : (plan : Plan) (commands : List Task) (scope : Scope) (acts : List Act) → AllByRecursion (IsSo plan commands scope) (state_after plan commands scope acts).records
+-- each record of a run is `KeepsToItsText`
+all_so : (plan : Plan) (commands : List Task) (scope : Scope) (acts : List Act) → AllByRecursion (KeepsToItsText plan commands scope) (state_after plan commands scope acts).records
 all_so plan commands scope acts = (along plan commands scope (opening plan scope) acts (record { reads = refl; marks = tt; records = tt })).records
-
--- if P gives Q for each record, and P holds of all of these records, Q holds of all of them
-all_to : (P Q : Record → Type 0) (rs : List Record) → ((r : Record) → P r → Q r) → AllByRecursion P rs → AllByRecursion Q rs
-all_to P Q [] f all = tt
-all_to P Q (r ∷ rs) f all = (f r all.0, all_to P Q rs f all.1)
 
 -- the law: each record after any acts keeps to where its target is
 pub at_their_targets : AnswersAreAtTheirTargets
 at_their_targets plan commands scope acts =
-    all_to (IsSo plan commands scope) (λ r. IsAtItsTarget commands r × ElsewhereIsJustified scope.reads commands r) (state_after plan commands scope acts).records
+    all_on (KeepsToItsText plan commands scope) (λ r. IsAtItsTarget commands r × ElsewhereIsJustified scope.reads commands r) (state_after plan commands scope acts).records
     (λ r so. (so.0, so.1)) (all_so plan commands scope acts)
 
 -- the law: after any acts, the quality of each answered command is as listed: what its line says, by the codes that are
 -- accepted of it
 pub as_listed : QualitiesAreAsListed
 as_listed plan commands scope acts =
-    all_to (IsSo plan commands scope) (λ r. IsAsListed scope.reads commands r) (state_after plan commands scope acts).records (λ r so. so.2) (all_so plan commands scope acts)
+    all_on (KeepsToItsText plan commands scope) (λ r. IsAsListed scope.reads commands r) (state_after plan commands scope acts).records (λ r so. so.2) (all_so plan commands scope acts)

@@ -129,22 +129,22 @@ module _ (plan : Plan) (commands : List Task) (scope : Scope) (text : Record →
       }
 
   -- `KeepsUp` of this run, with the acts `others` after it
-  abbrev Up : Option (List Act) → List Snapshot → List Snapshot → List Act → Type 0
-  Up told' saw saw' others = KeepsUp plan commands scope text told told' taken saw saw' others
+  abbrev KeepsUpHere : Option (List Act) → List Snapshot → List Snapshot → List Act → Type 0
+  KeepsUpHere told' saw saw' others = KeepsUp plan commands scope text told told' taken saw saw' others
 
   -- a run that stopped for a cause has kept up to its end, and no close follows: a close follows only if the book failed
   -- (`Output`), which is the fault of no cause
   pub faulty_keeps : (told' : Option (List Act)) (saw saw' : List Snapshot) (cause : Cause) (why : RunFault) → fault_of cause ≡ Some why
-      → Up told' saw saw' [] → Up told' saw saw' (closing_at {X = Tally} (Err why))
+      → KeepsUpHere told' saw saw' [] → KeepsUpHere told' saw saw' (closing_at {X = Tally} (Err why))
   faulty_keeps told' saw saw' Done why e up = absurd (cc)
-  faulty_keeps told' saw saw' Dead why e up = let same : fault.Mute ≡ why = cc in subst (λ (w : RunFault). Up told' saw saw' (closing_at {X = Tally} (Err w))) same up
-  faulty_keeps told' saw saw' Read why e up = let same : fault.Read ≡ why = cc in subst (λ (w : RunFault). Up told' saw saw' (closing_at {X = Tally} (Err w))) same up
-  faulty_keeps told' saw saw' End why e up = let same : fault.LinkClosed ≡ why = cc in subst (λ (w : RunFault). Up told' saw saw' (closing_at {X = Tally} (Err w))) same up
+  faulty_keeps told' saw saw' Dead why e up = let same : fault.Mute ≡ why = cc in subst (λ (w : RunFault). KeepsUpHere told' saw saw' (closing_at {X = Tally} (Err w))) same up
+  faulty_keeps told' saw saw' Read why e up = let same : fault.Read ≡ why = cc in subst (λ (w : RunFault). KeepsUpHere told' saw saw' (closing_at {X = Tally} (Err w))) same up
+  faulty_keeps told' saw saw' End why e up = let same : fault.LinkClosed ≡ why = cc in subst (λ (w : RunFault). KeepsUpHere told' saw saw' (closing_at {X = Tally} (Err w))) same up
   faulty_keeps told' saw saw' (Write requests bytes) why e up =
-      let same : fault.Write requests bytes ≡ why = cc in subst (λ (w : RunFault). Up told' saw saw' (closing_at {X = Tally} (Err w))) same up
-  faulty_keeps told' saw saw' Clock why e up = let same : fault.Clock ≡ why = cc in subst (λ (w : RunFault). Up told' saw saw' (closing_at {X = Tally} (Err w))) same up
-  faulty_keeps told' saw saw' Open why e up = let same : fault.Socket ≡ why = cc in subst (λ (w : RunFault). Up told' saw saw' (closing_at {X = Tally} (Err w))) same up
-  faulty_keeps told' saw saw' SetUp why e up = let same : fault.SetUp ≡ why = cc in subst (λ (w : RunFault). Up told' saw saw' (closing_at {X = Tally} (Err w))) same up
-  faulty_keeps told' saw saw' Turns why e up = let same : fault.TooManyReads ≡ why = cc in subst (λ (w : RunFault). Up told' saw saw' (closing_at {X = Tally} (Err w))) same up
-  faulty_keeps told' saw saw' Stale why e up = let same : fault.Stale ≡ why = cc in subst (λ (w : RunFault). Up told' saw saw' (closing_at {X = Tally} (Err w))) same up
+      let same : fault.Write requests bytes ≡ why = cc in subst (λ (w : RunFault). KeepsUpHere told' saw saw' (closing_at {X = Tally} (Err w))) same up
+  faulty_keeps told' saw saw' Clock why e up = let same : fault.Clock ≡ why = cc in subst (λ (w : RunFault). KeepsUpHere told' saw saw' (closing_at {X = Tally} (Err w))) same up
+  faulty_keeps told' saw saw' Open why e up = let same : fault.Socket ≡ why = cc in subst (λ (w : RunFault). KeepsUpHere told' saw saw' (closing_at {X = Tally} (Err w))) same up
+  faulty_keeps told' saw saw' SetUp why e up = let same : fault.SetUp ≡ why = cc in subst (λ (w : RunFault). KeepsUpHere told' saw saw' (closing_at {X = Tally} (Err w))) same up
+  faulty_keeps told' saw saw' Turns why e up = let same : fault.TooManyReads ≡ why = cc in subst (λ (w : RunFault). KeepsUpHere told' saw saw' (closing_at {X = Tally} (Err w))) same up
+  faulty_keeps told' saw saw' Stale why e up = let same : fault.Stale ≡ why = cc in subst (λ (w : RunFault). KeepsUpHere told' saw saw' (closing_at {X = Tally} (Err w))) same up
   faulty_keeps told' saw saw' Stopped why e up = absurd (cc)

@@ -1,26 +1,25 @@
 -- While a station doesn't resynchronize, all its acts are of one part: a request, and the acts after it. An act is one call on
 -- the link, with its result. A part reaches from one synchronization to the next.
-use Rattle.std.proofs.Common.{◌≡◌, suc, ◌+◌, ◌-◌, ◌&&◌, ◌||◌, Bool, true, false, not, List, [], ◌∷◌, ◌++◌, length, drop, nat_eq, refl, sym, ap, subst, arith}
+use Rattle.std.proofs.Common.{◌≡◌, suc, ◌+◌, ◌-◌, ◌&&◌, ◌||◌, Bool, true, false, not, List, [], ◌∷◌, ◌++◌, length, drop, refl, sym, ap, subst, arith}
 use Rattle.gc_texts.specs.declared.tasks.Task.{Task}
 use Rattle.gc_station.specs.declared.plan.Plan.{Plan}
 use Rattle.gc_station.specs.declared.progress.Action.{Action}
 use Rattle.gc_station.specs.declared.progress.Action.TheVariants.{Send}
 use Rattle.gc_station.specs.declared.progress.Phase.TheVariants as phase
-use Rattle.gc_station.specs.declared.progress.Progress.{Progress}
 use Rattle.gc_links.specs.Acts.{Act}
-use Rattle.gc_station.specs.Deciding.{has_begun, is_up}
+use Rattle.gc_station.specs.Deciding.{has_begun}
 use Rattle.gc_station.specs.Links.{parts}
 use Rattle.gc_station.specs.Parts.{Part, acting, ends_part, in_front, parts_of}
-use Rattle.gc_station.specs.Progressing.{cycle_begun, is_over, is_over_in}
-use Rattle.gc_station.specs.Reasons.{IsFor}
+use Rattle.gc_station.specs.Progressing.{is_over}
 use Rattle.gc_station.specs.Runs.{state_after}
 use Rattle.gc_station.specs.Scopes.{Scope}
-use Rattle.gc_station.specs.Model.{Model, Performs, Puts, Runs, opening, action_at, waiting_of, place_next, first_text, after, after_all}
+use Rattle.gc_station.specs.Model.{Model, Performs, Puts, Runs, opening, action_at, place_next, first_text, after, after_all}
 use Rattle.gc_station.proofs.Chaining.{StaysBegun}
-use Rattle.gc_station.proofs.Facts.{action_for}
 use Rattle.gc_station.proofs.Going.{after_all-append, runs_behind}
 use Rattle.gc_station.proofs.Turns.{over_stays}
 use Rattle.gc_station.proofs.SentAt.{joined_length}
+use Rattle.gc_station.proofs.Closings.{needs_of}
+use Rattle.gc_station.proofs.Losing.{going_on}
 
 -- While a station doesn't resynchronize, all its acts are of one part.
 
@@ -36,11 +35,12 @@ goes_on plan commands u acts false e runs end = e
 goes_on plan commands u [] true e runs end = end
 goes_on plan commands u (act ∷ acts) true e runs end = absurd (over_stays plan commands u act e runs.0)
 
--- if the station has synchronized after an act, and the run isn't over, the act ends no part
-neither : (cycle_begun later over : Bool) → later ≡ true → over ≡ false → (cycle_begun && (not later || over)) ≡ false
-neither true true over a o = o
-neither true false over a o = cc
-neither false later over a o = refl
+-- if the station has synchronized after an act (`later`), and the run isn't over, the act ends no part, whether the station had
+-- synchronized before (`begun`) or not
+ends_no_part : (begun later over : Bool) → later ≡ true → over ≡ false → (begun && (not later || over)) ≡ false
+ends_no_part true true over a o = o
+ends_no_part true false over a o = cc
+ends_no_part false later over a o = refl
 
 -- acts after each of which the station has synchronized are one part, if the run isn't over
 single : (plan : Plan) (commands : List Task) (s : Model) (acts : List Act) → Runs plan commands s acts → StaysBegun plan commands s acts
@@ -50,7 +50,7 @@ single plan commands s (act ∷ acts) runs keeps end =
     let u = after plan commands s act in
     let p = acting plan commands s (action_at plan s) act in
     let over = goes_on plan commands u acts (is_over u.progress) refl runs.1 end in
-    let ends : ends_part plan commands s act ≡ false = neither (has_begun s.progress) (has_begun u.progress) (is_over u.progress) keeps.0 over in
+    let ends : ends_part plan commands s act ≡ false = ends_no_part (has_begun s.progress) (has_begun u.progress) (is_over u.progress) keeps.0 over in
     subst (λ b. length (in_front p b (parts_of plan commands u acts)) ≡ 1) (sym ends) (joined_length p (parts_of plan commands u acts) 0 (single plan commands u acts runs.1 keeps.1 end))
 
 -- lists of as many parts stay so with one act more before both
@@ -70,14 +70,6 @@ parts_more plan commands s (act ∷ xs) ys one =
     (parts_of plan commands (after plan commands s act) (xs ++ ys)) (parts_of plan commands (after plan commands s act) xs)
     (parts_more plan commands (after plan commands s act) xs ys one)
 
--- in the phase `Ready` the run isn't over
-over_ready : (p : Progress) → p.phase ≡ phase.Ready → is_over p ≡ false
-over_ready p is = ap (λ at. is_over_in at || (not (is_up at) && nat_eq p.turns 0)) is
-
--- if a command is next, the conditions of `Send` hold
-pub needs_send : (plan : Plan) (s : Model) → action_at plan s ≡ Send → IsFor plan s.progress (waiting_of s) Send
-needs_send plan s is = subst (λ (o : Action). IsFor plan s.progress (waiting_of s) o) is (action_for plan s.progress (waiting_of s))
-
 -- an act that sends puts the line of the next command
 pub puts_text : (commands : List Task) (plan : Plan) (s : Model) (act : Act) → action_at plan s ≡ Send → Performs commands s (action_at plan s) act
     → Puts (first_text s.progress.moment.utc s.client (drop (place_next commands s.progress) commands)) act
@@ -92,6 +84,6 @@ pub same_part : (plan : Plan) (commands : List Task) (scope : Scope) (before bet
 same_part plan commands scope before between request runs sends keeps next =
     let s = state_after plan commands scope before in
     let on = runs_behind plan commands (opening plan scope) before (request ∷ between) runs in
-    let last = over_ready (state_after plan commands scope (before ++ request ∷ between)).progress (needs_send plan (state_after plan commands scope (before ++ request ∷ between)) next).0 in
+    let last = going_on (state_after plan commands scope (before ++ request ∷ between)).progress (needs_of plan (state_after plan commands scope (before ++ request ∷ between)) Send next).0 in
     let end = subst (λ (t : Model). is_over t.progress ≡ false) (after_all-append plan commands (opening plan scope) before (request ∷ between)) last in
     parts_more plan commands (opening plan scope) before (request ∷ between) (single plan commands s (request ∷ between) on keeps end)

@@ -14,14 +14,14 @@ use Rattle.gc_links.specs.Acts.{Act, Closed, Unopened}
 use Rattle.gc_station.specs.Deciding.{has_begun, is_up}
 use Rattle.gc_station.specs.Marks.{commands_in}
 use Rattle.gc_station.specs.Progressing.{failing, turned, moment_noted, cleared, time_passed, closed}
-use Rattle.gc_station.specs.Reasons.{IsFor, HasConnectionFor}
-use Rattle.gc_station.specs.Model.{Model, requests_out, waiting_of, with_progress, with_moment, is_heard, after_open, Performs, moved}
+use Rattle.gc_station.specs.Reasons.{HoldsBefore, HasConnectionFor}
+use Rattle.gc_station.specs.Model.{Model, commands_before, waiting_of, with_progress, with_moment, is_heard, after_open, Performs, moved}
 use Rattle.gc_station.specs.Tries.{endings_in, openings_in}
 use Rattle.gc_station.proofs.Closings.{came_phase}
 use Rattle.gc_station.proofs.Silences.{quieted_up}
 use Rattle.gc_station.proofs.Walk.{walk}
 use Rattle.gc_station.proofs.Turns.{up_count, again_down, closed_down}
-use Rattle.gc_station.proofs.Unbroken.{cleared_up, fails}
+use Rattle.gc_station.proofs.Unbroken.{cleared_up, failure_keeps_line}
 
 -- an act balances connections: those that it asks for, and 1 if there is one before it (`before`), are as many as those that it
 -- ends or can't make, and 1 if there is one after it (`behind`)
@@ -29,8 +29,8 @@ abbrev pub Counted : Bool → Act → Bool → Type 0
 Counted before act behind = openings_in (act ∷ []) + up_count before ≡ endings_in (act ∷ []) + up_count behind
 
 -- `Counted`, by the phases of models
-abbrev Counts : Model → Act → Model → Type 0
-Counts s act t = Counted (is_up s.progress.phase) act (is_up t.progress.phase)
+abbrev CountedAt : Model → Act → Model → Type 0
+CountedAt s act t = Counted (is_up s.progress.phase) act (is_up t.progress.phase)
 
 -- an act that asks for no connection and ends none is `Counted`, if there is one after it exactly if there was before
 calm : (before behind : Bool) → behind ≡ before → 0 + up_count before ≡ 0 + up_count behind
@@ -38,7 +38,7 @@ calm before behind same = ap (λ b. 0 + up_count b) (sym same)
 
 -- a failure keeps the count of `Counted`: it leaves the connection, which is to be closed
 failed : (s : Model) (why : Cause) → 0 + up_count (is_up s.progress.phase) ≡ 0 + up_count (is_up (with_progress (failing why) s).progress.phase)
-failed s why = let up = is_up s.progress.phase in calm up (is_up (if up then phase.Closing why else phase.Over why)) (fails up why)
+failed s why = let up = is_up s.progress.phase in calm up (is_up (if up then phase.Closing why else phase.Over why)) (failure_keeps_line up why)
 
 -- a close is `Counted`: there was a connection, and there is none after it
 close_counted : (before behind : Bool) → before ≡ true → behind ≡ false → Counted before Closed behind
@@ -57,27 +57,27 @@ up_for cause.Stopped p has never = absurd (never tt)
 up_for why p has never = has
 
 -- an act of each action is `Counted`, but for those that end a run whether there is a connection or not
-pub counted_moved : (plan : Plan) (commands : List Task) (next : Action) (s : Model) (act : Act) → Performs commands s next act → IsFor plan s.progress (waiting_of s) next → (Quits next → ⊥)
+pub counted_moved : (plan : Plan) (commands : List Task) (next : Action) (s : Model) (act : Act) → Performs commands s next act → HoldsBefore plan s.progress (waiting_of s) next → (Quits next → ⊥)
     → Counted (is_up s.progress.phase) act (is_up (moved plan commands next (with_progress turned s) act).progress.phase)
 counted_moved plan commands actions.Open s act o needs never =
     let down : up_count (is_up s.progress.phase) ≡ 0 = ap (λ at. up_count (is_up at)) needs in
     let again : up_count (is_up (after_open plan (with_progress turned s) Unopened).progress.phase) ≡ 0 = ap up_count (again_down plan (commands_in s.marks) cause.Open (turned s.progress)) in
-    walk plan commands (Counts s) actions.Open (with_progress turned s) act o (λ m. omega (arith, down), λ n. omega (arith, down, again))
+    walk plan commands (CountedAt s) actions.Open (with_progress turned s) act o (λ m. omega (arith, down), λ n. omega (arith, down, again))
 counted_moved plan commands actions.Clear s act o needs never =
     let at = (cleared (turned s.progress)).phase in
     let up : is_up at ≡ is_up s.progress.phase = cleared_up (has_begun s.progress) ∙ sym (ap is_up needs) in
-    walk plan commands (Counts s) actions.Clear (with_progress turned s) act o
-    (λ m. calm (is_up s.progress.phase) (is_up at) up, λ n. calm (is_up s.progress.phase) _ (fails (is_up at) (cause.Write (requests_out plan commands (turned s.progress)) n) ∙ up))
+    walk plan commands (CountedAt s) actions.Clear (with_progress turned s) act o
+    (λ m. calm (is_up s.progress.phase) (is_up at) up, λ n. calm (is_up s.progress.phase) _ (failure_keeps_line (is_up at) (cause.Write (commands_before plan commands (turned s.progress)) n) ∙ up))
 counted_moved plan commands actions.Ask s act o needs never =
-    walk plan commands (Counts s) actions.Ask (with_progress turned s) act o (λ m. refl, λ n. failed s (cause.Write (requests_out plan commands (turned s.progress)) n))
+    walk plan commands (CountedAt s) actions.Ask (with_progress turned s) act o (λ m. refl, λ n. failed s (cause.Write (commands_before plan commands (turned s.progress)) n))
 counted_moved plan commands actions.Prepare s act o needs never =
-    walk plan commands (Counts s) actions.Prepare (with_progress turned s) act o (λ m. refl, λ n. failed s (cause.Write (requests_out plan commands (turned s.progress)) n))
+    walk plan commands (CountedAt s) actions.Prepare (with_progress turned s) act o (λ m. refl, λ n. failed s (cause.Write (commands_before plan commands (turned s.progress)) n))
 counted_moved plan commands actions.Send s act o needs never =
-    walk plan commands (Counts s) actions.Send (with_progress turned s) act o (λ m. refl, λ n. failed s (cause.Write (requests_out plan commands (turned s.progress)) n))
+    walk plan commands (CountedAt s) actions.Send (with_progress turned s) act o (λ m. refl, λ n. failed s (cause.Write (commands_before plan commands (turned s.progress)) n))
 counted_moved plan commands actions.Flush s act o needs never =
-    walk plan commands (Counts s) actions.Flush (with_progress turned s) act o (λ m. refl, λ n. failed s (cause.Write (requests_out plan commands (turned s.progress)) n))
+    walk plan commands (CountedAt s) actions.Flush (with_progress turned s) act o (λ m. refl, λ n. failed s (cause.Write (commands_before plan commands (turned s.progress)) n))
 counted_moved plan commands (actions.Read until) s act o needs never =
-    walk plan commands (Counts s) (actions.Read until) (with_progress turned s) act o (
+    walk plan commands (CountedAt s) (actions.Read until) (with_progress turned s) act o (
       λ bytes m. calm (is_up s.progress.phase) _ (ap is_up (came_phase (is_heard s.progress.phase) s.progress.word bytes (with_moment m (with_progress (moment_noted m) (with_progress turned s))))),
       λ m. calm (is_up s.progress.phase) _ (quieted_up plan s.progress.phase (time_passed until m (turned s.progress)) refl),
       failed s cause.End,
@@ -85,8 +85,8 @@ counted_moved plan commands (actions.Read until) s act o needs never =
       failed s cause.Clock,
     )
 counted_moved plan commands (actions.Close why) s act o needs never =
-    walk plan commands (Counts s) (actions.Close why) (with_progress turned s) act o
+    walk plan commands (CountedAt s) (actions.Close why) (with_progress turned s) act o
     (close_counted (is_up s.progress.phase) (is_up (closed plan (waiting_of s) why (turned s.progress)).phase) (up_for why s.progress needs.0 never)
     (closed_down plan (waiting_of s) why (turned s.progress)))
 counted_moved plan commands (actions.Stop why) s act o needs never = absurd o
-counted_moved plan commands next s act o needs never = walk plan commands (Counts s) next (with_progress turned s) act o (λ m. refl, λ n. failed s cause.Clock)
+counted_moved plan commands next s act o needs never = walk plan commands (CountedAt s) next (with_progress turned s) act o (λ m. refl, λ n. failed s cause.Clock)

@@ -15,25 +15,27 @@ use Rattle.gc_station.proofs.Closings.{needs_of}
 pub send_done : (plan : Plan) (s : Model) → action_at plan s ≡ Send → is_preparing plan s.progress (waiting_of s) ≡ false
 send_done plan s is = (needs_of plan s Send is).8
 
--- if a command of the setup is next, that isn't done
+-- if a command of the setup is next, the setup isn't done
 pub prepare_on : (plan : Plan) (s : Model) → action_at plan s ≡ Prepare → is_preparing plan s.progress (waiting_of s) ≡ true
 prepare_on plan s is = (needs_of plan s Prepare is).2.0
 
--- if a command of a cycle is next, the cycle and the place of what is sent are its own
+-- if a command of a cycle is next, the cycle of what is sent is the number of cycles begun
 pub send_cycle : (plan : Plan) (s : Model) → action_at plan s ≡ Send → cycle_out plan s ≡ cycles_begun plan s.progress
 send_cycle plan s is = ap (λ (b : Bool). if b then 0 else cycles_begun plan s.progress) (send_done plan s is)
 
+-- if a command of a cycle is next, the place of what is sent is the cycle's next place
 pub send_place : (plan : Plan) (commands : List Task) (s : Model) → action_at plan s ≡ Send → place_out plan commands s ≡ place_next commands s.progress
 send_place plan commands s is = ap (λ (b : Bool). if b then s.progress.prepared else place_next commands s.progress) (send_done plan s is)
 
--- if a command of the setup is next, what is sent has cycle 0, and its place
+-- if a command of the setup is next, the cycle of what is sent is 0
 pub prepare_cycle : (plan : Plan) (s : Model) → action_at plan s ≡ Prepare → cycle_out plan s ≡ 0
 prepare_cycle plan s is = ap (λ (b : Bool). if b then 0 else cycles_begun plan s.progress) (prepare_on plan s is)
 
+-- if a command of the setup is next, the place of what is sent is the setup's next place
 pub prepare_place : (plan : Plan) (commands : List Task) (s : Model) → action_at plan s ≡ Prepare → place_out plan commands s ≡ s.progress.prepared
 prepare_place plan commands s is = ap (λ (b : Bool). if b then s.progress.prepared else place_next commands s.progress) (prepare_on plan s is)
 
--- what is sent with a cycle above 0 is of a cycle
+-- if a command is sent whose cycle is above 0, the action is `Send`
 pub sends_of_cycle : (plan : Plan) (s : Model) → IsSending plan s → 0 < cycle_out plan s → action_at plan s ≡ Send
 sends_of_cycle plan s (inl is) many = is
 sends_of_cycle plan s (inr is) many = let none = prepare_cycle plan s is in absurd (omega (arith, none, many))
@@ -44,11 +46,11 @@ sending_asks plan s (inl is) = subst IsAsking (sym is) tt
 sending_asks plan s (inr is) = subst IsAsking (sym is) tt
 
 -- the action o sends the command with this mark: the next of a cycle, or the next of the setup
-abbrev pub SendsIt : Plan → List Task → Model → Action → Mark → Type 0
-SendsIt plan commands s o mark = ((o ≡ Send) × (mark ≡ mark_next plan commands s.progress)) ⊎ ((o ≡ Prepare) × (mark ≡ mark_setup commands s.progress))
+abbrev pub SendsMarked : Plan → List Task → Model → Action → Mark → Type 0
+SendsMarked plan commands s o mark = ((o ≡ Send) × (mark ≡ mark_next plan commands s.progress)) ⊎ ((o ≡ Prepare) × (mark ≡ mark_setup commands s.progress))
 
 -- if the mark is of a cycle, the command of a cycle is sent
-pub of_a_cycle : (plan : Plan) (commands : List Task) (s : Model) (o : Action) (mark : Mark) → SendsIt plan commands s o mark → 0 < mark.cycle
+pub of_a_cycle : (plan : Plan) (commands : List Task) (s : Model) (o : Action) (mark : Mark) → SendsMarked plan commands s o mark → 0 < mark.cycle
     → (o ≡ Send) × (mark ≡ mark_next plan commands s.progress)
 of_a_cycle plan commands s o mark (inl it) many = it
 of_a_cycle plan commands s o mark (inr it) many = let none : mark.cycle ≡ 0 = ap (λ (m : Mark). m.cycle) it.1 in absurd (omega (arith, none, many))

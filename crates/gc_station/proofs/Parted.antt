@@ -1,15 +1,15 @@
 -- What had its turn is what was kept and what was left out, each in order (`Parted`): one list grows with each command that had
 -- its turn, and so does one of the other two.
 use Rattle.std.proofs.Common.{Bool, true, false, nat_lt, ◌≡◌, ◌⊎◌, inl, inr, ℕ, zero, suc, ◌+◌, ◌-◌, ◌<◌, ◌≤◌, List, [], ◌∷◌, ◌++◌, length, take, drop, map, refl, sym, ap, ◌∙◌, subst, arith, append_assoc}
-use Rattle.std.proofs.lemmas.List.{length-map, length-drop, map-append, nil_from_length}
+use Rattle.std.proofs.lemmas.List.{length-map, length-drop, length-take, map-append, nil_from_length, take_all}
 use Rattle.std.proofs.lemmas.Bool.{ltb-true, ltb-false}
 use Rattle.std.specs.List.{AllByRecursion}
 use Rattle.gc_catalogue.specs.declared.asked.Asked.{Asked}
 use Rattle.gc_client.specs.OneForOne.{Wanted}
 use Rattle.gc_texts.specs.declared.tasks.Task.{Task}
-use Rattle.gc_station.specs.EachOnce.{Parted, Request, requests, of_task, all_cycles, sent_by}
-use Rattle.gc_station.proofs.Each.{drop_front, requests-append}
-use Rattle.gc_station.proofs.Lists.{all_append, all_on}
+use Rattle.gc_station.specs.EachOnce.{Parted, Request, requests, of_task, all_cycles, commands_reached}
+use Rattle.gc_station.proofs.Each.{requests-append}
+use Rattle.gc_station.proofs.Lists.{all_append, all_on, drop_append}
 
 -- a list is parted into itself and nothing
 parted_kept : {A : Type 0} (us : List A) → Parted us [] us
@@ -45,61 +45,45 @@ parted_all P xs ys [] h all = subst (AllByRecursion P) (sym h.1) tt
 parted_all P xs ys (z ∷ zs) (inl k) all = parted_all P k.0 ys zs k.2 all.1
 parted_all P xs ys (z ∷ zs) (inr k) all = subst (AllByRecursion P) (sym k.1) (all.0, parted_all P xs k.0 zs k.2 all.1)
 
--- none can be taken of an empty list
+-- the first k elements of an empty list are none
 take_none : {A : Type 0} (k : ℕ) → take {A = A} k [] ≡ []
 take_none zero = refl
 take_none (suc k) = refl
 
--- the first ones of a list, and so many of the others, are so many of the list
-take_more : {A : Type 0} (n k : ℕ) (xs : List A) → take n xs ++ take k (drop n xs) ≡ take (n + k) xs
-take_more zero k xs = ap (λ (m : ℕ). take m xs) (omega arith)
-take_more {A} (suc n) k [] = take_none {A = A} k ∙ sym (take_none {A = A} (suc n + k))
-take_more (suc n) k (x ∷ xs) = let more : suc (n + k) ≡ suc n + k = omega arith in ap (λ ys. x ∷ ys) (take_more n k xs) ∙ ap (λ (m : ℕ). take m (x ∷ xs)) more
+-- the first n elements of a list, and then k of the others, are its first n + k
+take_then_take : {A : Type 0} (n k : ℕ) (xs : List A) → take n xs ++ take k (drop n xs) ≡ take (n + k) xs
+take_then_take zero k xs = ap (λ (m : ℕ). take m xs) (omega arith)
+take_then_take {A} (suc n) k [] = take_none {A = A} k ∙ sym (take_none {A = A} (suc n + k))
+take_then_take (suc n) k (x ∷ xs) = let more : suc (n + k) ≡ suc n + k = omega arith in ap (λ ys. x ∷ ys) (take_then_take n k xs) ∙ ap (λ (m : ℕ). take m (x ∷ xs)) more
 
--- so many of a list are all that it has, if it has no more
-take_all : {A : Type 0} (a b : ℕ) (xs : List A) → length xs ≤ a → length xs ≤ b → take a xs ≡ take b xs
-take_all zero zero xs m n = refl
-take_all zero (suc b) [] m n = refl
-take_all zero (suc b) (x ∷ xs) m n = absurd (omega (arith, m))
-take_all (suc a) zero [] m n = refl
-take_all (suc a) zero (x ∷ xs) m n = absurd (omega (arith, n))
-take_all (suc a) (suc b) [] m n = refl
-take_all (suc a) (suc b) (x ∷ xs) m n = ap (λ ys. x ∷ ys) (take_all a b xs (omega (arith, m)) (omega (arith, n)))
-
--- the commands that had their turn, with so many of the next ones after them, are those that had their turn at a place after
--- these, or at the end
+-- the commands that had their turn, with the next `count` ones after them, are those that had their turn at a place `count` further
+-- on, or at the end of the list if that is nearer
 pub sent_past : (setup : ℕ) (commands : List Task) (begun place count place' : ℕ) → setup ≤ place → place ≤ length commands → 0 < begun
     → (place' ≡ place + count) ⊎ ((place' ≡ length commands) × (length commands ≤ place + count))
-    → sent_by setup commands begun place ++ requests begun place (map of_task (take count (drop place commands))) ≡ sent_by setup commands begun place'
+    → commands_reached setup commands begun place ++ requests begun place (map of_task (take count (drop place commands))) ≡ commands_reached setup commands begun place'
 sent_past setup commands zero place count place' low within some at = absurd (omega (arith, some))
 sent_past setup commands (suc n) place count place' low within some at =
     let front = drop setup (take place commands) in
     let taken = map of_task front in
     let more = map of_task (take count (drop place commands)) in
     let cycles = all_cycles setup commands n in
-    let many : length (take place commands) ≡ place = length_take place commands within in
+    let many : length (take place commands) ≡ place = let l = length-take place commands in omega (arith, l, within) in
     let count_is : setup + length taken ≡ place = let m = length-map front of_task in let d = length-drop setup (take place commands) in omega (arith, m, d, many, low) in
     append_assoc cycles (requests (suc n) setup taken) (requests (suc n) place more)
     ∙ ap (λ b. cycles ++ (requests (suc n) setup taken ++ requests (suc n) b more)) (sym count_is)
     ∙ ap (λ xs. cycles ++ xs) (sym (requests-append (suc n) setup taken more))
     ∙ ap (λ xs. cycles ++ requests (suc n) setup xs) (sym (map-append of_task front (take count (drop place commands)))
-    ∙ ap (map of_task) (sym (drop_front setup (take place commands) (take count (drop place commands)) (omega (arith, many, low))) ∙ ap
-    (drop setup) (take_more place count commands ∙ as_many at))) where
-      -- the first ones of a list that has as many are so many
-      length_take : (k : ℕ) (xs : List Task) → k ≤ length xs → length (take k xs) ≡ k
-      length_take zero xs few = refl
-      length_take (suc k) [] few = absurd (omega (arith, few))
-      length_take (suc k) (x ∷ xs) few = ap suc (length_take k xs (omega (arith, few)))
-
-      -- the first ones up to the place after are those up to the new place
+    ∙ ap (map of_task) (sym (drop_append setup (take place commands) (take count (drop place commands)) (omega (arith, many, low))) ∙ ap
+    (drop setup) (take_then_take place count commands ∙ as_many at))) where
+      -- the first `place + count` commands are those before the new place
       as_many : ((place' ≡ place + count) ⊎ ((place' ≡ length commands) × (length commands ≤ place + count))) → take (place + count) commands ≡ take place' commands
       as_many (inl is) = ap (λ (k : ℕ). take k commands) (sym is)
-      as_many (inr is) = take_all (place + count) place' commands is.1 (omega (arith, is.0))
+      as_many (inr is) = take_all (place + count) commands is.1 ∙ sym (take_all place' commands (omega (arith, is.0)))
 
--- the commands after so many of the next ones are those after the place that is so many further, or at the end
+-- the commands that are left after `count` more are the same by the place of the next one and by how many are unsent
 pub drop_past : (commands : List Task) (unsent count : ℕ) → unsent ≤ length commands → drop ((length commands - unsent) + count) commands ≡ drop (length commands - (unsent - count)) commands
 drop_past commands unsent count within = by_count (nat_lt unsent count) refl where
-  -- the lemma above, where fewer are unsent (`true`), and none is left of either
+  -- the lemma above, by whether fewer than `count` are unsent (`true`): then both lists are empty
   by_count : (b : Bool) → nat_lt unsent count ≡ b → drop ((length commands - unsent) + count) commands ≡ drop (length commands - (unsent - count)) commands
   by_count true e =
       let more = ltb-true unsent count e in
@@ -114,7 +98,7 @@ requests_before : (cycle place : ℕ) (asks : List (Wanted Asked)) → AllByRecu
 requests_before cycle place [] = tt
 requests_before cycle place (a ∷ others) =
     ((refl, omega arith), all_by cycle (place + 1) (length others) place (length (a ∷ others)) (requests cycle (place + 1) others) (omega arith) (requests_before cycle (place + 1) others)) where
-      -- a place below one number is below another that is the same
+      -- a place below one sum is below an equal sum
       all_by : (cycle a m b n : ℕ) (rs : List Request) → a + m ≡ b + n → AllByRecursion (λ (r : Request). (r.cycle ≡ cycle) × (r.place < a + m)) rs
           → AllByRecursion (λ (r : Request). (r.cycle ≡ cycle) × (r.place < b + n)) rs
       all_by cycle a m b n [] e all = tt
@@ -138,24 +122,18 @@ cycles_before setup commands (suc n) place =
       later r (inr same) = inl (omega (arith, same.0))
 
 -- all that had its turn is before the next place
-pub sent_before : (setup : ℕ) (commands : List Task) (cycle place : ℕ) → setup ≤ place → AllByRecursion (IsInFront cycle place) (sent_by setup commands cycle place)
+pub sent_before : (setup : ℕ) (commands : List Task) (cycle place : ℕ) → setup ≤ place → AllByRecursion (IsInFront cycle place) (commands_reached setup commands cycle place)
 sent_before setup commands zero place low = tt
 sent_before setup commands (suc n) place low =
     all_append (IsInFront (suc n) place) (all_cycles setup commands n) (requests (suc n) setup (map of_task (drop setup (take place commands)))) (cycles_before setup commands n place)
     (all_on _ (IsInFront (suc n) place) (requests (suc n) setup (map of_task (drop setup (take place commands))))
     (λ r h. inr (h.0, few r.place h.1)) (requests_before (suc n) setup (map of_task (drop setup (take place commands))))) where
-      -- no more than so many are taken
-      taken : (k : ℕ) (xs : List Task) → length (take k xs) ≤ k
-      taken zero xs = omega arith
-      taken (suc k) [] = omega arith
-      taken (suc k) (x ∷ xs) = let t = taken k xs in omega (arith, t)
-
       -- a place among those that were taken is below the next one
       few : (p : ℕ) → p < setup + length (map of_task (drop setup (take place commands))) → p < place
       few p less =
           let m = length-map (drop setup (take place commands)) of_task in
           let d = length-drop setup (take place commands) in
-          let t = taken place commands in
+          let t = length-take place commands in
           omega (arith, less, m, d, t, low)
 
 -- if the last of what had its turn isn't among what was left out, it is the last of what was kept

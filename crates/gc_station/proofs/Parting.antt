@@ -21,9 +21,9 @@ use Rattle.gc_station.specs.declared.progress.Progress.{Progress}
 use Rattle.gc_station.specs.declared.progress.Until.{Until}
 use Rattle.gc_links.specs.Acts.{Act, Told, Put, Cut, Gave}
 use Rattle.gc_station.specs.Deciding.{later, has_begun, is_none_left}
-use Rattle.gc_station.specs.Parts.{Turn, Part, only_turns, only, nothing, putting, asking, asking_first, hearing, doing, beginning, acting, sent_of, asking_or_null}
+use Rattle.gc_station.specs.Parts.{Turn, Part, only_turns, only_steps, nothing, putting, asking, asking_first, hearing, doing, beginning, acting, sent_of, asking_or_null}
 use Rattle.gc_station.specs.Progressing.{moment_noted, turned, skipped_at}
-use Rattle.gc_station.specs.Reasons.{IsFor}
+use Rattle.gc_station.specs.Reasons.{HoldsBefore}
 use Rattle.gc_station.specs.Records.{Record}
 use Rattle.gc_station.specs.declared.mark.Mark.{Mark}
 use Rattle.gc_station.specs.Model.{Model, waiting_of, place_next, mark_next, Performs, with_progress, with_moment, with_rest, asks_null, asks_first, skips, skips_first, line_came, lines_came, lines_completed, is_heard, after_piece, after_read, moved, mark_setup, asks_or_null}
@@ -45,25 +45,26 @@ Paired s = length s.marks ≡ length s.client.waiting
 
 module _ (plan : Plan) (commands : List Task) where
   -- a line that is heard leads on by the step that hears it
-  heard_books : (s : Model) (line : List ℕ) → Paired s → Leads commands s (only (Hear line ∷ [])) (line_came s line)
+  heard_books : (s : Model) (line : List ℕ) → Paired s → Leads commands s (only_steps (Hear line ∷ [])) (line_came s line)
   heard_books s line paired =
       let x = hears s.client line (heard line) in
       let written = sent_records s.reads s.records s.progress.moment.utc s.marks x.settlements in
-      subst (λ (rs : List Record). Books s.reads commands s.client s.marks (sent_of s.records) (only (Hear line ∷ [])) x.client (drop (length x.settlements) s.marks) rs) (sym written)
+      subst (λ (rs : List Record). Books s.reads commands s.client s.marks (sent_of s.records) (only_steps (Hear line ∷ [])) x.client (drop (length x.settlements) s.marks) rs) (sym written)
       (books_line s.reads commands s.client s.marks (sent_of s.records) s.progress.moment.utc line paired)
 
   -- lines that are heard lead on by the steps that hear them, in order
-  leads_lines : (s : Model) (lines : List (List ℕ)) → Paired s → Leads commands s (only (map Hear lines)) (lines_came s lines)
+  leads_lines : (s : Model) (lines : List (List ℕ)) → Paired s → Leads commands s (only_steps (map Hear lines)) (lines_came s lines)
   leads_lines s [] paired = books_nothing s.reads commands s.client s.marks (sent_of s.records)
   leads_lines s (line ∷ others) paired =
       let t = line_came s line in
       let u = lines_came t others in
-      books_both s.reads commands s.client t.client u.client s.marks t.marks u.marks (sent_of s.records) (sent_of t.records) (sent_of u.records) (only (Hear line ∷ [])) (only (map Hear others))
+      books_both s.reads commands s.client t.client u.client s.marks t.marks u.marks (sent_of s.records) (sent_of t.records) (sent_of u.records)
+      (only_steps (Hear line ∷ [])) (only_steps (map Hear others))
       (heard_books s line paired)
       (leads_lines t others (hears_paired s.marks s.client line (heard line) paired))
 
   -- a piece leads on by the steps that hear its lines; by none if it is discarded
-  leads_came : (h : Bool) (word piece : List ℕ) (s : Model) → is_none_left word ≡ true → Paired s → Leads commands s (only (hearing h s.rest piece)) (after_piece h word piece s)
+  leads_came : (h : Bool) (word piece : List ℕ) (s : Model) → is_none_left word ≡ true → Paired s → Leads commands s (only_steps (hearing h s.rest piece)) (after_piece h word piece s)
   leads_came true (asked ∷ others) piece s begun paired = cc
   leads_came true [] piece s begun paired = leads_lines (with_rest (rest_behind s.rest piece) s) (lines_completed s.rest piece) paired
   leads_came false word piece s begun paired = books_nothing s.reads commands s.client s.marks (sent_of s.records)
@@ -79,7 +80,7 @@ module _ (plan : Plan) (commands : List Task) where
       let x = with_moment m (with_progress (moment_noted m) (with_progress turned s)) in
       let t = after_piece (is_heard s.progress.phase) s.progress.word bytes x in
       books_both s.reads commands s.client x.client t.client s.marks s.marks t.marks (sent_of s.records) (sent_of s.records) (sent_of t.records)
-      (only (Expire m.elapsed ∷ [])) (only (hearing (is_heard s.progress.phase) s.rest bytes))
+      (only_steps (Expire m.elapsed ∷ [])) (only_steps (hearing (is_heard s.progress.phase) s.rest bytes))
       (books_moment s.reads commands s.client s.marks (sent_of s.records) m.elapsed)
       (leads_came (is_heard s.progress.phase) s.progress.word bytes x begun (paired_told s m.elapsed paired))
 
@@ -109,7 +110,9 @@ module _ (plan : Plan) (commands : List Task) where
   skips_first_unsent p m mark [] = refl
   skips_first_unsent p m mark (task ∷ others) = by_case p.missed where
     -- the lemma above, whether its cycle is missed (`true`) or it is skipped
-    by_case : (b : Bool) → sent_of (record { sent = None; utc = skipped_at m p; cycle = mark.cycle; place = mark.place; turn = mark.expected.turn; command = task.command; end = if b then Missed else Skipped } ∷ []) ≡ []
+    by_case : (b : Bool)
+        → sent_of (record
+        { sent = None; utc = skipped_at m p; cycle = mark.cycle; place = mark.place; turn = mark.expected.turn; command = task.command; end = if b then Missed else Skipped } ∷ []) ≡ []
     by_case true = refl
     by_case false = refl
 
@@ -130,11 +133,11 @@ module _ (plan : Plan) (commands : List Task) where
   none_booked s = books_nothing s.reads commands s.client s.marks (sent_of s.records)
 
   -- a moment leads on by the step that reads it
-  moment_booked : (s : Model) (m : Moment) → Leads commands s (only (Expire m.elapsed ∷ [])) (with_moment m s)
+  moment_booked : (s : Model) (m : Moment) → Leads commands s (only_steps (Expire m.elapsed ∷ [])) (with_moment m s)
   moment_booked s m = books_moment s.reads commands s.client s.marks (sent_of s.records) m.elapsed
 
   -- an act of each action leads on by its part, once the station has synchronized
-  leads_order : (s : Model) (o : Action) (act : Act) → Invariant plan commands s → IsFor plan s.progress (waiting_of s) o → Performs commands s o act → has_begun s.progress ≡ true
+  leads_order : (s : Model) (o : Action) (act : Act) → Invariant plan commands s → HoldsBefore plan s.progress (waiting_of s) o → Performs commands s o act → has_begun s.progress ≡ true
       → Leads commands s (doing plan commands s o act) (moved plan commands o (with_progress turned s) act)
   leads_order s action.Open act fine is obeys begun = walk plan commands (LeadsSo action.Open s) action.Open (with_progress turned s) act obeys (λ m. none_booked s, λ n. none_booked s)
   leads_order s action.Clear act fine is obeys begun = walk plan commands (LeadsSo action.Clear s) action.Clear (with_progress turned s) act obeys (λ m. none_booked s, λ n. none_booked s)
@@ -153,7 +156,7 @@ module _ (plan : Plan) (commands : List Task) where
   leads_order s action.Skip act fine is obeys begun =
       let books = Books s.reads commands s.client s.marks (sent_of s.records) in
       walk plan commands (LeadsSo action.Skip s) action.Skip (with_progress turned s) act obeys (
-        λ m. subst (λ (rs : List Record). books (only (Expire m.elapsed ∷ [])) (expires s.client m.elapsed) s.marks rs)
+        λ m. subst (λ (rs : List Record). books (only_steps (Expire m.elapsed ∷ [])) (expires s.client m.elapsed) s.marks rs)
             (sym (none_sent s.records (skips plan commands (turned s.progress) (Told m)) (skips_unsent (with_progress turned s) m))) (moment_booked s m),
         λ n. subst (λ (rs : List Record). books nothing s.client s.marks rs) (sym (none_sent s.records [] refl)) (none_booked s),
       )
@@ -182,7 +185,7 @@ module _ (plan : Plan) (commands : List Task) where
   new_told s m new = ap (λ c. expires c m.elapsed) new
 
   -- while the station synchronizes, an act of each action leaves the client new, and the marks and the records as they are
-  pub keeps_action : (s : Model) (o : Action) (act : Act) → IsFor plan s.progress (waiting_of s) o → Performs commands s o act → has_begun s.progress ≡ false
+  pub keeps_action : (s : Model) (o : Action) (act : Act) → HoldsBefore plan s.progress (waiting_of s) o → Performs commands s o act → has_begun s.progress ≡ false
       → s.client ≡ fresh → Keeps s act (moved plan commands o (with_progress turned s) act)
   keeps_action s action.Renew act is obeys begins new = absurd (not_both (has_begun s.progress) is.1 begins)
   keeps_action s action.Begin act is obeys begins new = absurd (not_both (has_begun s.progress) is.1 begins)
@@ -223,7 +226,7 @@ module _ (plan : Plan) (commands : List Task) where
       (subst (λ (x : List Record). books s.client s.marks (sent_of x)) rs (books_turns s.reads commands s.client s.marks (sent_of s.records) turns)))
 
   -- an act of each action leads on by its part, while the station synchronizes
-  leads_begins : (s : Model) (o : Action) (act : Act) → Invariant plan commands s → IsFor plan s.progress (waiting_of s) o → Performs commands s o act → has_begun s.progress ≡ false
+  leads_begins : (s : Model) (o : Action) (act : Act) → Invariant plan commands s → HoldsBefore plan s.progress (waiting_of s) o → Performs commands s o act → has_begun s.progress ≡ false
       → Leads commands s (beginning s o act) (moved plan commands o (with_progress turned s) act)
   leads_begins s o act fine is obeys begins =
       let t = moved plan commands o (with_progress turned s) act in
@@ -232,7 +235,7 @@ module _ (plan : Plan) (commands : List Task) where
       subst (λ (p : Part). Leads commands s p t) (sym (only_of s o act)) (same_led s (beginning s o act).turns t (new ∙ sym k.0) (sym k.1) (sym k.2))
 
   -- an act of each action leads on by its part
-  pub leads : (s : Model) (o : Action) (act : Act) → Invariant plan commands s → IsFor plan s.progress (waiting_of s) o → Performs commands s o act
+  pub leads : (s : Model) (o : Action) (act : Act) → Invariant plan commands s → HoldsBefore plan s.progress (waiting_of s) o → Performs commands s o act
       → Leads commands s (acting plan commands s o act) (moved plan commands o (with_progress turned s) act)
   leads s o act fine is obeys =
       either (λ (p : Part). Leads commands s p (moved plan commands o (with_progress turned s) act)) (doing plan commands s o act) (beginning s o act) (has_begun s.progress)

@@ -7,7 +7,7 @@ use Rattle.gc_lines.specs.Frames.{rest_behind}
 use Rattle.gc_catalogue.specs.declared.answer.Reading.{Reading}
 use Rattle.gc_catalogue.specs.declared.asked.Asked.{Asked}
 use Rattle.gc_client.specs.declared.pending.Pending.{Pending}
-use Rattle.gc_client.specs.Ids.{Waits, id_at, IsWindow}
+use Rattle.gc_client.specs.Ids.{Waits, id_at, IsWithinLimits}
 use Rattle.gc_client.specs.Rule.{ById, Settlement, place as place_behind, heard, hears}
 use Rattle.gc_client.proofs.Digits.{heard_by_grammar}
 use Rattle.gc_texts.specs.declared.wish.Wish.{Wish}
@@ -48,7 +48,7 @@ regroup start news front r back more =
 -- after some lines of the piece that an act brings, at the moment m, the model is x: the outstanding requests were put among
 -- the acts before that act, and the records so far are true by the acts up to it
 pub record Hears (plan : Plan) (commands : List Task) (scope : Scope) (acts : List Act) (piece : List ℕ) (m : Moment) (x : Model) : Type 0 where
-  pub window : IsWindow x.client
+  pub window : IsWithinLimits x.client
   pub waiting : Rows (WaitsAt plan commands scope acts (state_after plan commands scope acts).client m.elapsed x.client.next (length x.client.waiting)) 0 0 x.client.waiting x.marks
   pub written : AllByRecursion (IsJustified plan commands scope (acts ++ Gave piece m ∷ [])) x.records
   pub news : List Record
@@ -91,7 +91,7 @@ written_down plan commands scope acts piece m number at id p mark r news earlier
     }
 
 -- the id that was heard is that of the request at its place
-id_heard : (c : ById Asked) (line : List ℕ) (at next : ℕ) → IsWindow c → HasPlace c (heard line) at → id_at c.next (length c.waiting) at ≡ next → heard line ≡ Some next
+id_heard : (c : ById Asked) (line : List ℕ) (at next : ℕ) → IsWithinLimits c → HasPlace c (heard line) at → id_at c.next (length c.waiting) at ≡ next → heard line ≡ Some next
 id_heard c line at next w has is =
     let back = id_back c.next (length c.waiting) has.id w.digit w.few (id_digit line has.id has.has) in
     has.has ∙ ap Some (sym back ∙ ap (λ (k : ℕ). id_at c.next (length c.waiting) k) (sym has.is) ∙ is)
@@ -99,7 +99,7 @@ id_heard c line at next w has is =
 -- a line of the piece has the id `next`, which is that of the request at the place `at`: so the piece brings that id (`BringsLine`)
 brings : (plan : Plan) (commands : List Task) (scope : Scope) (acts : List Act) (piece : List ℕ) (c : ById Asked) (front others : List (List ℕ)) (line : List ℕ)
     (at next : ℕ) (before : List Act) (request : Act) (between : List Act)
-    → front ++ line ∷ others ≡ lines_completed (state_after plan commands scope acts).rest piece → acts ≡ before ++ request ∷ between → IsWindow c
+    → front ++ line ∷ others ≡ lines_completed (state_after plan commands scope acts).rest piece → acts ≡ before ++ request ∷ between → IsWithinLimits c
     → HasPlace c (heard line) at → id_at c.next (length c.waiting) at ≡ next
     → BringsLine plan commands scope (before ++ request ∷ between) piece next
 brings plan commands scope acts piece c front others line at next before request between split action w has is = record {
@@ -127,7 +127,7 @@ too_late now d false acts act is past both = cc
 -- the record of an answer, of the request with this mark, is as `IsAnsweredIn` says
 answered : (plan : Plan) (commands : List Task) (scope : Scope) (acts : List Act) (piece : List ℕ) (m : Moment) (c : ById Asked) (front others : List (List ℕ))
     (line l : List ℕ) (number at : ℕ) (p : Pending Asked) (mark : Mark) (r : Record)
-    → front ++ line ∷ others ≡ lines_completed (state_after plan commands scope acts).rest piece → IsWindow c
+    → front ++ line ∷ others ≡ lines_completed (state_after plan commands scope acts).rest piece → IsWithinLimits c
     → (s : WasAsked plan commands scope acts (StayedAt m.elapsed) number at (id_at c.next (length c.waiting) at) p (Some mark))
     → WrittenDown plan commands scope acts piece m s.before s.request s.between r
     → l ≡ line → p.given_up ≡ false → HasPlace c (heard line) at
@@ -155,7 +155,7 @@ answered plan commands scope acts piece m c front others line l number at p mark
 -- the record of a late reply, of the request with this mark, is as `IsLateIn` says
 late : (plan : Plan) (commands : List Task) (scope : Scope) (acts : List Act) (piece : List ℕ) (m : Moment) (c : ById Asked) (front others : List (List ℕ))
     (line : List ℕ) (number at : ℕ) (p : Pending Asked) (mark : Mark) (r : Record)
-    → front ++ line ∷ others ≡ lines_completed (state_after plan commands scope acts).rest piece → IsWindow c
+    → front ++ line ∷ others ≡ lines_completed (state_after plan commands scope acts).rest piece → IsWithinLimits c
     → (s : WasAsked plan commands scope acts (StayedAt m.elapsed) number at (id_at c.next (length c.waiting) at) p (Some mark))
     → WrittenDown plan commands scope acts piece m s.before s.request s.between r
     → p.given_up ≡ true → HasPlace c (heard line) at
@@ -178,7 +178,7 @@ late plan commands scope acts piece m c front others line number at p mark r spl
 -- a request that is lost was overtaken: the piece brings the reply to a request that was put after it, and that waits
 overtaken : (plan : Plan) (commands : List Task) (scope : Scope) (acts : List Act) (piece : List ℕ) (m : Moment) (c : ById Asked) (front others : List (List ℕ))
     (line : List ℕ) (number at there : ℕ) (p q : Pending Asked) (mark mark' : Option Mark) (number' : ℕ)
-    → front ++ line ∷ others ≡ lines_completed (state_after plan commands scope acts).rest piece → IsWindow c
+    → front ++ line ∷ others ≡ lines_completed (state_after plan commands scope acts).rest piece → IsWithinLimits c
     → (s : WasAsked plan commands scope acts (StayedAt m.elapsed) number at (id_at c.next (length c.waiting) at) p mark)
     → WaitsAt plan commands scope acts (state_after plan commands scope acts).client m.elapsed c.next (length c.waiting) number' there q mark'
     → number < number' → at < there → HasPlace c (heard line) there
@@ -225,7 +225,7 @@ line_written plan commands scope acts reads now utc c marks line waits =
 -- the record of a request that a line settles is true
 line_true : (plan : Plan) (commands : List Task) (scope : Scope) (acts : List Act) (piece : List ℕ) (m : Moment) (c : ById Asked) (front others : List (List ℕ))
     (line : List ℕ) (r : Record) (news earlier later more : List Record)
-    → front ++ line ∷ others ≡ lines_completed (state_after plan commands scope acts).rest piece → IsWindow c
+    → front ++ line ∷ others ≡ lines_completed (state_after plan commands scope acts).rest piece → IsWithinLimits c
     → (state_after plan commands scope (acts ++ Gave piece m ∷ [])).records ≡ (((state_after plan commands scope acts).records ++ news) ++ (earlier ++ r ∷ later)) ++ more
     → IsRecorded plan commands scope acts m.elapsed c line r → IsJustified plan commands scope (acts ++ Gave piece m ∷ []) r
 line_true plan commands scope acts piece m c front others line r news earlier later more split w ends it =
@@ -300,7 +300,7 @@ piece_before m s = with_moment m (with_progress (moment_noted m) (with_progress 
 -- an act that brings a piece preserves `IsHonest`
 pub piece_honest : (plan : Plan) (commands : List Task) (scope : Scope) (acts : List Act) (piece : List ℕ) (m : Moment) (b : Bool) (word : List ℕ) (tail : List Record)
     → (state_after plan commands scope (acts ++ Gave piece m ∷ [])).records ≡ (after_piece b word piece (piece_before m (state_after plan commands scope acts))).records ++ tail
-    → IsWindow (state_after plan commands scope acts).client
+    → IsWithinLimits (state_after plan commands scope acts).client
     → IsHonest plan commands scope acts (acts ++ Gave piece m ∷ []) (state_after plan commands scope acts)
     → IsHonest plan commands scope (acts ++ Gave piece m ∷ []) (acts ++ Gave piece m ∷ []) (after_piece b word piece (piece_before m (state_after plan commands scope acts)))
 piece_honest plan commands scope acts piece m false word tail ends window h =

@@ -1,9 +1,9 @@
 -- No command of a cycle is sent before the setup is done: each command of it was answered well, in order, since the connection
 -- was made and the station synchronized. So it is before each command of the setup, and those before it.
 use Rattle.std.proofs.Common.{◌≡◌, ◌⊎◌, inl, inr, ℕ, zero, suc, ◌+◌, ◌<◌, ◌≤◌, ◌&&◌, ◌||◌, Bool, true, false, not, nat_eq, nat_le, nat_lt, min, List, [], ◌∷◌, ◌++◌, length, drop, map, refl, sym, ap, ◌∙◌, subst, arith, append_assoc, append-nil, leb-true, eqb-true, lt-ltb}
-use Rattle.std.proofs.lemmas.List.{map-append}
+use Rattle.std.proofs.lemmas.List.{map-append, append_cancel_left}
 use Rattle.gc_texts.specs.declared.tasks.Task.{Task}
-use Rattle.gc_links.specs.Acts.{Act, Told, Opened, Cut}
+use Rattle.gc_links.specs.Acts.{Act, Told, Opened}
 use Rattle.gc_station.specs.declared.plan.Plan.{Plan}
 use Rattle.gc_station.specs.declared.progress.Action.{Action}
 use Rattle.gc_station.specs.declared.progress.Action.TheVariants as action
@@ -12,7 +12,7 @@ use Rattle.gc_station.specs.Deciding.{is_preparing, is_up, has_begun}
 use Rattle.gc_station.specs.Marks.{is_well, last_well, commands_in}
 use Rattle.gc_station.specs.Progressing.{turned, is_over_in, loses_all}
 use Rattle.gc_station.specs.Quiet.{KeepsOpen}
-use Rattle.gc_station.specs.Reasons.{IsFor}
+use Rattle.gc_station.specs.Reasons.{HoldsBefore}
 use Rattle.gc_station.specs.Records.{Record}
 use Rattle.gc_station.specs.Runs.{state_after}
 use Rattle.gc_station.specs.Scopes.{Scope}
@@ -20,15 +20,16 @@ use Rattle.gc_station.specs.Model.{Model, opening, action_at, waiting_of, mark_s
 use Rattle.gc_station.specs.Setups.{Dispatch, dispatch_of_record, dispatch_of_mark, dispatches_of, sent_as, StaysUp, ArePrepared, NoneBeforeTheSetUp, SetUpInOrder}
 use Rattle.gc_station.proofs.Always.{always, progress_behind}
 use Rattle.gc_station.proofs.ChainSteps.{stays_open}
-use Rattle.gc_station.proofs.EachRun.{fine_stood}
-use Rattle.gc_station.proofs.Facts.{action_for}
+use Rattle.gc_station.proofs.EachRun.{invariant_holds}
+use Rattle.gc_station.proofs.Facts.{action_for, both_true}
 use Rattle.gc_station.proofs.Going.{after_all-append}
 use Rattle.gc_station.proofs.SentAt.{records_stay}
-use Rattle.gc_station.proofs.Setups.{row_of, row_losing, row_prepared, row_kept, none_marked, prepares, sends_it}
+use Rattle.gc_station.proofs.Setups.{dispatch_row, dispatch_row_losing, row_prepared, row_kept, none_marked, prepares, sends_it}
 use Rattle.gc_station.proofs.Turns.{over_stays}
-use Rattle.gc_station.proofs.Walk.{closed_along, is_sent, moved_changed}
+use Rattle.gc_station.proofs.Walk.{closed_along, moved_changed}
 use Rattle.gc_station.proofs.Words.{begun_other}
 use Rattle.gc_station.proofs.Ticking.{not_both}
+use Rattle.gc_station.proofs.Unbroken.{sent_preparing}
 
 -- Records.
 
@@ -42,11 +43,6 @@ split_last (r ∷ rs) (y ∷ xs) x e =
     let tail : map dispatch_of_record rs ≡ xs ++ x ∷ [] = ap (drop 1) e in
     let it = split_last rs xs x tail in
     (r ∷ it.0, it.1, ap (λ ys. r ∷ ys) it.2, it.3)
-
--- if two lists with the same front are equal, what follows the front is equal
-append_cancel : {A : Type 0} (xs ys zs : List A) → xs ++ ys ≡ xs ++ zs → ys ≡ zs
-append_cancel [] ys zs e = e
-append_cancel (x ∷ xs) ys zs e = append_cancel xs ys zs (ap (drop 1) e)
 
 -- the last of records decides whether the last command was answered well
 last_end : (b : Bool) (rs : List Record) (r : Record) → last_well b (rs ++ r ∷ []) ≡ is_well r.end
@@ -73,11 +69,6 @@ all_three false b c e = cc
 all_three true false c e = cc
 all_three true true false e = cc
 
--- if two tests are true together, the first is true
-first_true : (a b : Bool) → (a && b) ≡ true → a ≡ true
-first_true true b e = refl
-first_true false b e = cc
-
 -- the test for "above 0" is true of a number above 0
 above_zero : (n : ℕ) → 0 < n → nat_lt 0 n ≡ true
 above_zero n some = lt-ltb 0 n some
@@ -101,7 +92,7 @@ module _ (plan : Plan) (commands : List Task) (scope : Scope) where
     more : List Record
     written : (at acts).records ≡ (at before).records ++ more
     xs : List Dispatch
-    row : row_of (at acts) ≡ map dispatch_of_record (at before).records ++ (xs ++ dispatch_of_mark (mark_setup commands (at before).progress) ∷ [])
+    row : dispatch_row (at acts) ≡ map dispatch_of_record (at before).records ++ (xs ++ dispatch_of_mark (mark_setup commands (at before).progress) ∷ [])
 
   -- if all commands are settled and the last record was answered well, the first j + 1 commands of the setup were
   one_more_prepared : (j : ℕ) (acts : List Act) → commands_in (at acts).marks ≡ 0 → last_well false (at acts).records ≡ true → SentAfterPrepared j acts → ArePrepared plan commands scope acts (suc j)
@@ -109,10 +100,10 @@ module _ (plan : Plan) (commands : List Task) (scope : Scope) where
       let s = at acts in
       let old = (at p.before).records in
       let x = dispatch_of_mark (mark_setup commands (at p.before).progress) in
-      let all : row_of s ≡ map dispatch_of_record old ++ map dispatch_of_record p.more =
+      let all : dispatch_row s ≡ map dispatch_of_record old ++ map dispatch_of_record p.more =
       ap (λ ys. map dispatch_of_record s.records ++ ys) (none_marked s.marks none) ∙ append-nil (map dispatch_of_record s.records) ∙ ap
       (map dispatch_of_record) p.written ∙ map-append dispatch_of_record old p.more in
-      let it = split_last p.more p.xs x (append_cancel (map dispatch_of_record old) (map dispatch_of_record p.more) (p.xs ++ x ∷ []) (sym all ∙ p.row)) in
+      let it = split_last p.more p.xs x (append_cancel_left (map dispatch_of_record old) (map dispatch_of_record p.more) (p.xs ++ x ∷ []) (sym all ∙ p.row)) in
       let r : Record = it.1 in
       let written : s.records ≡ old ++ (it.0 ++ r ∷ []) = p.written ∙ ap (λ ys. old ++ ys) it.2 in
       let flat : s.records ≡ (old ++ it.0) ++ r ∷ [] = written ∙ sym (append_assoc old it.0 (r ∷ [])) in
@@ -177,8 +168,8 @@ module _ (plan : Plan) (commands : List Task) (scope : Scope) where
       }
 
   -- an act that closes no connection, after which the station is synchronized, and which leaves the row, preserves `SentAfterPrepared`
-  sent_kept : (j : ℕ) (acts : List Act) (act : Act) → KeepsOpen act → has_begun (at (acts ++ act ∷ [])).progress ≡ true → row_of (at (acts ++ act ∷ [])) ≡ row_of (at acts) → SentAfterPrepared j acts
-      → SentAfterPrepared j (acts ++ act ∷ [])
+  sent_kept : (j : ℕ) (acts : List Act) (act : Act) → KeepsOpen act → has_begun (at (acts ++ act ∷ [])).progress ≡ true
+      → dispatch_row (at (acts ++ act ∷ [])) ≡ dispatch_row (at acts) → SentAfterPrepared j acts → SentAfterPrepared j (acts ++ act ∷ [])
   sent_kept j acts act keeps begun same d =
       let its = since_more acts d.before (d.request ∷ d.behind) act d.order d.stays keeps begun in
       let grew = records_stay plan commands scope acts (act ∷ []) in
@@ -199,7 +190,8 @@ module _ (plan : Plan) (commands : List Task) (scope : Scope) where
 
   -- a command of the setup that is sent after j that were answered well, and is the last of the row
   sent_next : (j : ℕ) (acts : List Act) (act : Act) → KeepsOpen act → has_begun (at (acts ++ act ∷ [])).progress ≡ true → action_at plan (at acts) ≡ action.Prepare
-      → (at acts).progress.prepared ≡ j → row_of (at (acts ++ act ∷ [])) ≡ row_of (at acts) ++ dispatch_of_mark (mark_setup commands (at acts).progress) ∷ [] → ArePrepared plan commands scope acts j
+      → (at acts).progress.prepared ≡ j → dispatch_row (at (acts ++ act ∷ [])) ≡ dispatch_row (at acts) ++ dispatch_of_mark (mark_setup commands (at acts).progress) ∷ []
+      → ArePrepared plan commands scope acts j
       → SentAfterPrepared j (acts ++ act ∷ [])
   sent_next j acts act keeps begun sends place longer d =
       let s = at acts in
@@ -220,7 +212,8 @@ module _ (plan : Plan) (commands : List Task) (scope : Scope) where
         row = longer ∙ append_assoc (map dispatch_of_record s.records) (dispatches_of s.marks) (dispatch_of_mark (mark_setup commands s.progress) ∷ []);
       }
 
-  -- what holds of the setup, by `preparing` (the setup isn't over) and `prepared` (how many of its commands were sent on this connection)
+  -- what holds of the setup, by `preparing` (the setup isn't over) and `prepared` (how many of its commands were sent on this
+  -- connection)
   abbrev SetupFits : Bool → ℕ → List Act → Type 0
   SetupFits false k acts = (has_begun (at acts).progress ≡ true) × ArePrepared plan commands scope acts plan.setup
   SetupFits true zero acts = Unit {0}
@@ -252,9 +245,10 @@ module _ (plan : Plan) (commands : List Task) (scope : Scope) where
   prepared_before_next true (suc j) acts h e (inl none) place below = absurd (omega (arith, none))
   prepared_before_next true (suc j) acts h e (inr it) place below = one_more_prepared j acts it.0 it.1 h.1 place below
 
-  -- `SetupFits` is preserved by an act that closes no connection, leaves both fields and the row, and leaves a synchronized station synchronized
+  -- `SetupFits` is preserved by an act that closes no connection, leaves both fields and the row, and leaves a synchronized
+  -- station synchronized
   fits_kept : (b c : Bool) (k n : ℕ) (acts : List Act) (act : Act) → c ≡ b → n ≡ k → KeepsOpen act → (has_begun (at acts).progress ≡ true → has_begun (at (acts ++ act ∷ [])).progress ≡ true)
-      → row_of (at (acts ++ act ∷ [])) ≡ row_of (at acts) → SetupFits b k acts → SetupFits c n (acts ++ act ∷ [])
+      → dispatch_row (at (acts ++ act ∷ [])) ≡ dispatch_row (at acts) → SetupFits b k acts → SetupFits c n (acts ++ act ∷ [])
   fits_kept b c k n acts act e f keeps begins same h =
       subst (λ (x : Bool). SetupFits x n (acts ++ act ∷ [])) (sym e) (subst (λ (m : ℕ). SetupFits b m (acts ++ act ∷ [])) (sym f) (by_case b k h)) where
         -- the lemma above, by cases on both fields
@@ -277,10 +271,10 @@ module _ (plan : Plan) (commands : List Task) (scope : Scope) where
     progress_after o is = progress_behind plan commands scope acts act ∙ ap (λ (x : Action). (t x).progress) is
 
     -- the row after the act is that of `t`
-    row_after : (o : Action) → action_at plan s ≡ o → row_of (at (acts ++ act ∷ [])) ≡ row_of (t o)
+    row_after : (o : Action) → action_at plan s ≡ o → dispatch_row (at (acts ++ act ∷ [])) ≡ dispatch_row (t o)
     row_after o is =
-        ap row_of (after_all-append plan commands (opening plan scope) acts (act ∷ [])) ∙ row_losing (loses_all (t (action_at plan s)).progress) (t (action_at plan s)) ∙ ap
-        (λ (x : Action). row_of (t x)) is
+        ap dispatch_row (after_all-append plan commands (opening plan scope) acts (act ∷ [])) ∙ dispatch_row_losing (loses_all (t (action_at plan s)).progress) (t (action_at plan s)) ∙ ap
+        (λ (x : Action). dispatch_row (t x)) is
 
     -- a synchronized station stays so, if the act doesn't resynchronize
     begins : (o : Action) → action_at plan s ≡ o → Performs commands s o act → (o ≡ action.Renew → ⊥) → has_begun s.progress ≡ true → has_begun (at (acts ++ act ∷ [])).progress ≡ true
@@ -288,7 +282,7 @@ module _ (plan : Plan) (commands : List Task) (scope : Scope) where
 
     -- an act that leaves the two fields and the row preserves `SetupFits`
     fits_unchanged : (o : Action) → action_at plan s ≡ o → (has_begun s.progress ≡ true → has_begun (at (acts ++ act ∷ [])).progress ≡ true) → KeepsOpen act
-        → (t o).progress.preparing ≡ s.progress.preparing → (t o).progress.prepared ≡ s.progress.prepared → row_of (t o) ≡ row_of s
+        → (t o).progress.preparing ≡ s.progress.preparing → (t o).progress.prepared ≡ s.progress.prepared → dispatch_row (t o) ≡ dispatch_row s
         → SetupFits s.progress.preparing s.progress.prepared acts → SetupFitsNow (acts ++ act ∷ [])
     fits_unchanged o is begin keeps b k same h =
         inr (fits_kept s.progress.preparing (at (acts ++ act ∷ [])).progress.preparing s.progress.prepared (at (acts ++ act ∷ [])).progress.prepared acts act
@@ -310,17 +304,18 @@ module _ (plan : Plan) (commands : List Task) (scope : Scope) where
         (sym (ap (λ (p : Progress). p.preparing) (progress_after o is) ∙ b)) (on, prepared_more plan.setup acts act keeps on it.1))
 
     -- after an act that sends a command of the setup, `SetupFitsNow` holds
-    fits_sent : action_at plan s ≡ action.Prepare → Performs commands s action.Prepare act → IsFor plan s.progress (waiting_of s) action.Prepare
+    fits_sent : action_at plan s ≡ action.Prepare → Performs commands s action.Prepare act → HoldsBefore plan s.progress (waiting_of s) action.Prepare
         → SetupFits s.progress.preparing s.progress.prepared acts
         → SetupFitsNow (acts ++ act ∷ [])
     fits_sent is obeys needs h =
         let k = s.progress.prepared in
         let may = needs.2 in
-        let preparing : s.progress.preparing ≡ true = first_true s.progress.preparing (not (nat_le plan.setup k && nat_eq (commands_in s.marks) 0 && last_well false s.records)) may.0 in
+        let preparing : s.progress.preparing ≡ true = (both_true s.progress.preparing (not (nat_le plan.setup k && nat_eq (commands_in s.marks) 0 && last_well false s.records)) may.0).0 in
         let on = begins action.Prepare is obeys (λ e. cc) needs.1 in
         let keeps = stays_open plan commands action.Prepare s act obeys (λ why e. cc) in
         let one = sends_it plan commands within s is in
-        let longer = row_after action.Prepare is ∙ row_prepared plan commands (with_progress turned s) act ∙ ap (λ xs. row_of s ++ xs) (ap (λ (o : Action). sent_as o commands s) (sym is) ∙ one) in
+        let longer = row_after action.Prepare is ∙ row_prepared plan commands (with_progress turned s) act
+        ∙ ap (λ xs. dispatch_row s ++ xs) (ap (λ (o : Action). sent_as o commands s) (sym is) ∙ one) in
         let part = sent_next k acts act keeps on is refl longer (prepared_before_next s.progress.preparing k acts h preparing may.2) in
         let q = prepares plan commands (with_progress turned s) act in
         let prepared : (t action.Prepare).progress.prepared ≡ min (k + 1) plan.setup = q.1 in
@@ -332,19 +327,14 @@ module _ (plan : Plan) (commands : List Task) (scope : Scope) where
         inr (subst (λ (n : ℕ). SetupFits (at (acts ++ act ∷ [])).progress.preparing n (acts ++ act ∷ [])) (sym next)
         (subst (λ (c : Bool). SetupFits c (suc k) (acts ++ act ∷ [])) (sym same) (on, part)))
 
-  -- a command of a cycle that is sent ends the setup's turn
-  sent_preparing : (s : Model) (act : Act) → (moved plan commands action.Send s act).progress.preparing ≡ false
-  sent_preparing s (Cut bytes n) = subst (λ (x : Model). x.progress.preparing ≡ false) (is_sent plan commands s) refl
-  sent_preparing s act = subst (λ (x : Model). x.progress.preparing ≡ false) (is_sent plan commands s) refl
-
   module _ (some : 0 < plan.setup) (within : plan.setup ≤ length commands) (acts : List Act) where
     -- after an act of any action, `SetupFitsNow` holds if `SetupFits` held before it
-    fits_after : (o : Action) (act : Act) → action_at plan (at acts) ≡ o → Performs commands (at acts) o act → IsFor plan (at acts).progress (waiting_of (at acts)) o
+    fits_after : (o : Action) (act : Act) → action_at plan (at acts) ≡ o → Performs commands (at acts) o act → HoldsBefore plan (at acts).progress (waiting_of (at acts)) o
         → SetupFits (at acts).progress.preparing (at acts).progress.prepared acts → SetupFitsNow (acts ++ act ∷ [])
     fits_after action.Prepare act is obeys needs h = fits_sent some within acts act is obeys needs h
     fits_after action.Send act is obeys needs h =
         fits_once_done some within acts act action.Send is obeys (λ e. cc) (stays_open plan commands action.Send (at acts) act obeys (λ why e. cc))
-        (sent_preparing (with_progress turned (at acts)) act) needs.8 h
+        (sent_preparing plan commands (with_progress turned (at acts)) act) needs.8 h
     fits_after action.Begin (Told m) is obeys needs h = fits_once_done some within acts (Told m) action.Begin is obeys (λ e. cc) tt refl needs.6 h
     fits_after action.Skip (Told m) is obeys needs h = fits_once_done some within acts (Told m) action.Skip is obeys (λ e. cc) tt refl needs.6 h
     fits_after action.Pass (Told m) is obeys needs h = fits_once_done some within acts (Told m) action.Pass is obeys (λ e. cc) tt refl needs.6 h
@@ -395,10 +385,10 @@ module _ (plan : Plan) (commands : List Task) (scope : Scope) where
 pub none_before_the_set_up : NoneBeforeTheSetUp
 none_before_the_set_up plan commands scope acts runs is place below =
     let s = state_after plan commands scope acts in
-    let needs = subst (λ (o : Action). IsFor plan s.progress (waiting_of s) o) is (action_for plan s.progress (waiting_of s)) in
+    let needs = subst (λ (o : Action). HoldsBefore plan s.progress (waiting_of s) o) is (action_for plan s.progress (waiting_of s)) in
     let some : 0 < plan.setup = omega (arith, below) in
     let unsent : 0 < s.progress.unsent = needs.2 in
-    let within : plan.setup ≤ length commands = let most = (fine_stood plan commands scope acts).unsent in omega (arith, unsent, most) in
+    let within : plan.setup ≤ length commands = let most = (invariant_holds plan commands scope acts).unsent in omega (arith, unsent, most) in
     elim (setup_fits plan commands scope some within acts runs) [
       | inl over ↦ absurd (not_both (is_over_in s.progress.phase) over (ap is_over_in needs.0))
       | inr h ↦ (prepared_if_done plan commands scope some s.progress.preparing s.progress.prepared acts h needs.8).1 place below
@@ -409,9 +399,9 @@ pub set_up_in_order : SetUpInOrder
 set_up_in_order plan commands scope acts runs within is place below =
     let s = state_after plan commands scope acts in
     let k = s.progress.prepared in
-    let needs = subst (λ (o : Action). IsFor plan s.progress (waiting_of s) o) is (action_for plan s.progress (waiting_of s)) in
+    let needs = subst (λ (o : Action). HoldsBefore plan s.progress (waiting_of s) o) is (action_for plan s.progress (waiting_of s)) in
     let some : 0 < plan.setup = omega (arith, needs.2.1) in
-    let preparing : s.progress.preparing ≡ true = first_true s.progress.preparing (not (nat_le plan.setup k && nat_eq (commands_in s.marks) 0 && last_well false s.records)) needs.2.0 in
+    let preparing : s.progress.preparing ≡ true = (both_true s.progress.preparing (not (nat_le plan.setup k && nat_eq (commands_in s.marks) 0 && last_well false s.records)) needs.2.0).0 in
     elim (setup_fits plan commands scope some within acts runs) [
       | inl over ↦ absurd (not_both (is_over_in s.progress.phase) over (ap is_over_in needs.0))
       | inr h ↦ prepared_before_next plan commands scope s.progress.preparing k acts h preparing needs.2.2 place below

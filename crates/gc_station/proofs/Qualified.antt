@@ -12,7 +12,7 @@ use Rattle.gc_catalogue.specs.Asked.{IsAskedReading}
 use Rattle.gc_client.specs.Settlements.{outcome_seen, IsReadBy}
 use Rattle.gc_client.specs.declared.settlement.Outcome.{Outcome}
 use Rattle.gc_client.specs.declared.settlement.Outcome.TheVariants as outcomes
-use Rattle.gc_texts.specs.Codes.{are_accepted}
+use Rattle.gc_texts.specs.Codes.{lists_code}
 use Rattle.gc_texts.specs.Endings.{End, Answered, Elsewhere}
 use Rattle.gc_texts.specs.Nears.{is_elsewhere}
 use Rattle.gc_texts.specs.Zeroed.{as_zero}
@@ -75,7 +75,7 @@ module _ (reads : Asked → List ℕ → Reading) (expected : Expected) (call : 
   -- if a reply in time, which says x, ends a command as answered, with an answer, that answer isn't elsewhere
   answer_near : (x z : Reading) (k : Quality) (answer : Answer) → answer_as expected x z line ≡ Answered k (Some answer) line → is_elsewhere expected.near answer ≡ false
   answer_near (reading.Value a) z k answer e = value_near expected.near line quality.Fine k a answer (is_elsewhere expected.near a) refl e
-  answer_near (reading.Refused code) z k answer e = refused_near expected.near line (are_accepted expected.accepted code) z k answer e
+  answer_near (reading.Refused code) z k answer e = refused_near expected.near line (lists_code expected.accepted code) z k answer e
   answer_near (reading.ComFault code) z k answer e = cc
   answer_near (reading.Unreadable fault) z k answer e = cc
 
@@ -93,7 +93,7 @@ module _ (reads : Asked → List ℕ → Reading) (expected : Expected) (call : 
   answer_away : (x z : Reading) → reads call line ≡ x → reads call (as_zero line) ≡ z → answer_as expected x z line ≡ Elsewhere line → Away
   answer_away (reading.Value a) z is zs e = (a, inl is, value_away expected.near line quality.Fine a (is_elsewhere expected.near a) refl e)
   answer_away (reading.Refused code) z is zs e =
-      let both = refused_away expected.near line (are_accepted expected.accepted code) z e in
+      let both = refused_away expected.near line (lists_code expected.accepted code) z e in
       (both.1.answer, inr (code, is, both.0, zs ∙ both.1.said), both.1.away)
   answer_away (reading.ComFault code) z is zs e = cc
   answer_away (reading.Unreadable fault) z is zs e = cc
@@ -121,19 +121,19 @@ module _ (reads : Asked → List ℕ → Reading) (expected : Expected) (call : 
 
     module _ (code : ℕ) (is : reads call line ≡ reading.Refused code) where
       -- a line with an accepted code has the quality `Warning`, and the answer, if any, that it says with return code 0
-      warning : (z : Reading) → are_accepted expected.accepted code ≡ true → reads call (as_zero line) ≡ z → quality.Warning ≡ k → answer_in z ≡ said → Holds
+      warning : (z : Reading) → lists_code expected.accepted code ≡ true → reads call (as_zero line) ≡ z → quality.Warning ≡ k → answer_in z ≡ said → Holds
       warning z listed zs same has = subst (λ (q : Quality). IsOfQuality reads expected.accepted call q said line) same (code, is, listed, sym has ∙ ap answer_in (sym zs))
 
       -- a line with an accepted code that says the answer a with return code 0 has the quality with which it ends a command as
       -- answered: `Warning`, and that answer
-      value_warned : (a : Answer) (away : Bool) → are_accepted expected.accepted code ≡ true → reads call (as_zero line) ≡ reading.Value a
+      value_warned : (a : Answer) (away : Bool) → lists_code expected.accepted code ≡ true → reads call (as_zero line) ≡ reading.Value a
           → value_as quality.Warning away a line ≡ Answered k said line → Holds
       value_warned a true listed zs e = cc
       value_warned a false listed zs e = let same : quality.Warning ≡ k = cc in let has : Some a ≡ said = cc in warning (reading.Value a) listed zs same has
 
       -- a line with an accepted code has the quality with which it ends a command as answered, whatever it says with return
       -- code 0
-      warned : (z : Reading) → are_accepted expected.accepted code ≡ true → reads call (as_zero line) ≡ z → warned_as expected.near z line ≡ Answered k said line → Holds
+      warned : (z : Reading) → lists_code expected.accepted code ≡ true → reads call (as_zero line) ≡ z → warned_as expected.near z line ≡ Answered k said line → Holds
       warned (reading.Value a) listed zs e = value_warned a (is_elsewhere expected.near a) listed zs e
       warned (reading.Refused c) listed zs e = let same : quality.Warning ≡ k = cc in let has : ◌≡◌ {A = Option Answer} None said = cc in warning (reading.Refused c) listed zs same has
       warned (reading.ComFault c) listed zs e = let same : quality.Warning ≡ k = cc in let has : ◌≡◌ {A = Option Answer} None said = cc in warning (reading.ComFault c) listed zs same has
@@ -145,7 +145,7 @@ module _ (reads : Asked → List ℕ → Reading) (expected : Expected) (call : 
         subst (λ (q : Quality). IsOfQuality reads expected.accepted call q said line) same (sym has, subst (IsRefusal expected.accepted) (sym is) none)
 
     -- a refusal, whether its code is accepted (b) or not, has the quality with which it ends a command as answered
-    refused : (code : ℕ) (b : Bool) (z : Reading) → are_accepted expected.accepted code ≡ b → reads call line ≡ reading.Refused code → reads call (as_zero line) ≡ z
+    refused : (code : ℕ) (b : Bool) (z : Reading) → lists_code expected.accepted code ≡ b → reads call line ≡ reading.Refused code → reads call (as_zero line) ≡ z
         → refused_as b expected.near z line ≡ Answered k said line → Holds
     refused code true z listed is zs e = warned code is z listed zs e
     refused code false z none is zs e = let same : quality.Refused ≡ k = cc in let has : ◌≡◌ {A = Option Answer} None said = cc in refusal (reading.Refused code) is none same has
@@ -153,7 +153,7 @@ module _ (reads : Asked → List ℕ → Reading) (expected : Expected) (call : 
     -- a line that says x has the quality with which it ends a command as answered
     by_answer : (x z : Reading) → reads call line ≡ x → reads call (as_zero line) ≡ z → answer_as expected x z line ≡ Answered k said line → Holds
     by_answer (reading.Value a) z is zs e = fine a (is_elsewhere expected.near a) is e
-    by_answer (reading.Refused code) z is zs e = refused code (are_accepted expected.accepted code) z refl is zs e
+    by_answer (reading.Refused code) z is zs e = refused code (lists_code expected.accepted code) z refl is zs e
     by_answer (reading.ComFault code) z is zs e = let same : quality.Refused ≡ k = cc in let has : ◌≡◌ {A = Option Answer} None said = cc in refusal (reading.ComFault code) is tt same has
     by_answer (reading.Unreadable fault) z is zs e = cc
 
@@ -169,12 +169,12 @@ module _ (reads : Asked → List ℕ → Reading) (expected : Expected) (call : 
 -- line says with return code 0 (`zeroed`). It is the ending that `end_of` gives the settlement
 pub refused_ends : (reads : Asked → List ℕ → Reading) (expected : Expected) (call : Asked) (outcome : Outcome) (code : ℕ) (line : _) (zeroed : Reading) (end : End)
     → AreReadings reads → outcome ≡ outcomes.Answered (reading.Refused code) line → IsReadBy IsAskedReading call outcome → IsZeroOf call outcome zeroed
-    → end ≡ refused_as (are_accepted expected.accepted code) expected.near zeroed line.items → end ≡ end_of reads expected call (outcome_seen outcome)
+    → end ≡ refused_as (lists_code expected.accepted code) expected.near zeroed line.items → end ≡ end_of reads expected call (outcome_seen outcome)
 refused_ends reads expected call outcome code line zeroed end are is read zero_is e =
     let r : IsReadBy IsAskedReading call (outcomes.Answered (reading.Refused code) line) = subst (IsReadBy IsAskedReading call) is read in
     let z : IsZeroOf call (outcomes.Answered (reading.Refused code) line) zeroed = subst (λ (o : Outcome). IsZeroOf call o zeroed) is zero_is in
     let said : reads call line.items ≡ reading.Refused code = are call line.items (reading.Refused code) r in
     let bare : reads call (as_zero line.items) ≡ zeroed = are call (as_zero line.items) zeroed (z r.reply r.is_reply) in
-    e ∙ ap (λ x. refused_as (are_accepted expected.accepted code) expected.near x line.items) (sym bare)
+    e ∙ ap (λ x. refused_as (lists_code expected.accepted code) expected.near x line.items) (sym bare)
     ∙ ap (λ x. answer_as expected x (reads call (as_zero line.items)) line.items) (sym said)
     ∙ ap (λ (o : Outcome). end_of reads expected call (outcome_seen o)) (sym is)

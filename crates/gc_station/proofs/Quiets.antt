@@ -22,11 +22,11 @@ use Rattle.gc_station.specs.Beginnings.{IsClearedAndQuiet}
 use Rattle.gc_station.specs.Deciding.{has_begun, is_quiet}
 use Rattle.gc_station.specs.Progressing.{turned, moment_noted, time_passed, drained}
 use Rattle.gc_station.specs.Quiet.{IsRequest, TellsMoment, IsListening, IsSilent, StaysConnected}
-use Rattle.gc_station.specs.Reasons.{IsFor}
+use Rattle.gc_station.specs.Reasons.{HoldsBefore}
 use Rattle.gc_station.specs.Runs.{state_after}
 use Rattle.gc_station.specs.Model.{Model, null_text, request_text, first_text, place_next, opening, action_at, waiting_of, with_progress, with_moment, lines_completed, is_heard, Performs, moved, Runs, text_or_null}
 use Rattle.gc_station.proofs.Closings.{runs_split}
-use Rattle.gc_station.proofs.Always.{always_far}
+use Rattle.gc_station.proofs.Always.{always_of_progress}
 use Rattle.gc_station.proofs.Connected.{is_in_use, OnLine, on_line}
 use Rattle.gc_station.proofs.Facts.{action_for, order_timely, Timely}
 use Rattle.gc_station.proofs.Lists.{all_append, all_on}
@@ -210,15 +210,15 @@ silent_on since m acts false e d =
 
 module _ (plan : Plan) (commands : List Task) (scope : Scope) where
   -- `Stage` of this run
-  abbrev Here : Bool → Bool → ℕ → Phase → List Act → Type 0
-  Here = Stage plan commands scope
+  abbrev StageHere : Bool → Bool → ℕ → Phase → List Act → Type 0
+  StageHere = Stage plan commands scope
 
-  -- `Here`, by the fields of a progress
-  abbrev HereAt : Progress → List Act → Type 0
-  HereAt = StageAt plan commands scope
+  -- `StageHere`, by the fields of a progress
+  abbrev StageHereAt : Progress → List Act → Type 0
+  StageHereAt = StageAt plan commands scope
 
   -- if no connection is in use, `Stage` says nothing
-  stage_none : (begun due : Bool) (since : ℕ) (at : Phase) (acts : List Act) → is_in_use at ≡ false → Here begun due since at acts
+  stage_none : (begun due : Bool) (since : ℕ) (at : Phase) (acts : List Act) → is_in_use at ≡ false → StageHere begun due since at acts
   stage_none begun due since phase.Clearing acts none = cc
   stage_none begun due since phase.Draining acts none = cc
   stage_none begun due since phase.Ready acts none = cc
@@ -234,7 +234,7 @@ module _ (plan : Plan) (commands : List Task) (scope : Scope) where
   -- `Stage` is preserved by an act that reads a moment
   stage_on : (begun begun' due : Bool) (since now : ℕ) (at : Phase) (acts : List Act) (act : Act) → StaysConnected act
       → (at ≡ phase.Clearing → due ≡ false → ⊥) → (IsDraining due since acts → IsDrained now (acts ++ act ∷ []))
-      → Here begun due since at acts → Here begun' false now at (acts ++ act ∷ [])
+      → StageHere begun due since at acts → StageHere begun' false now at (acts ++ act ∷ [])
   stage_on begun begun' due since now phase.Clearing acts act calm never drains st = absurd (never refl st.0)
   stage_on begun begun' due since now phase.Draining acts act calm never drains st = drains st
   stage_on begun begun' due since now phase.Ready acts act calm never drains st = more acts act calm st
@@ -242,13 +242,13 @@ module _ (plan : Plan) (commands : List Task) (scope : Scope) where
 
   -- `Stage` lasts in the phase `Ready`, if the act keeps the connection
   stage_ready : (begun begun' due due' : Bool) (since since' : ℕ) (at : Phase) (acts : List Act) (act : Act) → StaysConnected act → at ≡ phase.Ready
-      → Here begun due since at acts → Here begun' due' since' at (acts ++ act ∷ [])
+      → StageHere begun due since at acts → StageHere begun' due' since' at (acts ++ act ∷ [])
   stage_ready begun begun' due due' since since' at acts act stays is st =
-      subst (λ (x : Phase). Here begun' due' since' x (acts ++ act ∷ [])) (sym is) (more acts act stays (subst (λ (x : Phase). Here begun due since x acts) is st))
+      subst (λ (x : Phase). StageHere begun' due' since' x (acts ++ act ∷ [])) (sym is) (more acts act stays (subst (λ (x : Phase). StageHere begun due since x acts) is st))
 
   -- `Stage` holds if a drain was long enough
   stage_drained : (until : Until) (m : Moment) (p : Progress) (acts : List Act) → is_quiet plan (time_passed until m p) ≡ true → IsDrained p.since acts
-      → HereAt (drained (time_passed until m p)) (acts ++ Silent m ∷ [])
+      → StageHereAt (drained (time_passed until m p)) (acts ++ Silent m ∷ [])
   stage_drained until m p acts past d =
       let long = leb-true plan.quiet (m.elapsed - min p.since m.elapsed) past in
       let same = not_longer m.elapsed p.since (nat_le p.since m.elapsed) refl in
@@ -257,17 +257,17 @@ module _ (plan : Plan) (commands : List Task) (scope : Scope) where
 
   -- `Stage` holds if a line feed was sent: the connection is drained next, or a synchronization goes on with it
   stage_cleared : (begun : Bool) (since : ℕ) (acts : List Act) → IsOpenedSo plan commands scope begun acts
-      → Here begun true since (if begun then phase.Draining else phase.Ready) (acts ++ Put (10 ∷ []) ∷ [])
+      → StageHere begun true since (if begun then phase.Draining else phase.Ready) (acts ++ Put (10 ∷ []) ∷ [])
   stage_cleared true since acts o = since_now Clears acts (Put (10 ∷ [])) ((o.0, o.1), refl, tt)
   stage_cleared false since acts o = inr (since_now (Begins plan commands scope) acts (Put (10 ∷ [])) (o, refl, tt))
 
-  -- what `HereAt` says in this phase
-  stage_in : (p : Progress) (at : Phase) (acts : List Act) → p.phase ≡ at → HereAt p acts → Here (has_begun p) p.clock_due p.since at acts
-  stage_in p at acts is st = subst (λ (x : Phase). Here (has_begun p) p.clock_due p.since x acts) is st
+  -- what `StageHereAt` says in this phase
+  stage_in : (p : Progress) (at : Phase) (acts : List Act) → p.phase ≡ at → StageHereAt p acts → StageHere (has_begun p) p.clock_due p.since at acts
+  stage_in p at acts is st = subst (λ (x : Phase). StageHere (has_begun p) p.clock_due p.since x acts) is st
 
   -- what `Stage` says holds on after an act of any action that leaves a connection in use
   stage_line : (next : Action) (s : Model) (acts : List Act) → has_begun (state_after plan commands scope acts).progress ≡ has_begun s.progress
-      → IsFor plan s.progress (waiting_of s) next → Timely s.progress next → HereAt s.progress acts → OnLine plan commands HereAt next (with_progress turned s) acts
+      → HoldsBefore plan s.progress (waiting_of s) next → Timely s.progress next → StageHereAt s.progress acts → OnLine plan commands StageHereAt next (with_progress turned s) acts
   stage_line actions.ReadClock s acts there needs time st =
       let p = s.progress in
       λ m. stage_on (has_begun p) (has_begun p) p.clock_due p.since m.elapsed p.phase acts (Told m) tt (λ is now. not_both p.clock_due time now) (draining_told p.clock_due p.since m acts time) st
@@ -281,8 +281,8 @@ module _ (plan : Plan) (commands : List Task) (scope : Scope) where
         λ bytes m.
             let mid = with_moment m (with_progress (moment_noted m) (with_progress turned s)) in
             let always = λ (later : Bool). heard later bytes m in
-            came_along (λ (t : Model). HereAt t.progress (acts ++ Gave bytes m ∷ [])) (λ t line on. on) (is_heard p.phase) p.word bytes mid (always begun)
-            ((asked_along (λ (q : Progress). (later : Bool) → Here later q.clock_due q.since q.phase (acts ++ Gave bytes m ∷ [])) (λ q line on. on) mid.progress
+            came_along (λ (t : Model). StageHereAt t.progress (acts ++ Gave bytes m ∷ [])) (λ t line on. on) (is_heard p.phase) p.word bytes mid (always begun)
+            ((asked_along (λ (q : Progress). (later : Bool) → StageHere later q.clock_due q.since q.phase (acts ++ Gave bytes m ∷ [])) (λ q line on. on) mid.progress
             (lines_completed s.rest bytes) always) _) (always begun),
         λ m. (
           stage_on begun begun p.clock_due p.since (min p.since m.elapsed) p.phase acts (Silent m) tt (λ is now. time.1 is)
@@ -308,17 +308,17 @@ module _ (plan : Plan) (commands : List Task) (scope : Scope) where
   -- Whole runs.
 
   -- `Stage` holds after every run
-  stage_stood : (acts : List Act) → Runs plan commands (opening plan scope) acts → HereAt (state_after plan commands scope acts).progress acts
-  stage_stood acts runs = always_far plan commands (opening plan scope) HereAt step tt acts runs where
-    -- one act of a run preserves `HereAt`
+  stage_holds : (acts : List Act) → Runs plan commands (opening plan scope) acts → StageHereAt (state_after plan commands scope acts).progress acts
+  stage_holds acts runs = always_of_progress plan commands (opening plan scope) StageHereAt step tt acts runs where
+    -- one act of a run preserves `StageHereAt`
     step : (done : List Act) (act : Act) → Runs plan commands (opening plan scope) done
         → Performs commands (state_after plan commands scope done) (action_at plan (state_after plan commands scope done)) act
-        → HereAt (state_after plan commands scope done).progress done
-        → HereAt (moved plan commands (action_at plan (state_after plan commands scope done)) (with_progress turned (state_after plan commands scope done)) act).progress (done ++ act ∷ [])
+        → StageHereAt (state_after plan commands scope done).progress done
+        → StageHereAt (moved plan commands (action_at plan (state_after plan commands scope done)) (with_progress turned (state_after plan commands scope done)) act).progress (done ++ act ∷ [])
     step done act runs o st =
         let s = state_after plan commands scope done in
         let p = s.progress in
-        on_line plan commands HereAt (λ q acts none. stage_none (has_begun q) q.clock_due q.since q.phase acts none) (action_at plan s) s act done o
+        on_line plan commands StageHereAt (λ q acts none. stage_none (has_begun q) q.clock_due q.since q.phase acts none) (action_at plan s) s act done o
         (stage_line (action_at plan s) s done refl (action_for plan p (waiting_of s)) (order_timely plan p (waiting_of s)) st)
 
 -- Requests are sent only in the phase for requests.
@@ -343,7 +343,7 @@ asks_not plan commands next s act o other = walk plan commands (λ a (t : Model)
 
 -- the only request that is sent while the station synchronizes is that of `Ask`
 pub asks_only : (plan : Plan) (commands : List Task) (next : Action) (s : Model) (act : Act) → Performs commands s next act → IsRequest act
-    → IsFor plan s.progress (waiting_of s) next → has_begun s.progress ≡ false → next ≡ actions.Ask
+    → HoldsBefore plan s.progress (waiting_of s) next → has_begun s.progress ≡ false → next ≡ actions.Ask
 asks_only plan commands actions.Ask s act o asks needs begins = refl
 asks_only plan commands actions.Prepare s act o asks needs begins = absurd (not_both (has_begun s.progress) needs.1 begins)
 asks_only plan commands actions.Send s act o asks needs begins = absurd (not_both (has_begun s.progress) needs.1 begins)
@@ -352,7 +352,7 @@ asks_only plan commands next s act o asks needs begins = absurd (asks_not plan c
 
 -- if a request is sent, the phase is `Ready`
 asks_there : (plan : Plan) (commands : List Task) (next : Action) (s : Model) (act : Act) → Performs commands s next act → IsRequest act
-    → IsFor plan s.progress (waiting_of s) next → s.progress.phase ≡ phase.Ready
+    → HoldsBefore plan s.progress (waiting_of s) next → s.progress.phase ≡ phase.Ready
 asks_there plan commands actions.Ask s act o asks needs = needs.0
 asks_there plan commands actions.Prepare s act o asks needs = needs.0
 asks_there plan commands actions.Send s act o asks needs = needs.0
@@ -366,4 +366,4 @@ cleared_and_quiet plan commands scope earlier later act runs asks =
     let s = state_after plan commands scope earlier in
     let split = runs_split plan commands (opening plan scope) earlier later act runs in
     let ready = asks_there plan commands (action_at plan s) s act split.1 asks (action_for plan s.progress (waiting_of s)) in
-    was_cleared plan commands scope earlier (stage_in plan commands scope s.progress phase.Ready earlier ready (stage_stood plan commands scope earlier split.0))
+    was_cleared plan commands scope earlier (stage_in plan commands scope s.progress phase.Ready earlier ready (stage_holds plan commands scope earlier split.0))

@@ -44,8 +44,8 @@ all_reads plan commands s [] = refl
 all_reads plan commands s (act ∷ acts) = all_reads plan commands (after plan commands s act) acts ∙ after_reads plan commands s act
 
 -- after any acts replies say what they say in the scope
-pub stood_reads : (plan : Plan) (commands : List Task) (scope : Scope) (acts : List Act) → (state_after plan commands scope acts).reads ≡ scope.reads
-stood_reads plan commands scope acts = all_reads plan commands (opening plan scope) acts
+pub reads_as_in_scope : (plan : Plan) (commands : List Task) (scope : Scope) (acts : List Act) → (state_after plan commands scope acts).reads ≡ scope.reads
+reads_as_in_scope plan commands scope acts = all_reads plan commands (opening plan scope) acts
 
 -- a function that equals one that gives readings gives them, too
 pub are_same : (a b : Asked → List ℕ → Reading) → a ≡ b → AreReadings b → AreReadings a

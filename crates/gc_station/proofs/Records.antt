@@ -2,9 +2,9 @@
 -- `None` of a null procedure; settlements are of the oldest outstanding requests, and have their marks, one for one.
 -- `WritesPart text before all old new`: a book that had taken `old` has taken the records `before` whole and broken off within
 -- the others of `all`; `new` is what it has taken then.
-use Rattle.std.proofs.Common.{◌≡◌, ℕ, zero, suc, ◌+◌, ◌<◌, Bool, true, false, List, [], ◌∷◌, ◌++◌, length, take, drop, map, get_or, Option, Some, None, is_some, if◌then◌else◌, refl, sym, ap, ◌∙◌, subst, arith, append_assoc, append-nil}
+use Rattle.std.proofs.Common.{◌≡◌, ℕ, ◌+◌, ◌<◌, Bool, true, false, List, [], ◌∷◌, ◌++◌, length, take, drop, map, get_or, Option, Some, None, is_some, if◌then◌else◌, refl, sym, ap, ◌∙◌, subst, arith, append_assoc, append-nil}
 use Rattle.std.specs.Prelude.{slice_get}
-use Rattle.std.proofs.lemmas.List.{length-map, length-take, map-append, map_more, take_more, take-append-drop}
+use Rattle.std.proofs.lemmas.List.{get_or_default, length-map, length-take, map-append, map_more, take_more, take-append-drop}
 use Rattle.std.specs.Io.KnownBytes.{Appends}
 use Rattle.gc_lines.proofs.Known.{Appends-append}
 use Rattle.gc_catalogue.specs.declared.answer.Reading.{Reading}
@@ -35,15 +35,9 @@ commands_one None false e = refl
 commands_one (Some m) true e = refl
 commands_one (Some m) false e = cc
 
--- at a place within a list of marks, the value that stands for a missing mark doesn't matter
-got_there : (marks : List (Option Mark)) (i : ℕ) (d : Option Mark) → i < length marks → get_or marks i d ≡ get_or marks i None
-got_there [] i d below = absurd (omega (arith, below))
-got_there (mark ∷ marks) zero d below = refl
-got_there (mark ∷ marks) (suc i) d below = let low : i < length marks = omega (arith, below) in got_there marks i d low
-
 -- a mark that is the one at place i is a command's exactly if the one at place i is
 pub item_there : (marks : List (Option Mark)) (i : ℕ) (mark : Option Mark) → i < length marks → mark ≡ get_or marks i mark → is_some mark ≡ is_some (get_or marks i None)
-item_there marks i mark below is = ap is_some (is ∙ got_there marks i mark below)
+item_there marks i mark below is = ap is_some (is ∙ get_or_default marks i mark None below)
 
 -- the commands among the first i + 1 marks are those among the first i, and the next one
 pub commands_more : (marks : List (Option Mark)) (i : ℕ) (b : Bool) → i < length marks → b ≡ is_some (get_or marks i None)
@@ -103,24 +97,24 @@ front_left reads utc marks ss i =
     ∙ ap (records_of reads utc marks) (map-append settlement_seen (take i ss) (drop i ss))
     ∙ records-append reads utc marks (map settlement_seen (take i ss)) (map settlement_seen (drop i ss))
 
--- no settlements leave whether a command of the attempt ended as its rule names
+-- `listed_by` of no settlements is as before: whether a command of the attempt ended as its rule names
 pub listed-none : (reads : Asked → List ℕ → Reading) (b : Bool) (marks : List (Option Mark)) → listed_by reads b marks [] ≡ b
 listed-none reads b [] = refl
 listed-none reads b (mark ∷ marks) = refl
 
--- what one settlement of the oldest request lists depends on the first mark alone
+-- `listed_by` of one settlement, which is of the oldest request, depends on the first mark alone
 listed_here : (reads : Asked → List ℕ → Reading) (b : Bool) (mark : Option Mark) (marks : List (Option Mark)) (x : Rule.Settlement Asked)
     → listed_by reads b (mark ∷ marks) (x ∷ []) ≡ listed_by reads b (mark ∷ []) (x ∷ [])
 listed_here reads b None marks x = listed-none reads b marks
 listed_here reads b (Some mark) marks x = listed-none reads _ marks
 
--- what one settlement of the oldest request lists depends on the first mark alone, if that mark is given by its place, 0
+-- `listed_by` of one settlement depends on the first mark alone, if that mark is given by its place, 0
 pub listed_first : (reads : Asked → List ℕ → Reading) (b : Bool) (marks : List (Option Mark)) (mark : Option Mark) (x : Rule.Settlement Asked)
     → Some mark ≡ slice_get marks 0 → listed_by reads b marks (x ∷ []) ≡ listed_by reads b (mark ∷ []) (x ∷ [])
 listed_first reads b [] mark x e = cc
 listed_first reads b (m ∷ marks) mark x e = let same : m ≡ mark = cc in listed_here reads b m marks x ∙ ap (λ k. listed_by reads b (k ∷ []) (x ∷ [])) same
 
--- what settlements and others after them list is what the others do, after the first, by the marks that are left
+-- `listed_by` of two lists of settlements is that of the second, with the marks that are left, from that of the first on
 listed-append : (reads : Asked → List ℕ → Reading) (marks : List (Option Mark)) (xs ys : List (Rule.Settlement Asked)) (b : Bool)
     → listed_by reads b marks (xs ++ ys) ≡ listed_by reads (listed_by reads b marks xs) (drop (length xs) marks) ys
 listed-append reads [] [] ys b = refl
@@ -130,7 +124,7 @@ listed-append reads (None ∷ marks) (x ∷ xs) ys b = listed-append reads marks
 listed-append reads (Some mark ∷ marks) (x ∷ xs) ys b =
     listed-append reads marks xs ys (listed_after b mark.expected (code_of reads x.call x.outcome) (end_of reads mark.expected x.call x.outcome))
 
--- what the first i + 1 settlements list is what s does, the one at place i, after the first i, by its mark
+-- `listed_by` of the first i + 1 settlements is that of s, the one at place i, with its mark, from that of the first i on
 pub listed_more : (reads : Asked → List ℕ → Reading) (a b c : Bool) (marks : List (Option Mark)) (ss : List (Settlement Asked)) (i : ℕ) (s : Settlement Asked) (mark : Option Mark)
     → i < length ss → s ≡ get_or ss i s → b ≡ listed_by reads a marks (map settlement_seen (take i ss)) → c ≡ listed_by reads b (mark ∷ []) (settlement_seen s ∷ [])
     → ((x : Bool) → listed_by reads x (drop i marks) (settlement_seen s ∷ []) ≡ listed_by reads x (mark ∷ []) (settlement_seen s ∷ []))

@@ -1,6 +1,7 @@
 -- The lines of a piece: none of them reads as a reply, or the line was alive at the moment of the piece. `alive` is the moment
 -- since which no reply line came, and `asked` whether a request was sent after the last reply line.
 use Rattle.std.proofs.Common.{◌≡◌, ℕ, ◌⊎◌, inl, inr, Bool, true, false, List, [], ◌∷◌, Option, None, Result, Ok, Err, if◌then◌else◌, refl, ap, ◌∙◌}
+use Rattle.std.specs.Prelude.{is_ok}
 use Rattle.std.specs.List.{AllByRecursion}
 use Rattle.gc_lines.specs.declared.fault.LineFault.{LineFault}
 use Rattle.gc_lines.specs.Replies.{ReplyFields}
@@ -10,7 +11,7 @@ use Rattle.gc_client.specs.Rule.{heard, id_in}
 use Rattle.gc_station.specs.declared.progress.Progress.{Progress}
 use Rattle.gc_station.specs.Progressing.{line_synchronizing, lines_synchronizing}
 use Rattle.gc_station.specs.Silences.{IsNoReply}
-use Rattle.gc_station.specs.Model.{Model, line_came, lines_came, is_ok, is_reply}
+use Rattle.gc_station.specs.Model.{Model, line_came, lines_came, is_reply}
 use Rattle.gc_station.proofs.Walk.{lines_along}
 
 -- The lines of a piece: none reads as a reply, or the line was alive at the moment of the piece.

@@ -1,6 +1,6 @@
 -- Further attempts of a chain are sent for a cause: `listed` of a model is what its records say. An act is one call on the
 -- link, with its result. A mark says which command an outstanding request is of, and what is expected of its answer.
-use Rattle.std.proofs.Common.{◌≡◌, ◌⊎◌, inl, inr, ℕ, zero, suc, ◌+◌, ◌-◌, ◌<◌, ◌≤◌, ◌||◌, Bool, true, false, List, [], ◌∷◌, ◌++◌, length, drop, Option, Some, None, if◌then◌else◌, nat_eq, nat_lt, refl, sym, ap, ◌∙◌, subst, arith, append-nil}
+use Rattle.std.proofs.Common.{◌≡◌, ◌⊎◌, inl, inr, ℕ, ◌+◌, ◌-◌, ◌<◌, ◌≤◌, ◌||◌, Bool, true, false, List, [], ◌∷◌, ◌++◌, length, drop, Option, Some, None, if◌then◌else◌, nat_eq, nat_lt, refl, sym, ap, ◌∙◌, subst, arith, append-nil}
 use Rattle.std.specs.List.{AllByRecursion}
 use Rattle.std.proofs.lemmas.Bool.{ltb-true, ltb-false}
 use Rattle.std.proofs.lemmas.List.{length-drop}
@@ -28,50 +28,51 @@ use Rattle.gc_station.specs.declared.progress.Action.TheVariants as actions
 use Rattle.gc_station.specs.declared.progress.Progress.{Progress}
 use Rattle.gc_station.specs.Attempts.{code_of, listed_after, listed_by}
 use Rattle.gc_station.specs.Marks.{commands_in, end_of, records_of}
-use Rattle.gc_station.specs.Model.{Model, Runs, opening, action_at, waiting_of, place_next, cycles_begun, cycle_length, mark_next, mark_setup, asks_or_null, asks_setup, expected_first, is_chained, others_in, others_after_next, others_after, requests_out, with_progress, with_moment, with_rest, asks, asks_first, line_came, lines_completed, is_heard, after_piece, losing, skips_first, moved, after, after_all}
+use Rattle.gc_station.specs.Model.{Model, Runs, opening, action_at, waiting_of, place_next, cycles_begun, cycle_length, mark_next, mark_setup, asks_or_null, asks_setup, expected_first, is_chained, others_in, others_after_next, others_after, commands_before, with_progress, with_moment, with_rest, asks, asks_first, line_came, lines_completed, is_heard, after_piece, losing, skips_first, moved, after, after_all}
 use Rattle.gc_station.specs.Progressing.{turned, failing, moment_noted, loses_all}
-use Rattle.gc_station.specs.Reasons.{IsFor}
+use Rattle.gc_station.specs.Reasons.{HoldsBefore}
 use Rattle.gc_station.specs.Records.{Record}
-use Rattle.gc_station.specs.Retries.{turn_at, rule_at, code_said, HasListed, IsFurtherAttempt, GoesOutAgainForACause, TurnsAreTheTexts}
+use Rattle.gc_station.specs.Retries.{turn_at, rule_at, code_of_end, HasListed, IsFurtherAttempt, FurtherAttemptsHaveACause, EachRecordHasItsTurn}
 use Rattle.gc_station.specs.Runs.{state_after}
 use Rattle.gc_station.specs.Scopes.{Scope}
-use Rattle.gc_station.proofs.Always.{always_far}
-use Rattle.gc_station.proofs.Chaining.{bound_stood, none_behind}
+use Rattle.gc_station.proofs.Always.{always_of_progress}
+use Rattle.gc_station.proofs.Chaining.{chained_as_text_says, none_behind}
 use Rattle.gc_station.proofs.Parted.{drop_past}
-use Rattle.gc_station.proofs.EachRun.{fine_after, fine_opening, fine_stood}
+use Rattle.gc_station.proofs.EachRun.{invariant_after, invariant_opening, invariant_holds}
 use Rattle.gc_station.proofs.Facts.{action_for}
 use Rattle.gc_station.proofs.Invariant.{Invariant}
-use Rattle.gc_station.proofs.Lists.{all_append}
+use Rattle.gc_station.proofs.Lists.{all_append, all_drop}
 use Rattle.gc_station.proofs.Walk.{lines_along, moved_changed, sending, is_sent}
 use Rattle.gc_station.proofs.Listed.{code_there, named_by, any_listed, any_append, listed_has, has_listed, expected_as, turn_expected, rule_expected}
 use Rattle.gc_station.proofs.Ticking.{not_none, not_both}
+use Rattle.gc_station.proofs.Closings.{needs_of}
 
 module _ (plan : Plan) (commands : List Task) (scope : Scope) where
-  -- a mark has what is expected of its command's answer
-  abbrev IsPlaced : Option Mark → Type 0
-  IsPlaced None = Unit {0}
-  IsPlaced (Some mark) = mark.expected ≡ expected_as (nat_eq mark.cycle 0) mark.expected.turn.attempt (expected_first (drop mark.place commands))
+  -- a mark expects of its command's answer what the text says; of a command of the setup, in the attempt of its turn
+  abbrev ExpectsAsText : Option Mark → Type 0
+  ExpectsAsText None = Unit {0}
+  ExpectsAsText (Some mark) = mark.expected ≡ expected_as (nat_eq mark.cycle 0) mark.expected.turn.attempt (expected_first (drop mark.place commands))
 
   -- a record has the turn of its command
-  abbrev IsSo : Record → Type 0
-  IsSo r = r.turn ≡ turn_at commands r.cycle r.turn.attempt r.place
+  abbrev HasItsTurn : Record → Type 0
+  HasItsTurn r = r.turn ≡ turn_at commands r.cycle r.turn.attempt r.place
 
-  -- the record of a command whose mark is `IsPlaced` has its turn
-  turn_so : (mark : Mark) → IsPlaced (Some mark) → mark.expected.turn ≡ turn_at commands mark.cycle mark.expected.turn.attempt mark.place
+  -- the record of a command whose mark is `ExpectsAsText` has its turn
+  turn_so : (mark : Mark) → ExpectsAsText (Some mark) → mark.expected.turn ≡ turn_at commands mark.cycle mark.expected.turn.attempt mark.place
   turn_so mark placed = ap (λ (k : Expected). k.turn) placed ∙ turn_expected (nat_eq mark.cycle 0) mark.expected.turn.attempt (expected_first (drop mark.place commands))
 
-  -- a mark that is `IsPlaced` has the rule of its command
-  rule_so : (mark : Mark) → IsPlaced (Some mark) → mark.expected.again ≡ rule_at commands mark.cycle mark.place
+  -- a mark that is `ExpectsAsText` has the rule of its command
+  rule_so : (mark : Mark) → ExpectsAsText (Some mark) → mark.expected.again ≡ rule_at commands mark.cycle mark.place
   rule_so mark placed = ap (λ (k : Expected). k.again) placed ∙ rule_expected (nat_eq mark.cycle 0) mark.expected.turn.attempt (expected_first (drop mark.place commands))
 
-  -- the mark of the next command of a cycle is `IsPlaced`
-  next_placed : (p : Progress) → 0 < cycles_begun plan p → IsPlaced (Some (mark_next plan commands p))
+  -- the mark of the next command of a cycle is `ExpectsAsText`
+  next_placed : (p : Progress) → 0 < cycles_begun plan p → ExpectsAsText (Some (mark_next plan commands p))
   next_placed p many =
       let expected = expected_first (drop (place_next commands p) commands) in
       ap (λ (b : Bool). expected_as b expected.turn.attempt expected) (sym (not_none (cycles_begun plan p) many))
 
-  -- settlements list what their records do, whose marks are `IsPlaced`
-  lists_so : (utc : ℕ) (marks : List (Option Mark)) (xs : List (Rule.Settlement Asked)) (b : Bool) → AllByRecursion IsPlaced marks
+  -- `listed_by` of settlements is `any_listed` of their records, if their marks are `ExpectsAsText`
+  lists_so : (utc : ℕ) (marks : List (Option Mark)) (xs : List (Rule.Settlement Asked)) (b : Bool) → AllByRecursion ExpectsAsText marks
       → listed_by scope.reads b marks xs ≡ any_listed scope.reads commands b (records_of scope.reads utc marks xs)
   lists_so utc [] xs b all = refl
   lists_so utc (mark ∷ marks) [] b all = refl
@@ -81,36 +82,30 @@ module _ (plan : Plan) (commands : List Task) (scope : Scope) where
       let code = code_of scope.reads x.call x.outcome in
       let kept = if nat_eq mark.expected.turn.link 0 then false else b in
       let same = named_by scope.reads mark.expected.again x.call code end (λ q said l e. code_there scope.reads mark.expected x.call x.outcome q said l e)
-      ∙ ap (λ (k : Again). is_named k (code_said scope.reads x.call end) end) (rule_so mark all.0) in
+      ∙ ap (λ (k : Again). is_named k (code_of_end scope.reads x.call end) end) (rule_so mark all.0) in
       lists_so utc marks xs (kept || is_named mark.expected.again code end) all.1
       ∙ ap (λ y. any_listed scope.reads commands (kept || y) (records_of scope.reads utc marks xs)) same
 
-  -- the records of settlements whose marks are `IsPlaced` are all `IsSo`
-  records_so : (utc : ℕ) (marks : List (Option Mark)) (xs : List (Rule.Settlement Asked)) → AllByRecursion IsPlaced marks → AllByRecursion IsSo (records_of scope.reads utc marks xs)
+  -- the records of settlements whose marks are `ExpectsAsText` are all `HasItsTurn`
+  records_so : (utc : ℕ) (marks : List (Option Mark)) (xs : List (Rule.Settlement Asked)) → AllByRecursion ExpectsAsText marks → AllByRecursion HasItsTurn (records_of scope.reads utc marks xs)
   records_so utc [] xs all = tt
   records_so utc (mark ∷ marks) [] all = tt
   records_so utc (None ∷ marks) (x ∷ xs) all = records_so utc marks xs all.1
   records_so utc (Some mark ∷ marks) (x ∷ xs) all = (turn_so mark all.0, records_so utc marks xs all.1)
 
-  -- without the first n marks, all are `IsPlaced` still
-  all_drop : (n : ℕ) (marks : List (Option Mark)) → AllByRecursion IsPlaced marks → AllByRecursion IsPlaced (drop n marks)
-  all_drop zero marks all = all
-  all_drop (suc n) [] all = tt
-  all_drop (suc n) (mark ∷ marks) all = all_drop n marks all.1
-
-  -- a model reads replies as the scope does, each of its marks is `IsPlaced`, each of its records `IsSo`, and its `listed` is what its
-  -- records say
+  -- a model reads replies as the scope does, each of its marks is `ExpectsAsText`, each of its records `HasItsTurn`, and its
+  -- `listed` is what its records say
   record KeepsTurns (s : Model) : Type 0 where
     reads : s.reads ≡ scope.reads
-    marks : AllByRecursion IsPlaced s.marks
-    records : AllByRecursion IsSo s.records
+    marks : AllByRecursion ExpectsAsText s.marks
+    records : AllByRecursion HasItsTurn s.records
     listed : s.listed ≡ any_listed scope.reads commands false s.records
 
-  -- settlements that are recorded keep all records `IsSo`
-  settles_so : (s : Model) (x : List (Rule.Settlement Asked)) → KeepsTurns s → AllByRecursion IsSo (s.records ++ records_of s.reads s.progress.moment.utc s.marks x)
+  -- settlements that are recorded keep all records `HasItsTurn`
+  settles_so : (s : Model) (x : List (Rule.Settlement Asked)) → KeepsTurns s → AllByRecursion HasItsTurn (s.records ++ records_of s.reads s.progress.moment.utc s.marks x)
   settles_so s x k =
-      all_append IsSo s.records _ k.records
-      (subst (λ (reads : Asked → List ℕ → Reading). AllByRecursion IsSo (records_of reads s.progress.moment.utc s.marks x)) (sym k.reads) (records_so s.progress.moment.utc s.marks x k.marks))
+      all_append HasItsTurn s.records _ k.records
+      (subst (λ (reads : Asked → List ℕ → Reading). AllByRecursion HasItsTurn (records_of reads s.progress.moment.utc s.marks x)) (sym k.reads) (records_so s.progress.moment.utc s.marks x k.marks))
 
   -- settlements that are recorded keep `listed` what the records say
   settles_listed : (s : Model) (x : List (Rule.Settlement Asked)) → KeepsTurns s
@@ -127,7 +122,7 @@ module _ (plan : Plan) (commands : List Task) (scope : Scope) where
   line_so : (s : Model) (line : List ℕ) → KeepsTurns s → KeepsTurns (line_came s line)
   line_so s line k =
       let x = hears s.client line (heard line) in
-      record { reads = k.reads; marks = all_drop _ s.marks k.marks; records = settles_so s x.settlements k; listed = settles_listed s x.settlements k }
+      record { reads = k.reads; marks = all_drop ExpectsAsText _ s.marks k.marks; records = settles_so s x.settlements k; listed = settles_listed s x.settlements k }
 
   -- `KeepsTurns` is preserved by a piece
   came_so : (b : Bool) (word piece : List ℕ) (s : Model) → KeepsTurns s → KeepsTurns (after_piece b word piece s)
@@ -139,15 +134,15 @@ module _ (plan : Plan) (commands : List Task) (scope : Scope) where
   -- `KeepsTurns` is preserved by the loss of what is outstanding
   losing_so : (b : Bool) (s : Model) → KeepsTurns s → KeepsTurns (losing b s)
   losing_so true s k =
-      let x = restarts s.client in record { reads = k.reads; marks = all_drop _ s.marks k.marks; records = settles_so s x.settlements k; listed = settles_listed s x.settlements k }
+      let x = restarts s.client in record { reads = k.reads; marks = all_drop ExpectsAsText _ s.marks k.marks; records = settles_so s x.settlements k; listed = settles_listed s x.settlements k }
   losing_so false s k = k
 
-  -- `KeepsTurns` is preserved by a request that is sent, if its mark is `IsPlaced`
-  asks_so : (wait target : ℕ) (call : Asked) (mark : Option Mark) (s : Model) → IsPlaced mark → KeepsTurns s → KeepsTurns (asks wait target call mark s)
-  asks_so wait target call mark s placed k = record { reads = k.reads; marks = all_append IsPlaced s.marks _ k.marks (placed, tt); records = k.records; listed = k.listed }
+  -- `KeepsTurns` is preserved by a request that is sent, if its mark is `ExpectsAsText`
+  asks_so : (wait target : ℕ) (call : Asked) (mark : Option Mark) (s : Model) → ExpectsAsText mark → KeepsTurns s → KeepsTurns (asks wait target call mark s)
+  asks_so wait target call mark s placed k = record { reads = k.reads; marks = all_append ExpectsAsText s.marks _ k.marks (placed, tt); records = k.records; listed = k.listed }
 
-  -- `KeepsTurns` is preserved by the send of the first of these commands, if its mark is `IsPlaced`
-  first_so : (mark : Mark) (left : List Task) (s : Model) → IsPlaced (Some mark) → KeepsTurns s → KeepsTurns (asks_first mark left s)
+  -- `KeepsTurns` is preserved by the send of the first of these commands, if its mark is `ExpectsAsText`
+  first_so : (mark : Mark) (left : List Task) (s : Model) → ExpectsAsText (Some mark) → KeepsTurns s → KeepsTurns (asks_first mark left s)
   first_so mark [] s placed k = k
   first_so mark (task ∷ others) s placed k = asks_so task.deadline task.command.target (call_at task mark.sent) (Some mark) s placed k
 
@@ -165,16 +160,16 @@ module _ (plan : Plan) (commands : List Task) (scope : Scope) where
 
   -- the end of a command that isn't sent is named, whatever its code
   unsent_named : (again : Again) (call : Asked) (b : Bool)
-      → is_named again None (if b then Missed else Skipped) ≡ is_named again (code_said scope.reads call (if b then Missed else Skipped)) (if b then Missed else Skipped)
+      → is_named again None (if b then Missed else Skipped) ≡ is_named again (code_of_end scope.reads call (if b then Missed else Skipped)) (if b then Missed else Skipped)
   unsent_named again call true = refl
   unsent_named again call false = refl
 
   -- the record of a command that isn't sent has the turn of its command
-  skips_so : (p : Progress) (m : Moment) (mark : Mark) (left : List Task) → IsPlaced (Some mark) → AllByRecursion IsSo (skips_first p m mark left)
+  skips_so : (p : Progress) (m : Moment) (mark : Mark) (left : List Task) → ExpectsAsText (Some mark) → AllByRecursion HasItsTurn (skips_first p m mark left)
   skips_so p m mark [] placed = tt
   skips_so p m mark (task ∷ others) placed = (turn_so mark placed, tt)
 
-  -- a command that isn't sent lists what its record does
+  -- `listed_after` of a command that isn't sent is `any_listed` of its record
   skips_listed : (b : Bool) (p : Progress) (m : Moment) (left : List Task) → 0 < cycles_begun plan p → 0 < length left
       → listed_after b (mark_next plan commands p).expected None (if p.missed then Missed else Skipped) ≡ any_listed scope.reads commands b (skips_first p m (mark_next plan commands p) left)
   skips_listed b p m [] many some = absurd (omega (arith, some))
@@ -182,7 +177,7 @@ module _ (plan : Plan) (commands : List Task) (scope : Scope) where
       let mark = mark_next plan commands p in
       let end = if p.missed then Missed else Skipped in
       ap (λ x. (if nat_eq mark.expected.turn.link 0 then false else b) || x)
-      (unsent_named mark.expected.again task.command.call p.missed ∙ ap (λ (k : Again). is_named k (code_said scope.reads task.command.call end) end) (rule_so mark (next_placed p many)))
+      (unsent_named mark.expected.again task.command.call p.missed ∙ ap (λ (k : Again). is_named k (code_of_end scope.reads task.command.call end) end) (rule_so mark (next_placed p many)))
 
   -- if the next command has its turn, a cycle has begun, and there is such a command
   abbrev IsThere : Action → Model → Type 0
@@ -206,13 +201,13 @@ module _ (plan : Plan) (commands : List Task) (scope : Scope) where
       record {
         reads = k.reads;
         marks = k.marks;
-        records = all_append IsSo s.records _ k.records (skips_so p m (mark_next plan commands p) left (next_placed p some.0));
+        records = all_append HasItsTurn s.records _ k.records (skips_so p m (mark_next plan commands p) left (next_placed p some.0));
         listed = skips_listed s.listed p m left some.0 some.1 ∙ ap (λ b. any_listed scope.reads commands b rs) k.listed ∙ sym (any_append scope.reads commands s.records rs false);
       }
   moved_so actions.Skip s act some k = record {
     reads = k.reads;
     marks = k.marks;
-    records = all_append IsSo s.records [] k.records tt;
+    records = all_append HasItsTurn s.records [] k.records tt;
     listed = k.listed ∙ sym (ap (any_listed scope.reads commands false) (append-nil s.records));
   }
   moved_so (actions.Read until) s (Gave bytes m) some k =
@@ -228,7 +223,7 @@ module _ (plan : Plan) (commands : List Task) (scope : Scope) where
       let t = moved plan commands (action_at plan s) (with_progress turned s) act in
       losing_so (loses_all t.progress) t (moved_so (action_at plan s) (with_progress turned s) act (there (action_at plan s) (action_for plan s.progress (waiting_of s)))
       (record { reads = k.reads; marks = k.marks; records = k.records; listed = k.listed })) where
-        -- if one is left, a cycle has begun, and there is a next command
+        -- if a command is unsent, a cycle has begun, and there is a next command
         one_left : 0 < s.progress.unsent → (0 < cycles_begun plan s.progress) × (0 < length (drop (place_next commands s.progress) commands))
         one_left unsent =
             let many = length-drop (place_next commands s.progress) commands in
@@ -236,7 +231,7 @@ module _ (plan : Plan) (commands : List Task) (scope : Scope) where
             let below = fine.begun unsent in (omega (arith, below), omega (arith, many, unsent, within))
 
         -- if the next command has its turn, there is one
-        there : (next : Action) → IsFor plan s.progress (waiting_of s) next → IsThere next (with_progress turned s)
+        there : (next : Action) → HoldsBefore plan s.progress (waiting_of s) next → IsThere next (with_progress turned s)
         there actions.Send needs = one_left needs.2
         there actions.Skip needs = one_left needs.2
         there next needs = tt
@@ -244,11 +239,11 @@ module _ (plan : Plan) (commands : List Task) (scope : Scope) where
   -- `KeepsTurns` is preserved by acts
   along : (s : Model) (acts : List Act) → Invariant plan commands s → KeepsTurns s → KeepsTurns (after_all plan commands s acts)
   along s [] fine k = k
-  along s (act ∷ acts) fine k = along (after plan commands s act) acts (fine_after plan commands s act fine) (after_so s act fine k)
+  along s (act ∷ acts) fine k = along (after plan commands s act) acts (invariant_after plan commands s act fine) (after_so s act fine k)
 
   -- `KeepsTurns` holds after any acts
   kept_all : (acts : List Act) → KeepsTurns (state_after plan commands scope acts)
-  kept_all acts = along (opening plan scope) acts (fine_opening plan commands scope) (record { reads = refl; marks = tt; records = tt; listed = refl })
+  kept_all acts = along (opening plan scope) acts (invariant_opening plan commands scope) (record { reads = refl; marks = tt; records = tt; listed = refl })
 
   -- What a progress says of the next command.
 
@@ -280,57 +275,51 @@ module _ (plan : Plan) (commands : List Task) (scope : Scope) where
   follows_begun : (q : Progress) → q.unsent ≡ cycle_length plan commands → q.next_others ≡ 0 → Follows q
   follows_begun q unsent others = (λ above. absurd (omega (arith, unsent, above)), λ none. others)
 
-  -- how far a station is after an act of an action
-  abbrev far : Action → Model → Act → Progress
-  far next s act = (moved plan commands next (with_progress turned s) act).progress
+  -- the progress after an act of an action and the turn that it takes, before what is outstanding is lost
+  abbrev progress_after : Action → Model → Act → Progress
+  progress_after next s act = (moved plan commands next (with_progress turned s) act).progress
 
   -- `Follows` is preserved by an act of each action
-  moved_follows : (next : Action) (s : Model) (w : Waiting) (act : Act) → IsFor plan s.progress w next → s.progress.unsent ≤ length commands - plan.setup → Follows s.progress
-      → Follows (far next s act)
-  moved_follows actions.Begin s w (Told m) needs within h = follows_begun (far actions.Begin s (Told m)) refl refl
+  moved_follows : (next : Action) (s : Model) (w : Waiting) (act : Act) → HoldsBefore plan s.progress w next → s.progress.unsent ≤ length commands - plan.setup → Follows s.progress
+      → Follows (progress_after next s act)
+  moved_follows actions.Begin s w (Told m) needs within h = follows_begun (progress_after actions.Begin s (Told m)) refl refl
   moved_follows actions.Send s w (Cut bytes n) needs within h =
       let t = with_progress turned s in
-      let q = failing (cause.Write (requests_out plan commands t.progress) n) (sending plan commands t).progress in
-      subst (λ (x : Model). Follows (failing (cause.Write (requests_out plan commands t.progress) n) x.progress)) (is_sent plan commands t) (follows_next s.progress q refl refl needs.2 within)
+      let q = failing (cause.Write (commands_before plan commands t.progress) n) (sending plan commands t).progress in
+      subst (λ (x : Model). Follows (failing (cause.Write (commands_before plan commands t.progress) n) x.progress)) (is_sent plan commands t) (follows_next s.progress q refl refl needs.2 within)
   moved_follows actions.Send s w act needs within h =
       let t = with_progress turned s in
       subst (λ (x : Model). Follows x.progress) (is_sent plan commands t) (follows_next s.progress (sending plan commands t).progress refl refl needs.2 within)
-  moved_follows actions.Skip s w (Told m) needs within h = follows_next s.progress (far actions.Skip s (Told m)) refl refl needs.2 within
-  moved_follows actions.Pass s w (Told m) needs within h = follows_past s.progress (far actions.Pass s (Told m)) refl refl needs.2 needs.4 within
-  moved_follows actions.Begin s w act needs within h = follows_same s.progress (far actions.Begin s act) refl refl h
-  moved_follows actions.Skip s w act needs within h = follows_same s.progress (far actions.Skip s act) refl refl h
-  moved_follows actions.Pass s w act needs within h = follows_same s.progress (far actions.Pass s act) refl refl h
+  moved_follows actions.Skip s w (Told m) needs within h = follows_next s.progress (progress_after actions.Skip s (Told m)) refl refl needs.2 within
+  moved_follows actions.Pass s w (Told m) needs within h = follows_past s.progress (progress_after actions.Pass s (Told m)) refl refl needs.2 needs.4 within
+  moved_follows actions.Begin s w act needs within h = follows_same s.progress (progress_after actions.Begin s act) refl refl h
+  moved_follows actions.Skip s w act needs within h = follows_same s.progress (progress_after actions.Skip s act) refl refl h
+  moved_follows actions.Pass s w act needs within h = follows_same s.progress (progress_after actions.Pass s act) refl refl h
   moved_follows next s w act needs within h =
       let is = moved_changed plan commands next (with_progress turned s) act in
-      follows_same s.progress (far next s act) (ap (λ (x : Model). x.progress.unsent) is) (ap (λ (x : Model). x.progress.next_others) is) h
+      follows_same s.progress (progress_after next s act) (ap (λ (x : Model). x.progress.unsent) is) (ap (λ (x : Model). x.progress.next_others) is) h
 
   -- `Follows` holds after every run
-  follows_stood : (acts : List Act) → Runs plan commands (opening plan scope) acts → Follows (state_after plan commands scope acts).progress
-  follows_stood acts runs =
-      always_far plan commands (opening plan scope) (λ (p : Progress) (done : List Act). Follows p)
+  follows_holds : (acts : List Act) → Runs plan commands (opening plan scope) acts → Follows (state_after plan commands scope acts).progress
+  follows_holds acts runs =
+      always_of_progress plan commands (opening plan scope) (λ (p : Progress) (done : List Act). Follows p)
       (λ done act runs' o h.
       let s = state_after plan commands scope done in
-      moved_follows (action_at plan s) s (waiting_of s) act (action_for plan s.progress (waiting_of s)) (fine_stood plan commands scope done).unsent h)
+      moved_follows (action_at plan s) s (waiting_of s) act (action_for plan s.progress (waiting_of s)) (invariant_holds plan commands scope done).unsent h)
       (λ above. sym (ap others_in (none_behind commands)), λ none. refl) acts runs
-
-  -- what has to hold if this action is next holds of the station after these acts
-  needs_of : (acts : List Act) (next : Action) → action_at plan (state_after plan commands scope acts) ≡ next
-      → IsFor plan (state_after plan commands scope acts).progress (waiting_of (state_after plan commands scope acts)) next
-  needs_of acts next is =
-      let s = state_after plan commands scope acts in subst (λ (o : Action). IsFor plan s.progress (waiting_of s) o) is (action_for plan s.progress (waiting_of s))
 
   -- the law of further attempts that are sent
   goes_again : (acts : List Act) → Runs plan commands (opening plan scope) acts → action_at plan (state_after plan commands scope acts) ≡ actions.Send
       → IsFurtherAttempt plan commands (state_after plan commands scope acts)
       → (commands_in (state_after plan commands scope acts).marks ≡ 0) × HasListed scope.reads commands (state_after plan commands scope acts).records
-  goes_again acts runs is further = by_may (needs_of acts actions.Send is).6 where
+  goes_again acts runs is further = by_may (needs_of plan (state_after plan commands scope acts) actions.Send is).6 where
     -- the model after these acts
     s : Model
     s = state_after plan commands scope acts
 
     -- the law above, by why the command may be sent: it begins a further attempt
     by_may : ((s.progress.next_others ≡ 0) ⊎ ((commands_in s.marks ≡ 0) × (s.listed ≡ true))) → (commands_in s.marks ≡ 0) × HasListed scope.reads commands s.records
-    by_may (inl none) = let others = (follows_stood acts runs).0 further.0 in let more = further.1 in absurd (omega (arith, none, others, more))
+    by_may (inl none) = let others = (follows_holds acts runs).0 further.0 in let more = further.1 in absurd (omega (arith, none, others, more))
     by_may (inr may) = (may.0, listed_has scope.reads commands s.records (sym (kept_all acts).listed ∙ may.1))
 
   -- the law of further attempts that are left out
@@ -344,12 +333,12 @@ module _ (plan : Plan) (commands : List Task) (scope : Scope) where
     s = state_after plan commands scope acts
 
     -- what has to hold where attempts are left out
-    needs : IsFor plan s.progress (waiting_of s) actions.Pass
-    needs = needs_of acts actions.Pass is
+    needs : HoldsBefore plan s.progress (waiting_of s) actions.Pass
+    needs = needs_of plan (state_after plan commands scope acts) actions.Pass is
 
     -- what is said of the next command is true
     follows : Follows s.progress
-    follows = follows_stood acts runs
+    follows = follows_holds acts runs
 
     -- the next command isn't the first of its cycle, by its place
     by_place : (b : Bool) → nat_lt plan.setup (place_next commands s.progress) ≡ b → plan.setup < place_next commands s.progress
@@ -374,12 +363,12 @@ module _ (plan : Plan) (commands : List Task) (scope : Scope) where
         → (HasListed scope.reads commands s.records → ⊥) ⊎ ((s.progress.missed ≡ true) ⊎ (is_chained (drop (place_next commands s.progress) commands) ≡ true))
     by_why (inl none) = inl (λ h. not_both s.listed ((kept_all acts).listed ∙ has_listed scope.reads commands s.records false h) none)
     by_why (inr bound) =
-        inr (by_missed s.progress.missed (is_chained (drop (place_next commands s.progress) commands)) refl (sym (bound_stood plan commands scope acts runs above) ∙ bound))
+        inr (by_missed s.progress.missed (is_chained (drop (place_next commands s.progress) commands)) refl (sym (chained_as_text_says plan commands scope acts runs above) ∙ bound))
 
 -- the law: chains are sent again for a cause
-pub goes_out_again : GoesOutAgainForACause
+pub goes_out_again : FurtherAttemptsHaveACause
 goes_out_again = record { goes = goes_again; passes = passes_over }
 
 -- the law: each record has its command's turn
-pub turns_are : TurnsAreTheTexts
+pub turns_are : EachRecordHasItsTurn
 turns_are plan commands scope acts = (kept_all plan commands scope acts).records

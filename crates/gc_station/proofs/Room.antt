@@ -6,7 +6,7 @@ use Rattle.gc_station.specs.declared.progress.Action.{Action}
 use Rattle.gc_station.specs.declared.progress.Action.TheVariants as actions
 use Rattle.gc_station.specs.declared.progress.Progress.{Progress}
 use Rattle.gc_station.specs.declared.progress.Waiting.{Waiting}
-use Rattle.gc_station.specs.Reasons.{IsFor, HasRoom}
+use Rattle.gc_station.specs.Reasons.{HoldsBefore, HasRoom}
 use Rattle.gc_station.specs.Quiet.{IsAsking}
 use Rattle.gc_station.specs.Room.{RequestsHaveRoom}
 use Rattle.gc_station.specs.Runs.{state_after}
@@ -14,7 +14,7 @@ use Rattle.gc_station.specs.Model.{action_at, waiting_of}
 use Rattle.gc_station.proofs.Facts.{action_for}
 
 -- if a request of the client is next, there is room
-room_of : (plan : Plan) (p : Progress) (w : Waiting) (next : Action) → IsAsking next → IsFor plan p w next → HasRoom plan w
+room_of : (plan : Plan) (p : Progress) (w : Waiting) (next : Action) → IsAsking next → HoldsBefore plan p w next → HasRoom plan w
 room_of plan p w actions.Prepare puts is = is.3
 room_of plan p w actions.Send puts is = is.3
 room_of plan p w actions.Flush puts is = is.4

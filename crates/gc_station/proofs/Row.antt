@@ -22,13 +22,13 @@ use Rattle.gc_station.specs.Deciding.{later}
 use Rattle.gc_station.specs.EachOnce.{Request, of_record, of_cycles, cycle_with, of_text, in_text}
 use Rattle.gc_station.specs.Marks.{commands_in}
 use Rattle.gc_station.specs.Progressing.{moment_noted, turned, loses_all}
-use Rattle.gc_station.specs.Reasons.{IsFor}
+use Rattle.gc_station.specs.Reasons.{HoldsBefore}
 use Rattle.gc_station.specs.Runs.{state_after}
 use Rattle.gc_station.specs.Scopes.{Scope}
 use Rattle.gc_station.specs.Model.{Model, opening, action_at, waiting_of, cycles_begun, place_next, mark_next, Performs, Puts, ReadsClock, IsOpening, Runs, is_heard, asks_first, asks_null, after_piece, line_came, losing, moved, piece_at, with_progress, with_moment, null_text, text_or_null, first_text, request_text}
 use Rattle.gc_station.proofs.Always.{always}
 use Rattle.gc_station.proofs.Each.{row, row_moment, row_settles, more_waiting, marked_none, waiting_marked, cycles_append}
-use Rattle.gc_station.proofs.EachRun.{fine_stood}
+use Rattle.gc_station.proofs.EachRun.{invariant_holds}
 use Rattle.gc_station.proofs.Facts.{action_for}
 use Rattle.gc_station.proofs.Invariant.{Invariant}
 use Rattle.gc_station.proofs.Midway.{client_behind}
@@ -114,7 +114,7 @@ sent_last mark (task ∷ others) s paired room some many =
 
 module _ (plan : Plan) (commands : List Task) where
   -- `LastIsOfCycle` is preserved by an act of each action
-  last_moved : (o : Action) (s : Model) (act : Act) → Invariant plan commands s → IsFor plan s.progress (waiting_of s) o → Performs commands s o act → LastIsOfCycle (with_progress turned s)
+  last_moved : (o : Action) (s : Model) (act : Act) → Invariant plan commands s → HoldsBefore plan s.progress (waiting_of s) o → Performs commands s o act → LastIsOfCycle (with_progress turned s)
       → LastIsOfCycle (moved plan commands o (with_progress turned s) act)
   last_moved action.Send s act fine is o h =
       let t = with_progress turned s in
@@ -162,13 +162,13 @@ module _ (plan : Plan) (commands : List Task) where
   last_moved (action.Stop why) s act fine is o h = absurd o
 
   -- `LastIsOfCycle` holds after every run
-  last_stood : (scope : Scope) (acts : List Act) → Runs plan commands (opening plan scope) acts → LastIsOfCycle (state_after plan commands scope acts)
-  last_stood scope acts runs =
+  last_holds : (scope : Scope) (acts : List Act) → Runs plan commands (opening plan scope) acts → LastIsOfCycle (state_after plan commands scope acts)
+  last_holds scope acts runs =
       always plan commands (opening plan scope) (λ (xs : List Act) (t : Model). LastIsOfCycle t)
       (λ done act before obeys h.
       let s = state_after plan commands scope done in
       let t = moved plan commands (action_at plan s) (with_progress turned s) act in
-      let one = last_moved (action_at plan s) s act (fine_stood plan commands scope done) (action_for plan s.progress (waiting_of s)) obeys h in
+      let one = last_moved (action_at plan s) s act (invariant_holds plan commands scope done) (action_for plan s.progress (waiting_of s)) obeys h in
       kept (row_losing (loses_all t.progress) t) (λ e. one (by_loss (loses_all t.progress) t e))) (λ e. cc) acts runs where
         -- the loss of what is outstanding mends no chain
         by_loss : (b : Bool) (t : Model) → (losing b t).progress.chain_unbroken ≡ true → t.progress.chain_unbroken ≡ true
@@ -183,7 +183,7 @@ last_of_cycle plan commands scope acts runs none whole xs x is =
     let s = state_after plan commands scope acts in
     let all : row_of s ≡ xs ++ x ∷ [] =
     ap (λ ys. map of_record s.records ++ ys) (waiting_marked s.marks s.client.waiting ∙ marked_none s.marks (map of_pending s.client.waiting) none) ∙ append-nil (map of_record s.records) ∙ is in
-    subst (λ (n : ℕ). 0 < n) (ap (last_cycle 0) all ∙ last_behind 0 xs x) (last_stood plan commands scope acts runs whole)
+    subst (λ (n : ℕ). 0 < n) (ap (last_cycle 0) all ∙ last_behind 0 xs x) (last_holds plan commands scope acts runs whole)
 
 -- of requests, the last of which is of a cycle, those that are of a cycle have it last
 cycles_last : (xs : List Request) (x : Request) → 0 < x.cycle → of_cycles (xs ++ x ∷ []) ≡ of_cycles xs ++ x ∷ []

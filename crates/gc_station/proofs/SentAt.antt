@@ -1,9 +1,10 @@
 -- Which act sends the request of a command; and that records stay. An act is one call on the link, with its result. A part
 -- reaches from one synchronization of the station to the next. A mark says which command a request is of, or `None` of a null
 -- procedure.
-use Rattle.std.proofs.Common.{◌≡◌, ◌⊎◌, inl, inr, ℕ, zero, suc, ◌+◌, Bool, true, false, List, [], ◌∷◌, ◌++◌, length, drop, Some, None, refl, sym, ◌∙◌, ap, subst, arith, append_assoc}
+use Rattle.std.proofs.Common.{◌≡◌, ◌⊎◌, inl, inr, ℕ, zero, suc, ◌+◌, Bool, true, false, List, [], ◌∷◌, ◌++◌, length, drop, Some, None, refl, sym, ◌∙◌, ap, subst, arith}
 use Rattle.std.specs.Prelude.{slice_get}
 use Rattle.std.proofs.lemmas.List.{length-append}
+use Rattle.gc_texts.proofs.Cutting.{some_injective}
 use Rattle.gc_texts.specs.declared.tasks.Task.{Task}
 use Rattle.gc_station.specs.declared.mark.Mark.{Mark}
 use Rattle.gc_station.specs.declared.plan.Plan.{Plan}
@@ -14,9 +15,8 @@ use Rattle.gc_station.specs.Deciding.{has_begun}
 use Rattle.gc_station.specs.Links.{RecordsStay}
 use Rattle.gc_station.specs.Parts.{Part, nothing, joined, asking_first, putting, doing, beginning, acting, ends_part, in_front, parts_of, asking_or_null}
 use Rattle.gc_station.specs.Progressing.{turned, loses_all}
-use Rattle.gc_station.specs.Records.{Record}
 use Rattle.gc_station.specs.Runs.{state_after}
-use Rattle.gc_station.proofs.Outs.{SendsIt}
+use Rattle.gc_station.proofs.Outs.{SendsMarked}
 use Rattle.gc_station.specs.Model.{Model, opening, action_at, place_next, mark_next, with_progress, moved, after, after_all, mark_setup}
 use Rattle.gc_station.proofs.Facts.{either}
 use Rattle.gc_station.proofs.Going.{after_all-append}
@@ -24,10 +24,6 @@ use Rattle.gc_station.proofs.Growing.{losing_records, moved_grew}
 use Rattle.gc_station.proofs.Records.{Grew, grew_none, grew_then}
 
 -- Lists.
-
--- equal options have equal elements
-pub some_is : {A : Type 0} (a b : A) → Some a ≡ Some b → a ≡ b
-some_is a b e = cc
 
 -- `None` isn't `Some`
 pub none_is_not : {A : Type 0} (a : A) → None ≡ Some a → ⊥
@@ -41,31 +37,6 @@ get_split (y ∷ xs) ys (suc n) x e =
     elim (get_split xs ys n x e) [
       | inl l ↦ inl l
       | inr r ↦ (let at : n ≡ length xs + r.0 = r.1 in inr (r.0, omega (arith, at), r.2))
-    ]
-
--- what is at place i of the second list is, in both in a row, at place i after the first list
-pub get_behind : {A : Type 0} (xs ys : List A) (i j : ℕ) (x : A) → j ≡ length xs + i → slice_get ys i ≡ Some x → slice_get (xs ++ ys) j ≡ Some x
-get_behind [] ys i j x e got = let same : i ≡ j = omega (arith, e) in subst (λ k. slice_get ys k ≡ Some x) same got
-get_behind (y ∷ xs) ys i zero x e got = absurd (omega (arith, e))
-get_behind (y ∷ xs) ys i (suc j) x e got = get_behind xs ys i j x (omega (arith, e)) got
-
--- equal lists of acts have the same first act
-pub act_head : (x y : Act) (xs ys : List Act) → x ∷ xs ≡ y ∷ ys → x ≡ y
-act_head x y xs ys e = cc
-
--- equal lists of acts have the same acts after the first
-pub act_tail : (x y : Act) (xs ys : List Act) → x ∷ xs ≡ y ∷ ys → xs ≡ ys
-act_tail x y xs ys e = cc
-
--- of two fronts of the same acts, one is a front of the other
-pub fronts : (xs ys fs gs : List Act) → xs ++ ys ≡ fs ++ gs → ((more : List Act) × (fs ≡ xs ++ more)) ⊎ ((more : List Act) × (xs ≡ fs ++ more))
-fronts [] ys fs gs e = inl (fs, refl)
-fronts (x ∷ xs) ys [] gs e = inr (x ∷ xs, refl)
-fronts (x ∷ xs) ys (f ∷ fs) gs e =
-    let head : x ≡ f = act_head x f (xs ++ ys) (fs ++ gs) e in
-    elim (fronts xs ys fs gs (act_tail x f (xs ++ ys) (fs ++ gs) e)) [
-      | inl h ↦ inl (h.0, ap (λ y. y ∷ fs) (sym head) ∙ ap (λ l. x ∷ l) h.1)
-      | inr h ↦ inr (h.0, ap (λ y. y ∷ xs) head ∙ ap (λ l. f ∷ l) h.1)
     ]
 
 -- What is recorded stays.
@@ -90,10 +61,10 @@ records_stay plan commands scope before rest =
 
 -- Which act sends the request of a command.
 
--- the part of the first of some commands has no mark but that command's, before it
+-- a mark in the part of the first of some commands is that command's, at place 0
 pub put_mark : (now : ℕ) (its : Mark) (left : List Task) (n : ℕ) (mark : Mark) → slice_get (asking_first now its left).marks n ≡ Some (Some mark) → (n ≡ 0) × (mark ≡ its)
 put_mark now its [] n mark e = absurd (none_is_not (Some mark) e)
-put_mark now its (task ∷ others) zero mark e = (refl, sym (some_is its mark (some_is (Some its) (Some mark) e)))
+put_mark now its (task ∷ others) zero mark e = (refl, sym (some_injective its mark (some_injective (Some its) (Some mark) e)))
 put_mark now its (task ∷ others) (suc n) mark e = absurd (none_is_not (Some mark) e)
 
 -- a null procedure has no mark
@@ -101,15 +72,15 @@ pub null_mark : (n : ℕ) (mark : Mark) → slice_get (None ∷ []) n ≡ Some (
 null_mark zero mark e = cc
 null_mark (suc n) mark e = none_is_not (Some mark) e
 
--- the part of the next command of the setup has no mark but that command's, before it
+-- a mark in the part of the first of some commands of the setup is that command's, at place 0
 pub setup_mark : (plan : Plan) (now : ℕ) (its : Mark) (left : List Task) (n : ℕ) (mark : Mark) → slice_get (asking_or_null plan now its left).marks n ≡ Some (Some mark) → (n ≡ 0) × (mark ≡ its)
 setup_mark plan now its [] n mark e = absurd (null_mark n mark e)
-setup_mark plan now its (task ∷ others) zero mark e = (refl, sym (some_is its mark (some_is (Some its) (Some mark) e)))
+setup_mark plan now its (task ∷ others) zero mark e = (refl, sym (some_injective its mark (some_injective (Some its) (Some mark) e)))
 setup_mark plan now its (task ∷ others) (suc n) mark e = absurd (none_is_not (Some mark) e)
 
 -- this action sends the command with this mark, as the only request of its part
 abbrev pub IsSend : Plan → List Task → Model → Action → ℕ → Mark → Type 0
-IsSend plan commands s o n mark = (n ≡ 0) × SendsIt plan commands s o mark
+IsSend plan commands s o n mark = (n ≡ 0) × SendsMarked plan commands s o mark
 
 -- a mark in the part of bytes that are put is of a command that the action sends
 pub putting_mark : (plan : Plan) (commands : List Task) (s : Model) (o : Action) (n : ℕ) (mark : Mark)
@@ -151,7 +122,7 @@ pub record SentAt (plan : Plan) (commands : List Task) (s : Model) (acts : List 
   pub act : Act
   pub rest : List Act
   pub order : acts ≡ before ++ act ∷ rest
-  pub its : SendsIt plan commands (after_all plan commands s before) (action_at plan (after_all plan commands s before)) mark
+  pub its : SendsMarked plan commands (after_all plan commands s before) (action_at plan (after_all plan commands s before)) mark
   pub first : Part
   pub of_parts : slice_get (parts_of plan commands s before) i ≡ Some first
   pub last : length (parts_of plan commands s before) ≡ suc i
@@ -160,7 +131,7 @@ pub record SentAt (plan : Plan) (commands : List Task) (s : Model) (acts : List 
 -- a part that is joined to the first of these is the front of the first
 pub joined_at : (p : Part) (ps : List Part) (q : Part) → slice_get ps 0 ≡ Some q → slice_get (in_front p false ps) 0 ≡ Some (joined p q)
 joined_at p [] q e = absurd (none_is_not q e)
-joined_at p (x ∷ ps) q e = ap (λ y. Some (joined p y)) (some_is x q e)
+joined_at p (x ∷ ps) q e = ap (λ y. Some (joined p y)) (some_injective x q e)
 
 -- the parts after the first stay at their places where a part is joined to the first
 pub joined_on : (p : Part) (ps : List Part) (i : ℕ) (q : Part) → slice_get ps (suc i) ≡ Some q → slice_get (in_front p false ps) (suc i) ≡ Some q
@@ -241,14 +212,14 @@ module _ (plan : Plan) (commands : List Task) where
       → ((j k : ℕ) (p : Part) → slice_get ps j ≡ Some p → slice_get p.marks k ≡ Some (Some mark) → SentAt plan commands (after plan commands s act) acts j k mark)
       → slice_get (in_front (acting plan commands s (action_at plan s) act) b ps) i ≡ Some part → slice_get part.marks n ≡ Some (Some mark) → SentAt plan commands s (act ∷ acts) i n mark
   sent_by s act acts true ps zero n part mark is again e f =
-      sent_here s act acts n mark (subst (λ (p : Part). slice_get p.marks n ≡ Some (Some mark)) (sym (some_is (acting plan commands s (action_at plan s) act) part e)) f)
+      sent_here s act acts n mark (subst (λ (p : Part). slice_get p.marks n ≡ Some (Some mark)) (sym (some_injective (acting plan commands s (action_at plan s) act) part e)) f)
   sent_by s act acts true ps (suc i) n part mark is again e f = sent_cut s act acts i n mark is (again i n part e f)
   sent_by s act acts false [] zero n part mark is again e f =
-      sent_here s act acts n mark (subst (λ (p : Part). slice_get p.marks n ≡ Some (Some mark)) (sym (some_is (acting plan commands s (action_at plan s) act) part e)) f)
+      sent_here s act acts n mark (subst (λ (p : Part). slice_get p.marks n ≡ Some (Some mark)) (sym (some_injective (acting plan commands s (action_at plan s) act) part e)) f)
   sent_by s act acts false [] (suc i) n part mark is again e f = absurd (none_is_not part e)
   sent_by s act acts false (q ∷ ps) zero n part mark is again e f =
       let p = acting plan commands s (action_at plan s) act in
-      elim (get_split p.marks q.marks n (Some mark) (subst (λ (x : Part). slice_get x.marks n ≡ Some (Some mark)) (sym (some_is (joined p q) part e)) f)) [
+      elim (get_split p.marks q.marks n (Some mark) (subst (λ (x : Part). slice_get x.marks n ≡ Some (Some mark)) (sym (some_injective (joined p q) part e)) f)) [
         | inl l ↦ sent_here s act acts n mark l
         | inr r ↦ sent_on s act acts n r.0 mark is r.1 (again 0 r.0 q refl r.2)
       ]
@@ -257,7 +228,7 @@ module _ (plan : Plan) (commands : List Task) where
   -- a request of a command in a run's parts was sent among the run's acts
   pub sent_at : (s : Model) (acts : List Act) (i n : ℕ) (part : Part) (mark : Mark) → slice_get (parts_of plan commands s acts) i ≡ Some part
       → slice_get part.marks n ≡ Some (Some mark) → SentAt plan commands s acts i n mark
-  sent_at s [] zero n part mark e f = absurd (none_is_not (Some mark) (subst (λ (p : Part). slice_get p.marks n ≡ Some (Some mark)) (sym (some_is nothing part e)) f))
+  sent_at s [] zero n part mark e f = absurd (none_is_not (Some mark) (subst (λ (p : Part). slice_get p.marks n ≡ Some (Some mark)) (sym (some_injective nothing part e)) f))
   sent_at s [] (suc i) n part mark e f = absurd (none_is_not part e)
   sent_at s (act ∷ acts) i n part mark e f =
       sent_by s act acts (ends_part plan commands s act) (parts_of plan commands (after plan commands s act) acts) i n part mark refl

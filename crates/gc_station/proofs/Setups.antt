@@ -18,14 +18,14 @@ use Rattle.gc_station.specs.declared.progress.Until.{Until}
 use Rattle.gc_station.specs.Deciding.{later}
 use Rattle.gc_station.specs.Marks.{commands_in, records_of}
 use Rattle.gc_station.specs.Progressing.{moment_noted, turned, loses_all, next_attempt}
-use Rattle.gc_station.specs.Reasons.{IsFor}
+use Rattle.gc_station.specs.Reasons.{HoldsBefore}
 use Rattle.gc_station.specs.Records.{Record}
 use Rattle.gc_station.specs.Runs.{state_after}
 use Rattle.gc_station.specs.Scopes.{Scope}
 use Rattle.gc_station.specs.Model.{Model, opening, action_at, waiting_of, cycles_begun, place_next, mark_next, mark_setup, is_heard, asks_first, asks_or_null, after_piece, line_came, losing, moved, piece_at, skips_first, with_progress, with_moment, with_rest, after, after_all}
 use Rattle.gc_station.specs.Setups.{Dispatch, dispatch_of_record, dispatch_of_mark, dispatches_of, setup_with, of_setup, sent_first, sent_as, setup_sent_by, EachSetUpOnce, GoOn, AreInOrder, SetUpsGoOn}
 use Rattle.gc_station.proofs.Counts.{ended_progress}
-use Rattle.gc_station.proofs.EachRun.{fine_all, fine_opening, fine_stood, stopped}
+use Rattle.gc_station.proofs.EachRun.{invariant_all, invariant_opening, invariant_holds, stopped}
 use Rattle.gc_station.proofs.Facts.{action_for}
 use Rattle.gc_station.proofs.Invariant.{Invariant}
 use Rattle.gc_station.proofs.Walk.{came_along, closed_along, is_prepared, moved_changed}
@@ -34,8 +34,8 @@ use Rattle.gc_station.proofs.Ticking.{not_none}
 -- The row.
 
 -- the row of a model: its records and, after them, the outstanding commands
-abbrev pub row_of : Model → List Dispatch
-row_of s = map dispatch_of_record s.records ++ dispatches_of s.marks
+abbrev pub dispatch_row : Model → List Dispatch
+dispatch_row s = map dispatch_of_record s.records ++ dispatches_of s.marks
 
 -- settlements of the oldest requests leave their commands, as records
 settled_row : (reads : Asked → List ℕ → Reading) (utc : ℕ) (ms : List (Option Mark)) (ss : List (Settlement Asked))
@@ -57,21 +57,21 @@ row_settles reads utc ms ss rs =
     (λ xs. map dispatch_of_record rs ++ xs) (settled_row reads utc ms ss)
 
 -- a line that is heard leaves the row
-row_line : (s : Model) (line : List ℕ) → row_of (line_came s line) ≡ row_of s
-row_line s line = let x = hears s.client line (heard line) in row_settles s.reads s.progress.moment.utc s.marks x.settlements s.records
+dispatch_row_line : (s : Model) (line : List ℕ) → dispatch_row (line_came s line) ≡ dispatch_row s
+dispatch_row_line s line = let x = hears s.client line (heard line) in row_settles s.reads s.progress.moment.utc s.marks x.settlements s.records
 
 -- a piece leaves the row, heard or not
-row_came : (h : Bool) (word piece : List ℕ) (s : Model) → row_of (after_piece h word piece s) ≡ row_of s
-row_came h word piece s = came_along (λ (t : Model). row_of t ≡ row_of s) (λ t line e. row_line t line ∙ e) h word piece s refl refl refl
+dispatch_row_came : (h : Bool) (word piece : List ℕ) (s : Model) → dispatch_row (after_piece h word piece s) ≡ dispatch_row s
+dispatch_row_came h word piece s = came_along (λ (t : Model). dispatch_row t ≡ dispatch_row s) (λ t line e. dispatch_row_line t line ∙ e) h word piece s refl refl refl
 
 -- a read that gave bytes leaves the row
-row_gave : (plan : Plan) (until : Until) (s : Model) (bytes : List ℕ) (m : Moment) → row_of (piece_at plan until bytes m s) ≡ row_of s
-row_gave plan until s bytes m = row_came (is_heard s.progress.phase) s.progress.word bytes (with_moment m (with_progress (moment_noted m) s))
+dispatch_row_gave : (plan : Plan) (until : Until) (s : Model) (bytes : List ℕ) (m : Moment) → dispatch_row (piece_at plan until bytes m s) ≡ dispatch_row s
+dispatch_row_gave plan until s bytes m = dispatch_row_came (is_heard s.progress.phase) s.progress.word bytes (with_moment m (with_progress (moment_noted m) s))
 
 -- the loss of what is outstanding leaves the row
-pub row_losing : (b : Bool) (s : Model) → row_of (losing b s) ≡ row_of s
-row_losing true s = row_settles s.reads s.progress.moment.utc s.marks (map lost s.client.waiting) s.records
-row_losing false s = refl
+pub dispatch_row_losing : (b : Bool) (s : Model) → dispatch_row (losing b s) ≡ dispatch_row s
+dispatch_row_losing true s = row_settles s.reads s.progress.moment.utc s.marks (map lost s.client.waiting) s.records
+dispatch_row_losing false s = refl
 
 -- the commands of two lists of marks are those of the first list, and after them those of the second
 marks_append : (xs ys : List (Option Mark)) → dispatches_of (xs ++ ys) ≡ dispatches_of xs ++ dispatches_of ys
@@ -85,42 +85,44 @@ row_more : (rs : List Record) (ms : List (Option Mark)) (m : Option Mark)
 row_more rs ms m = ap (λ xs. map dispatch_of_record rs ++ xs) (marks_append ms (m ∷ [])) ∙ sym (append_assoc (map dispatch_of_record rs) (dispatches_of ms) (dispatches_of (m ∷ [])))
 
 -- the first of these commands adds itself to the row if it is sent
-first_row : (mark : Mark) (left : List Task) (s : Model) → row_of (asks_first mark left s) ≡ row_of s ++ sent_first mark left
-first_row mark [] s = sym (append-nil (row_of s))
+first_row : (mark : Mark) (left : List Task) (s : Model) → dispatch_row (asks_first mark left s) ≡ dispatch_row s ++ sent_first mark left
+first_row mark [] s = sym (append-nil (dispatch_row s))
 first_row mark (task ∷ others) s = row_more s.records s.marks (Some mark)
 
 -- the first of these commands of the setup adds itself to the row if it is sent; a null procedure adds nothing
-null_row : (plan : Plan) (mark : Mark) (left : List Task) (s : Model) → row_of (asks_or_null plan mark left s) ≡ row_of s ++ sent_first mark left
+null_row : (plan : Plan) (mark : Mark) (left : List Task) (s : Model) → dispatch_row (asks_or_null plan mark left s) ≡ dispatch_row s ++ sent_first mark left
 null_row plan mark [] s = row_more s.records s.marks None
 null_row plan mark (task ∷ others) s = row_more s.records s.marks (Some mark)
 
 module _ (plan : Plan) (commands : List Task) where
   -- an act that sends the next command of the setup adds it to the row
-  pub row_prepared : (s : Model) (act : Act) → row_of (moved plan commands action.Prepare s act) ≡ row_of s ++ sent_as action.Prepare commands s
+  pub row_prepared : (s : Model) (act : Act) → dispatch_row (moved plan commands action.Prepare s act) ≡ dispatch_row s ++ sent_as action.Prepare commands s
   row_prepared s (Cut bytes n) = null_row plan (mark_setup commands s.progress) (drop s.progress.prepared commands) s
   row_prepared s act = null_row plan (mark_setup commands s.progress) (drop s.progress.prepared commands) s
 
   -- an act that sends the next command of a cycle adds it to the row
-  row_sent : (s : Model) (act : Act) → row_of (moved plan commands action.Send s act) ≡ row_of s ++ sent_first (mark_next plan commands s.progress) (drop (place_next commands s.progress) commands)
+  row_sent : (s : Model) (act : Act) → dispatch_row (moved plan commands action.Send s act)
+      ≡ dispatch_row s ++ sent_first (mark_next plan commands s.progress) (drop (place_next commands s.progress) commands)
   row_sent s (Cut bytes n) = first_row (mark_next plan commands s.progress) (drop (place_next commands s.progress) commands) s
   row_sent s act = first_row (mark_next plan commands s.progress) (drop (place_next commands s.progress) commands) s
 
-  -- an act of any action but these, and but that of a command that isn't sent, leaves the row
+  -- an action other than those that give a command its turn (`Prepare`, `Send` and `Skip`)
   abbrev pub LeavesRow : Action → Type 0
   LeavesRow action.Prepare = ⊥
   LeavesRow action.Send = ⊥
   LeavesRow action.Skip = ⊥
   LeavesRow o = Unit {0}
 
-  pub row_kept : (o : Action) (s : Model) (act : Act) → LeavesRow o → row_of (moved plan commands o s act) ≡ row_of s
+  -- an act of an action other than those leaves the row
+  pub row_kept : (o : Action) (s : Model) (act : Act) → LeavesRow o → dispatch_row (moved plan commands o s act) ≡ dispatch_row s
   row_kept action.Prepare s act other = absurd other
   row_kept action.Send s act other = absurd other
   row_kept action.Skip s act other = absurd other
-  row_kept action.Flush s (Cut bytes n) other = row_more s.records s.marks None ∙ append-nil (row_of s)
-  row_kept action.Flush s act other = row_more s.records s.marks None ∙ append-nil (row_of s)
-  row_kept (action.Read until) s (Gave bytes m) other = row_gave plan until s bytes m
+  row_kept action.Flush s (Cut bytes n) other = row_more s.records s.marks None ∙ append-nil (dispatch_row s)
+  row_kept action.Flush s act other = row_more s.records s.marks None ∙ append-nil (dispatch_row s)
+  row_kept (action.Read until) s (Gave bytes m) other = dispatch_row_gave plan until s bytes m
   row_kept (action.Read until) s act other = refl
-  row_kept o s act other = ap row_of (moved_changed plan commands o s act)
+  row_kept o s act other = ap dispatch_row (moved_changed plan commands o s act)
 
 -- Those of the setup.
 
@@ -173,53 +175,53 @@ module _ (plan : Plan) (commands : List Task) where
   some_cycle s fine some = let below = fine.begun some in omega (arith, below)
 
   -- an act adds to the setup's part of the row the command of the setup that it sends, if it sends one
-  setup_moved : (o : Action) (s : Model) (act : Act) → Invariant plan commands s → IsFor plan s.progress (waiting_of s) o
-      → of_setup (row_of (moved plan commands o (with_progress turned s) act)) ≡ of_setup (row_of s) ++ sent_as o commands s
+  setup_moved : (o : Action) (s : Model) (act : Act) → Invariant plan commands s → HoldsBefore plan s.progress (waiting_of s) o
+      → of_setup (dispatch_row (moved plan commands o (with_progress turned s) act)) ≡ of_setup (dispatch_row s) ++ sent_as o commands s
   setup_moved action.Prepare s act fine is =
       let t = with_progress turned s in
-      ap of_setup (row_prepared plan commands t act) ∙ setup_append (row_of s) (sent_as action.Prepare commands t)
-      ∙ ap (λ xs. of_setup (row_of s) ++ xs) (all_sent commands t.progress (drop t.progress.prepared commands))
+      ap of_setup (row_prepared plan commands t act) ∙ setup_append (dispatch_row s) (sent_as action.Prepare commands t)
+      ∙ ap (λ xs. of_setup (dispatch_row s) ++ xs) (all_sent commands t.progress (drop t.progress.prepared commands))
   setup_moved action.Send s act fine is =
       let t = with_progress turned s in
       let one = sent_first (mark_next plan commands t.progress) (drop (place_next commands t.progress) commands) in
-      ap of_setup (row_sent plan commands t act) ∙ setup_append (row_of s) one
-      ∙ ap (λ xs. of_setup (row_of s) ++ xs) (none_sent (mark_next plan commands t.progress) (drop (place_next commands t.progress) commands) (some_cycle s fine is.2))
+      ap of_setup (row_sent plan commands t act) ∙ setup_append (dispatch_row s) one
+      ∙ ap (λ xs. of_setup (dispatch_row s) ++ xs) (none_sent (mark_next plan commands t.progress) (drop (place_next commands t.progress) commands) (some_cycle s fine is.2))
   setup_moved action.Skip s (Told m) fine is =
       let p = turned s.progress in
       let left = drop (place_next commands p) commands in
       between_none s.records (skips_first p m (mark_next plan commands p) left) s.marks (none_skipped p m (mark_next plan commands p) left (some_cycle s fine is.2)) ∙ sym
-      (append-nil (of_setup (row_of s)))
-  setup_moved action.Skip s act fine is = between_none s.records [] s.marks refl ∙ sym (append-nil (of_setup (row_of s)))
-  setup_moved action.ReadClock s act fine is = ap of_setup (row_kept plan commands action.ReadClock (with_progress turned s) act tt) ∙ sym (append-nil (of_setup (row_of s)))
-  setup_moved action.Renew s act fine is = ap of_setup (row_kept plan commands action.Renew (with_progress turned s) act tt) ∙ sym (append-nil (of_setup (row_of s)))
-  setup_moved action.Begin s act fine is = ap of_setup (row_kept plan commands action.Begin (with_progress turned s) act tt) ∙ sym (append-nil (of_setup (row_of s)))
-  setup_moved action.Open s act fine is = ap of_setup (row_kept plan commands action.Open (with_progress turned s) act tt) ∙ sym (append-nil (of_setup (row_of s)))
-  setup_moved action.Clear s act fine is = ap of_setup (row_kept plan commands action.Clear (with_progress turned s) act tt) ∙ sym (append-nil (of_setup (row_of s)))
-  setup_moved action.Ask s act fine is = ap of_setup (row_kept plan commands action.Ask (with_progress turned s) act tt) ∙ sym (append-nil (of_setup (row_of s)))
-  setup_moved action.Pass s act fine is = ap of_setup (row_kept plan commands action.Pass (with_progress turned s) act tt) ∙ sym (append-nil (of_setup (row_of s)))
-  setup_moved action.Flush s act fine is = ap of_setup (row_kept plan commands action.Flush (with_progress turned s) act tt) ∙ sym (append-nil (of_setup (row_of s)))
-  setup_moved (action.Read until) s act fine is = ap of_setup (row_kept plan commands (action.Read until) (with_progress turned s) act tt) ∙ sym (append-nil (of_setup (row_of s)))
-  setup_moved (action.Close why) s act fine is = ap of_setup (row_kept plan commands (action.Close why) (with_progress turned s) act tt) ∙ sym (append-nil (of_setup (row_of s)))
-  setup_moved (action.Stop why) s act fine is = ap of_setup (row_kept plan commands (action.Stop why) (with_progress turned s) act tt) ∙ sym (append-nil (of_setup (row_of s)))
+      (append-nil (of_setup (dispatch_row s)))
+  setup_moved action.Skip s act fine is = between_none s.records [] s.marks refl ∙ sym (append-nil (of_setup (dispatch_row s)))
+  setup_moved action.ReadClock s act fine is = ap of_setup (row_kept plan commands action.ReadClock (with_progress turned s) act tt) ∙ sym (append-nil (of_setup (dispatch_row s)))
+  setup_moved action.Renew s act fine is = ap of_setup (row_kept plan commands action.Renew (with_progress turned s) act tt) ∙ sym (append-nil (of_setup (dispatch_row s)))
+  setup_moved action.Begin s act fine is = ap of_setup (row_kept plan commands action.Begin (with_progress turned s) act tt) ∙ sym (append-nil (of_setup (dispatch_row s)))
+  setup_moved action.Open s act fine is = ap of_setup (row_kept plan commands action.Open (with_progress turned s) act tt) ∙ sym (append-nil (of_setup (dispatch_row s)))
+  setup_moved action.Clear s act fine is = ap of_setup (row_kept plan commands action.Clear (with_progress turned s) act tt) ∙ sym (append-nil (of_setup (dispatch_row s)))
+  setup_moved action.Ask s act fine is = ap of_setup (row_kept plan commands action.Ask (with_progress turned s) act tt) ∙ sym (append-nil (of_setup (dispatch_row s)))
+  setup_moved action.Pass s act fine is = ap of_setup (row_kept plan commands action.Pass (with_progress turned s) act tt) ∙ sym (append-nil (of_setup (dispatch_row s)))
+  setup_moved action.Flush s act fine is = ap of_setup (row_kept plan commands action.Flush (with_progress turned s) act tt) ∙ sym (append-nil (of_setup (dispatch_row s)))
+  setup_moved (action.Read until) s act fine is = ap of_setup (row_kept plan commands (action.Read until) (with_progress turned s) act tt) ∙ sym (append-nil (of_setup (dispatch_row s)))
+  setup_moved (action.Close why) s act fine is = ap of_setup (row_kept plan commands (action.Close why) (with_progress turned s) act tt) ∙ sym (append-nil (of_setup (dispatch_row s)))
+  setup_moved (action.Stop why) s act fine is = ap of_setup (row_kept plan commands (action.Stop why) (with_progress turned s) act tt) ∙ sym (append-nil (of_setup (dispatch_row s)))
 
   -- acts add to the setup's part of the row the commands of the setup that they send
-  setup_from : (s : Model) (acts : List Act) → Invariant plan commands s → of_setup (row_of (after_all plan commands s acts)) ≡ of_setup (row_of s) ++ setup_sent_by plan commands s acts
-  setup_from s [] fine = sym (append-nil (of_setup (row_of s)))
+  setup_from : (s : Model) (acts : List Act) → Invariant plan commands s → of_setup (dispatch_row (after_all plan commands s acts)) ≡ of_setup (dispatch_row s) ++ setup_sent_by plan commands s acts
+  setup_from s [] fine = sym (append-nil (of_setup (dispatch_row s)))
   setup_from s (act ∷ acts) fine =
       let o = action_at plan s in
       let u = after plan commands s act in
       let t = moved plan commands o (with_progress turned s) act in
-      let one = ap of_setup (row_losing (loses_all t.progress) t) ∙ setup_moved o s act fine (action_for plan s.progress (waiting_of s)) in
-      setup_from u acts (fine_all plan commands s (act ∷ []) fine) ∙ ap (λ xs. xs ++ setup_sent_by plan commands u acts) one
-      ∙ append_assoc (of_setup (row_of s)) (sent_as o commands s) (setup_sent_by plan commands u acts)
+      let one = ap of_setup (dispatch_row_losing (loses_all t.progress) t) ∙ setup_moved o s act fine (action_for plan s.progress (waiting_of s)) in
+      setup_from u acts (invariant_all plan commands s (act ∷ []) fine) ∙ ap (λ xs. xs ++ setup_sent_by plan commands u acts) one
+      ∙ append_assoc (of_setup (dispatch_row s)) (sent_as o commands s) (setup_sent_by plan commands u acts)
 
 -- the law: each command of the setup that was sent has one record, or is outstanding; and if the run stopped, none is
 -- outstanding
 pub each_set_up_once : (plan : Plan) (commands : List Task) (scope : Scope) (acts : List Act) → EachSetUpOnce plan commands scope acts
 each_set_up_once plan commands scope acts =
     let s = state_after plan commands scope acts in
-    let all = setup_from plan commands (opening plan scope) acts (fine_opening plan commands scope) in
-    let fine = fine_stood plan commands scope acts in
+    let all = setup_from plan commands (opening plan scope) acts (invariant_opening plan commands scope) in
+    let fine = invariant_holds plan commands scope acts in
     record {
       each = all;
       settled = λ why stop.
@@ -271,7 +273,7 @@ restarted_next x p q a k (inl is) = inr (
 )
 restarted_next x p q a k (inr is) = inr (a ∙ ap (λ (n : ℕ). if nat_eq n 0 then p.attempt else later p.attempt 1) is.1 ∙ is.0, k)
 
--- an act that sends no command of the setup leaves the next one after x
+-- if from p to q the setup's next command stays, or is the first again (`Resets`), it still goes after x
 next_kept : (x : Dispatch) (p q : Progress) → Resets p q → IsNext x p → IsNext x q
 next_kept x p q (inl same) (inl is) = inl (same.0 ∙ is.0, same.1 ∙ is.1)
 next_kept x p q (inl same) (inr is) = inr (same.0 ∙ is.0, same.1 ∙ is.1)
@@ -311,7 +313,7 @@ module _ (plan : Plan) (commands : List Task) (within : plan.setup ≤ length co
 
   -- if a command of the setup is next, it is in the setup
   below : (s : Model) → action_at plan s ≡ action.Prepare → s.progress.prepared < plan.setup
-  below s is = let needs = subst (λ (o : Action). IsFor plan s.progress (waiting_of s) o) is (action_for plan s.progress (waiting_of s)) in needs.2.1
+  below s is = let needs = subst (λ (o : Action). HoldsBefore plan s.progress (waiting_of s) o) is (action_for plan s.progress (waiting_of s)) in needs.2.1
 
   -- if a command of the setup is next, it is sent
   pub sends_it : (s : Model) → action_at plan s ≡ action.Prepare → sent_as (action_at plan s) commands s ≡ next_dispatch s ∷ []

@@ -19,7 +19,7 @@ use Rattle.gc_station.specs.Runs.{state_after}
 use Rattle.gc_station.specs.Scopes.{Scope}
 use Rattle.gc_station.specs.Model.{Model, opening, action_at, waiting_of, with_progress, with_moment, lines_completed, is_heard, Performs, moved, Runs}
 use Rattle.gc_station.proofs.Closings.{closing_shown, needs_of}
-use Rattle.gc_station.proofs.Always.{always_far}
+use Rattle.gc_station.proofs.Always.{always_of_progress}
 use Rattle.gc_station.proofs.Connected.{is_in_use, OnLine, on_line}
 use Rattle.gc_station.proofs.Facts.{Awake}
 use Rattle.gc_station.proofs.Walk.{asked_along, came_along}
@@ -98,8 +98,8 @@ module _ (plan : Plan) (commands : List Task) where
   fresh_line next s acts = λ m. fresh_told false m.elapsed s.progress.phase acts (Told m) refl
 
   -- `Fresh` holds after every run
-  fresh_stood : (scope : Scope) (acts : List Act) → Runs plan commands (opening plan scope) acts → FreshAt (state_after plan commands scope acts).progress acts
-  fresh_stood scope acts runs = always_far plan commands (opening plan scope) FreshAt step tt acts runs where
+  fresh_holds : (scope : Scope) (acts : List Act) → Runs plan commands (opening plan scope) acts → FreshAt (state_after plan commands scope acts).progress acts
+  fresh_holds scope acts runs = always_of_progress plan commands (opening plan scope) FreshAt step tt acts runs where
     -- one act of a run preserves `FreshAt`
     step : (done : List Act) (act : Act) → Runs plan commands (opening plan scope) done
         → Performs commands (state_after plan commands scope done) (action_at plan (state_after plan commands scope done)) act
@@ -114,7 +114,7 @@ module _ (plan : Plan) (commands : List Task) where
       → LastTells (state_after plan commands scope acts).progress.moment.elapsed acts
   awake_last scope acts runs awake =
       let p = (state_after plan commands scope acts).progress in
-      (subst (λ (x : Phase). Fresh p.clock_due p.moment.elapsed x acts) awake.1 (fresh_stood scope acts runs)) awake.0
+      (subst (λ (x : Phase). Fresh p.clock_due p.moment.elapsed x acts) awake.1 (fresh_holds scope acts runs)) awake.0
 
 -- A close that no act shows is decided if it is made.
 

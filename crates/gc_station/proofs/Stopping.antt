@@ -1,4 +1,4 @@
--- How a run ends that is stale, and one whose end was asked for. `Freshly` says of an act which records it recorded, and what
+-- How a run ends that is stale, and one whose end was asked for. `TracksFresh` says of an act which records it recorded, and what
 -- became of the moment from which on the run may become stale. An act is one call on the link, with its result.
 use Rattle.std.proofs.Common.{◌≡◌, inl, inr, ◌⊎◌, ℕ, ◌-◌, ◌<◌, ◌≤◌, ◌||◌, min, Bool, true, false, List, [], ◌∷◌, ◌++◌, drop, map, Option, Some, None, nat_lt, nat_le, nat_eq, refl, sym, ap, ◌∙◌, subst, append-nil, append_assoc, arith}
 use Rattle.std.proofs.lemmas.Bool.{ltb-true, leb-true}
@@ -30,9 +30,9 @@ use Rattle.gc_station.specs.Progressing.{turned, moment_noted, quieted, time_pas
 use Rattle.gc_station.specs.Records.{Record}
 use Rattle.gc_station.specs.Runs.{state_after}
 use Rattle.gc_station.specs.Scopes.{Scope}
-use Rattle.gc_station.specs.Stopping.{least_told, asked_after, IsNotWell, NoneWellSince, ClosesStale, StopsAtItsClose, EndsOnceStale, GoesOnInItsChain, ClosesBetweenChains}
+use Rattle.gc_station.specs.Stopping.{least_moment, asked_after, IsNotWell, NoneWellSince, ClosesStale, StopsAtItsClose, EndsOnceStale, GoesOnInItsChain, ClosesBetweenChains}
 use Rattle.gc_station.specs.Quiet.{IsListening}
-use Rattle.gc_station.proofs.Always.{always, always_far}
+use Rattle.gc_station.proofs.Always.{always, always_of_progress}
 use Rattle.gc_station.proofs.Closings.{end_of, Decided, after_decided, runs_split, stopped_for, needs_of, done_sent}
 use Rattle.gc_station.proofs.Counts.{ended_progress}
 use Rattle.gc_station.proofs.Facts.{both_true}
@@ -42,7 +42,7 @@ use Rattle.gc_station.proofs.Records.{fresh-append}
 use Rattle.gc_station.proofs.Silences.{end_here, not_closing}
 use Rattle.gc_station.proofs.Ticking.{picks, picks_other}
 use Rattle.gc_station.proofs.Turns.{over_stops}
-use Rattle.gc_station.proofs.Unbroken.{on_line_stood, resting_none}
+use Rattle.gc_station.proofs.Unbroken.{unbroken_holds, resting_none}
 use Rattle.gc_station.proofs.Walk.{asked_along, came_along, quieted_along, closed_along, walk}
 
 -- Records.
@@ -80,7 +80,7 @@ fresh_cases now fresh (r ∷ rs) = by_first (fresh_cases now now rs) (fresh_case
     on_unwell (inr ((front, x, later, order, well), e)) =
         inr ((r ∷ front, x, later, ap (λ xs. r ∷ xs) order, well), ap (λ x. fresh_after now x rs) (picks_other (is_well r.end) now fresh unwell) ∙ e)
 
--- a command that isn't sent wasn't answered well
+-- the record of the first of these commands, if it isn't sent, isn't of one that was answered well
 skips_unwell : (p : Progress) (m : Moment) (mark : Mark) (list : List Task) → AllByRecursion IsNotWell (skips_first p m mark list)
 skips_unwell p m mark [] = tt
 skips_unwell p m mark (task ∷ others) = by_test p.missed where
@@ -98,24 +98,24 @@ lost_unwell reads utc (Some mark ∷ marks) (p ∷ ps) = (refl, lost_unwell read
 
 -- What an act records.
 
--- an act wrote records of which none is of a command that was answered well
-abbrev Plainly : Model → Act → Model → Type 0
-Plainly s act t = (rs : List Record) × (t.records ≡ s.records ++ rs) × AllByRecursion IsNotWell rs × (t.fresh ≡ least_told s.fresh (act ∷ []))
+-- from s to t an act wrote records of which none is of a command that was answered well
+abbrev RecordsNoneWell : Model → Act → Model → Type 0
+RecordsNoneWell s act t = (rs : List Record) × (t.records ≡ s.records ++ rs) × AllByRecursion IsNotWell rs × (t.fresh ≡ least_moment s.fresh (act ∷ []))
 
--- an act is a read that gave bytes, and wrote records of which one is of a command that was answered well
-abbrev Well : Model → Act → Model → Type 0
-Well s act t = (rs : List Record) × (t.records ≡ s.records ++ rs) × HasWell rs × (bytes : List ℕ) × (m : Moment) × (act ≡ Gave bytes m) × (t.fresh ≡ m.elapsed)
+-- from s to t an act, a read that gave bytes, wrote records of which one is of a command that was answered well
+abbrev RecordsOneWell : Model → Act → Model → Type 0
+RecordsOneWell s act t = (rs : List Record) × (t.records ≡ s.records ++ rs) × HasWell rs × (bytes : List ℕ) × (m : Moment) × (act ≡ Gave bytes m) × (t.fresh ≡ m.elapsed)
 
--- an act wrote records, as `Plainly` or `Well` says
-abbrev Freshly : Model → Act → Model → Type 0
-Freshly s act t = Plainly s act t ⊎ Well s act t
+-- an act wrote records, as `RecordsNoneWell` or `RecordsOneWell` says
+abbrev TracksFresh : Model → Act → Model → Type 0
+TracksFresh s act t = RecordsNoneWell s act t ⊎ RecordsOneWell s act t
 
--- a model of the lines so far of a piece, at this moment, after the model `mid`
-abbrev Heard : Model → ℕ → Model → Type 0
-Heard mid now t = (rs : List Record) × (t.records ≡ mid.records ++ rs) × (t.fresh ≡ fresh_after now mid.fresh rs) × (t.progress.moment.elapsed ≡ now)
+-- t is the model `mid` after some lines of a piece, heard at the moment `now`: which records they added, and what became of `fresh`
+abbrev HeardSince : Model → ℕ → Model → Type 0
+HeardSince mid now t = (rs : List Record) × (t.records ≡ mid.records ++ rs) × (t.fresh ≡ fresh_after now mid.fresh rs) × (t.progress.moment.elapsed ≡ now)
 
--- one line more preserves `Heard`
-heard_line : (mid : Model) (now : ℕ) (t : Model) (line : List ℕ) → Heard mid now t → Heard mid now (line_came t line)
+-- one line more preserves `HeardSince`
+heard_line : (mid : Model) (now : ℕ) (t : Model) (line : List ℕ) → HeardSince mid now t → HeardSince mid now (line_came t line)
 heard_line mid now t line (rs, order, fresh, at) =
     let added = records_of t.reads t.progress.moment.utc t.marks (hears t.client line (heard line)).settlements in (
       rs ++ added,
@@ -124,52 +124,53 @@ heard_line mid now t line (rs, order, fresh, at) =
       at,
     )
 
--- a piece preserves `Heard`
-heard_piece : (is_heard : Bool) (word piece : List ℕ) (mid : Model) → Heard mid mid.progress.moment.elapsed (after_piece is_heard word piece mid)
+-- a piece preserves `HeardSince`
+heard_piece : (is_heard : Bool) (word piece : List ℕ) (mid : Model) → HeardSince mid mid.progress.moment.elapsed (after_piece is_heard word piece mid)
 heard_piece is_heard word piece mid =
     let now = mid.progress.moment.elapsed in
     let none = sym (append-nil mid.records) in
-    came_along (Heard mid now) (λ t line h. heard_line mid now t line h) is_heard word piece mid ([], none, refl, refl)
+    came_along (HeardSince mid now) (λ t line h. heard_line mid now t line h) is_heard word piece mid ([], none, refl, refl)
     ([], none, refl, asked_along (λ (q : Progress). q.moment.elapsed ≡ now) (λ q line e. e) mid.progress (lines_completed mid.rest piece) refl) ([], none, refl, refl)
 
--- a read that gave bytes wrote records as `Freshly` says
-gave_fresh : (plan : Plan) (until : Until) (s : Model) (bytes : List ℕ) (m : Moment) → Freshly s (Gave bytes m) (piece_at plan until bytes m s)
+-- a read that gave bytes wrote records as `TracksFresh` says
+gave_fresh : (plan : Plan) (until : Until) (s : Model) (bytes : List ℕ) (m : Moment) → TracksFresh s (Gave bytes m) (piece_at plan until bytes m s)
 gave_fresh plan until s bytes m =
     let mid = with_moment m (with_progress (moment_noted m) s) in
     by_case (heard_piece (is_heard s.progress.phase) s.progress.word bytes mid) where
       -- the lemma above, by the records that the piece recorded
-      by_case : Heard (with_moment m (with_progress (moment_noted m) s)) m.elapsed (after_piece (is_heard s.progress.phase) s.progress.word bytes (with_moment m (with_progress (moment_noted m) s)))
-          → Freshly s (Gave bytes m) (piece_at plan until bytes m s)
+      by_case : HeardSince (with_moment m (with_progress (moment_noted m) s)) m.elapsed
+          (after_piece (is_heard s.progress.phase) s.progress.word bytes (with_moment m (with_progress (moment_noted m) s)))
+          → TracksFresh s (Gave bytes m) (piece_at plan until bytes m s)
       by_case (rs, order, fresh, at) = by_records (fresh_cases m.elapsed (min s.fresh m.elapsed) rs) where
         -- the lemma above, by whether one of them is of a command that was answered well
         by_records : ((AllByRecursion IsNotWell rs × (fresh_after m.elapsed (min s.fresh m.elapsed) rs ≡ min s.fresh m.elapsed))
-            ⊎ (HasWell rs × (fresh_after m.elapsed (min s.fresh m.elapsed) rs ≡ m.elapsed))) → Freshly s (Gave bytes m) (piece_at plan until bytes m s)
+            ⊎ (HasWell rs × (fresh_after m.elapsed (min s.fresh m.elapsed) rs ≡ m.elapsed))) → TracksFresh s (Gave bytes m) (piece_at plan until bytes m s)
         by_records (inl none) = inl (rs, order, none.0, fresh ∙ none.1)
         by_records (inr some) = inr (rs, order, some.0, bytes, m, refl, fresh ∙ some.1)
 
--- an act of each action wrote records as `Freshly` says, before what is outstanding is lost
-moved_fresh : (plan : Plan) (commands : List Task) (next : Action) (s : Model) (act : Act) → Performs commands s next act → Freshly s act (moved plan commands next (with_progress turned s) act)
+-- an act of each action wrote records as `TracksFresh` says, before what is outstanding is lost
+moved_fresh : (plan : Plan) (commands : List Task) (next : Action) (s : Model) (act : Act) → Performs commands s next act → TracksFresh s act (moved plan commands next (with_progress turned s) act)
 moved_fresh plan commands actions.Skip s act o =
-    walk plan commands (Freshly s) actions.Skip (with_progress turned s) act o (
+    walk plan commands (TracksFresh s) actions.Skip (with_progress turned s) act o (
       λ m. inl (skips plan commands s.progress (Told m), refl, skips_unwell (turned s.progress) m (mark_next plan commands s.progress) (drop (place_next commands s.progress) commands), refl),
       λ n. inl ([], refl, tt, refl),
     )
 moved_fresh plan commands (actions.Read until) s act o =
     let none = sym (append-nil s.records) in
-    walk plan commands (Freshly s) (actions.Read until) (with_progress turned s) act o (
+    walk plan commands (TracksFresh s) (actions.Read until) (with_progress turned s) act o (
       λ bytes m. gave_fresh plan until (with_progress turned s) bytes m,
       λ m. inl ([], none, tt, refl),
       inl ([], none, tt, refl),
       inl ([], none, tt, refl),
       inl ([], none, tt, refl),
     )
-moved_fresh plan commands (actions.Close why) s act o = walk plan commands (Freshly s) (actions.Close why) (with_progress turned s) act o (inl ([], sym (append-nil s.records), tt, refl))
+moved_fresh plan commands (actions.Close why) s act o = walk plan commands (TracksFresh s) (actions.Close why) (with_progress turned s) act o (inl ([], sym (append-nil s.records), tt, refl))
 moved_fresh plan commands (actions.Stop why) s act o = absurd o
 moved_fresh plan commands next s act o =
-    let none = sym (append-nil s.records) in walk plan commands (Freshly s) next (with_progress turned s) act o (λ m. inl ([], none, tt, refl), λ n. inl ([], none, tt, refl))
+    let none = sym (append-nil s.records) in walk plan commands (TracksFresh s) next (with_progress turned s) act o (λ m. inl ([], none, tt, refl), λ n. inl ([], none, tt, refl))
 
--- what is lost then wasn't answered well
-losing_fresh : (s : Model) (act : Act) (b : Bool) (t : Model) → Freshly s act t → Freshly s act (losing b t)
+-- the loss of what is outstanding preserves `TracksFresh`: what is lost wasn't answered well
+losing_fresh : (s : Model) (act : Act) (b : Bool) (t : Model) → TracksFresh s act t → TracksFresh s act (losing b t)
 losing_fresh s act false t h = h
 losing_fresh s act true t (inl (rs, order, unwell, fresh)) =
     let more = records_of t.reads t.progress.moment.utc t.marks (map lost t.client.waiting) in
@@ -193,8 +194,8 @@ losing_fresh s act true t (inr (rs, order, (front, r, later, split, well), bytes
       unwell_same t.progress.moment.elapsed t.fresh more none ∙ fresh,
     )
 
--- a whole act wrote records as `Freshly` says
-after_fresh : (plan : Plan) (commands : List Task) (s : Model) (act : Act) → Performs commands s (action_at plan s) act → Freshly s act (after plan commands s act)
+-- a whole act wrote records as `TracksFresh` says
+after_fresh : (plan : Plan) (commands : List Task) (s : Model) (act : Act) → Performs commands s (action_at plan s) act → TracksFresh s act (after plan commands s act)
 after_fresh plan commands s act o =
     let t = moved plan commands (action_at plan s) (with_progress turned s) act in
     losing_fresh s act (loses_all t.progress) t (moved_fresh plan commands (action_at plan s) s act o)
@@ -202,7 +203,7 @@ after_fresh plan commands s act o =
 -- Since the last answer of a good quality.
 
 -- the least of a number and the moments of two lists of acts is that of the second list, from that of the first on
-least-append : (n : ℕ) (xs ys : List Act) → least_told n (xs ++ ys) ≡ least_told (least_told n xs) ys
+least-append : (n : ℕ) (xs ys : List Act) → least_moment n (xs ++ ys) ≡ least_moment (least_moment n xs) ys
 least-append n [] ys = refl
 least-append n (Told m ∷ xs) ys = least-append (min n m.elapsed) xs ys
 least-append n (Gave bytes m ∷ xs) ys = least-append (min n m.elapsed) xs ys
@@ -224,7 +225,7 @@ behind_one plan commands scope done act = after_all-append plan commands (openin
 
 -- one act more preserves `NoneWellSince`
 since_more : (plan : Plan) (commands : List Task) (scope : Scope) (done : List Act) (act : Act) → NoneWellSince plan commands scope done
-    → Freshly (state_after plan commands scope done) act (state_after plan commands scope (done ++ act ∷ [])) → NoneWellSince plan commands scope (done ++ act ∷ [])
+    → TracksFresh (state_after plan commands scope done) act (state_after plan commands scope (done ++ act ∷ [])) → NoneWellSince plan commands scope (done ++ act ∷ [])
 since_more plan commands scope done act u (inl (rs, order, unwell, fresh)) = record {
   before = u.before;
   behind = u.behind ++ act ∷ [];
@@ -234,7 +235,7 @@ since_more plan commands scope done act u (inl (rs, order, unwell, fresh)) = rec
   records = u.records ++ rs;
   written = order ∙ ap (λ xs. xs ++ rs) u.written ∙ append_assoc (state_after plan commands scope u.before).records u.records rs;
   unwell = all_append IsNotWell u.records rs u.unwell unwell;
-  fresh = fresh ∙ ap (λ n. least_told n (act ∷ [])) u.fresh ∙ sym (least-append u.from u.behind (act ∷ []));
+  fresh = fresh ∙ ap (λ n. least_moment n (act ∷ [])) u.fresh ∙ sym (least-append u.from u.behind (act ∷ []));
 }
 since_more plan commands scope done act u (inr (rs, order, (front, r, later, split, well), bytes, m, is, fresh)) =
     let all = done ++ act ∷ [] in
@@ -262,10 +263,10 @@ since_more plan commands scope done act u (inr (rs, order, (front, r, later, spl
     }
 
 -- `NoneWellSince` holds after each run
-since_stood : (plan : Plan) (commands : List Task) (scope : Scope) (acts : List Act) → Runs plan commands (opening plan scope) acts → NoneWellSince plan commands scope acts
-since_stood plan commands scope acts runs =
+since_holds : (plan : Plan) (commands : List Task) (scope : Scope) (acts : List Act) → Runs plan commands (opening plan scope) acts → NoneWellSince plan commands scope acts
+since_holds plan commands scope acts runs =
     always plan commands (opening plan scope) (λ (done : List Act) (t : Model). NoneWellSince plan commands scope done) (λ done act runs' o u.
-    since_more plan commands scope done act u (subst (λ (t : Model). Freshly (state_after plan commands scope done) act t) (sym (behind_one plan commands scope done act))
+    since_more plan commands scope done act u (subst (λ (t : Model). TracksFresh (state_after plan commands scope done) act t) (sym (behind_one plan commands scope done act))
     (after_fresh plan commands (state_after plan commands scope done) act o)))
     (record { before = []; behind = []; order = refl; from = 0; start = inl (refl, refl); records = []; written = refl; unwell = tt; fresh = refl }) acts runs
 
@@ -273,7 +274,7 @@ since_stood plan commands scope acts runs =
 pub closes_stale : ClosesStale
 closes_stale plan commands scope acts runs is =
     let s = state_after plan commands scope acts in
-    let u = since_stood plan commands scope acts runs in
+    let u = since_holds plan commands scope acts runs in
     let stale = end_here plan s cause.Stale is (not_closing plan commands scope acts cause.Stale runs (λ act shows. shows)) in
     let it = both_true (nat_lt 0 plan.stale) (nat_le plan.stale (s.progress.moment.elapsed - s.fresh)) stale in
     record {
@@ -301,7 +302,7 @@ shows_none : (why : Cause) (act : Act) → (why ≡ cause.Stale) ⊎ (why ≡ ca
 shows_none why act (inl is) shows = subst (λ c. Shows c act) is shows
 shows_none why act (inr is) shows = subst (λ c. Shows c act) is shows
 
--- neither of them is that all turns are used up, or that no connection could be made
+-- neither `Stale` nor `Stopped` is the cause that all turns are used up
 no_turns : (why : Cause) → (why ≡ cause.Stale) ⊎ (why ≡ cause.Stopped) → why ≡ cause.Turns → ⊥
 no_turns why (inl is) e = let other : cause.Stale ≡ cause.Turns = sym is ∙ e in cc
 no_turns why (inr is) e = let other : cause.Stopped ≡ cause.Turns = sym is ∙ e in cc
@@ -322,7 +323,7 @@ stops_at why is plan commands scope acts runs stop = by_shown (stopped_for plan 
   by_end earlier last order (inr (inr (unopened, ends))) =
       let s = state_after plan commands scope earlier in
       absurd (never_open why is (quits_only plan s.progress (waiting_of s).commands cause.Open why is ends)) where
-        -- neither of them is that no connection could be made
+        -- neither `Stale` nor `Stopped` is the cause that no connection could be made
         never_open : (why : Cause) → (why ≡ cause.Stale) ⊎ (why ≡ cause.Stopped) → cause.Open ≡ why → ⊥
         never_open why (inl is) e = let other : cause.Open ≡ cause.Stale = e ∙ is in cc
         never_open why (inr is) e = let other : cause.Open ≡ cause.Stopped = e ∙ is in cc
@@ -352,10 +353,10 @@ telling_shows act (cause.Write requests bytes) o shows = subst IsListening shows
 telling_shows act why o shows = shows
 
 -- an act that reads a moment decides no end
-telling_not : (plan : Plan) (commands : List Task) (s : Model) (act : Act) (at : Phase) (why : Cause) → IsListening act → Decided plan s at why act → ⊥
-telling_not plan commands s act at why o (inl failed) = telling_shows act why o failed.1
-telling_not plan commands s act at why o (inr (down, inl (other, is, next, ends))) = subst IsListening is o
-telling_not plan commands s act at why o (inr (down, inr (is, ends))) = subst IsListening is o
+telling_not : (plan : Plan) (s : Model) (act : Act) (at : Phase) (why : Cause) → IsListening act → Decided plan s at why act → ⊥
+telling_not plan s act at why o (inl failed) = telling_shows act why o failed.1
+telling_not plan s act at why o (inr (down, inl (other, is, next, ends))) = subst IsListening is o
+telling_not plan s act at why o (inr (down, inr (is, ends))) = subst IsListening is o
 
 -- if the end isn't decided, turns are left, and the run is stale, the next action closes for that
 stale_next : (plan : Plan) (p : Progress) (w : Waiting) (at : Phase) → p.phase ≡ at → end_of at ≡ None → 0 < p.turns → is_stale plan p w ≡ true → action_of plan p w ≡ actions.Close cause.Stale
@@ -416,7 +417,7 @@ ends_once_stale plan commands scope earlier behind telling runs tells turns stal
           let s = state_after plan commands scope earlier in
           let next = behind_one plan commands scope earlier telling in
           let split = runs_split plan commands (opening plan scope) earlier behind telling runs in
-          absurd (telling_not plan commands s telling _ why tells
+          absurd (telling_not plan s telling _ why tells
           (after_decided plan commands s telling why split.1 (done_sent plan commands scope earlier) (sym (ap (λ (x : Model). end_of x.progress.phase) next) ∙ is)))
 
 -- If the end of the run was asked for.
@@ -446,10 +447,10 @@ moved_asked plan commands next s act o =
     walk plan commands (λ (a : Act) (t : Model). t.progress.stops ≡ asked_after s.progress.stops (a ∷ [])) next (with_progress turned s) act o (λ m. refl, λ n. refl)
 
 -- after each run, whether the end was asked for is what its moments say
-asked_stood : (plan : Plan) (commands : List Task) (scope : Scope) (acts : List Act) → Runs plan commands (opening plan scope) acts
+stops_as_asked : (plan : Plan) (commands : List Task) (scope : Scope) (acts : List Act) → Runs plan commands (opening plan scope) acts
     → (state_after plan commands scope acts).progress.stops ≡ asked_after false acts
-asked_stood plan commands scope acts runs =
-    always_far plan commands (opening plan scope) (λ (p : Progress) (done : List Act). p.stops ≡ asked_after false done) (λ done act runs' o e.
+stops_as_asked plan commands scope acts runs =
+    always_of_progress plan commands (opening plan scope) (λ (p : Progress) (done : List Act). p.stops ≡ asked_after false done) (λ done act runs' o e.
     let s = after_all plan commands (opening plan scope) done in
     moved_asked plan commands (action_at plan s) s act o ∙ ap (λ b. asked_after b (act ∷ [])) e ∙ sym (asked-append false done (act ∷ []))) refl acts runs
 
@@ -458,7 +459,7 @@ asked_stood plan commands scope acts runs =
 pub goes_on_in_its_chain : GoesOnInItsChain
 goes_on_in_its_chain plan commands scope acts runs asked =
     let s = state_after plan commands scope acts in
-    let stops : s.progress.stops ≡ true = asked_stood plan commands scope acts runs ∙ asked in (
+    let stops : s.progress.stops ≡ true = stops_as_asked plan commands scope acts runs ∙ asked in (
       λ is. let needs = needs_of plan s actions.Send is in needs.7 stops,
       λ is. let needs = needs_of plan s actions.Begin is in let never : true ≡ false = sym stops ∙ needs.5 in cc,
       λ is. let needs = needs_of plan s actions.Prepare is in let never : true ≡ false = sym stops ∙ needs.5 in cc,
@@ -469,4 +470,4 @@ pub closes_between_chains : ClosesBetweenChains
 closes_between_chains plan commands scope acts runs is =
     let s = state_after plan commands scope acts in
     let it = end_here plan s cause.Stopped is (not_closing plan commands scope acts cause.Stopped runs (λ act shows. shows)) in
-    (sym (asked_stood plan commands scope acts runs) ∙ it.0, it.1, resting_none s.progress (waiting_of s) (on_line_stood plan commands scope acts runs) it.1)
+    (sym (stops_as_asked plan commands scope acts runs) ∙ it.0, it.1, resting_none s.progress (waiting_of s) (unbroken_holds plan commands scope acts runs) it.1)

@@ -14,7 +14,7 @@ use Rattle.gc_texts.specs.declared.tasks.Task.{Task}
 use Rattle.gc_texts.specs.declared.turn.Turn.{Turn}
 use Rattle.gc_texts.specs.declared.wish.Wish.{Wish}
 use Rattle.gc_station.specs.Marks.{record_of, records_of}
-use Rattle.gc_station.specs.Parts.{AreOf, IsOf, went_out}
+use Rattle.gc_station.specs.Parts.{MarksAsk, MarkAsks, went_out}
 use Rattle.gc_station.specs.Tasked.{IsOfItsTask}
 use Rattle.gc_station.specs.declared.mark.Mark.{Mark}
 use Rattle.gc_station.proofs.Booking.{ended_sent, of_append}
@@ -30,26 +30,26 @@ at_place (suc n) [] command others e = cc
 at_place (suc n) (x ∷ xs) command others e = at_place n xs command others e
 
 -- where requests are those of their marks, the later ones are those of the marks after
-own_left : (commands : List Task) (ms : List (Option Mark)) (xs ys : List (Wanted Asked)) → AreOf commands ms (xs ++ ys) → AreOf commands (drop (length xs) ms) ys
+own_left : (commands : List Task) (ms : List (Option Mark)) (xs ys : List (Wanted Asked)) → MarksAsk commands ms (xs ++ ys) → MarksAsk commands (drop (length xs) ms) ys
 own_left commands ms [] ys h = h
 own_left commands [] (x ∷ xs) ys h = absurd h
 own_left commands (m ∷ ms) (x ∷ xs) ys h = own_left commands ms xs ys h.1
 
 -- what is outstanding after settlements of the oldest requests is of its marks
-pub own_settled : (commands : List Task) (ms : List (Option Mark)) (ss : List (Settlement Asked)) (ys : List (Wanted Asked)) → AreOf commands ms (map of_settled ss ++ ys)
-    → AreOf commands (drop (length ss) ms) ys
-own_settled commands ms ss ys h = subst (λ (n : ℕ). AreOf commands (drop n ms) ys) (length-map ss of_settled) (own_left commands ms (map of_settled ss) ys h)
+pub own_settled : (commands : List Task) (ms : List (Option Mark)) (ss : List (Settlement Asked)) (ys : List (Wanted Asked)) → MarksAsk commands ms (map of_settled ss ++ ys)
+    → MarksAsk commands (drop (length ss) ms) ys
+own_settled commands ms ss ys h = subst (λ (n : ℕ). MarksAsk commands (drop n ms) ys) (length-map ss of_settled) (own_left commands ms (map of_settled ss) ys h)
 
 -- what is outstanding with one request more is of its marks, if that is of its mark
-pub own_more : (commands : List Task) (ms : List (Option Mark)) (ws : List (Pending Asked)) (m : Option Mark) (p : Pending Asked) → AreOf commands ms (map of_pending ws)
-    → IsOf commands m (of_pending p) → AreOf commands (ms ++ m ∷ []) (map of_pending (ws ++ p ∷ []))
+pub own_more : (commands : List Task) (ms : List (Option Mark)) (ws : List (Pending Asked)) (m : Option Mark) (p : Pending Asked) → MarksAsk commands ms (map of_pending ws)
+    → MarkAsks commands m (of_pending p) → MarksAsk commands (ms ++ m ∷ []) (map of_pending (ws ++ p ∷ []))
 own_more commands ms ws m p own is =
-    subst (AreOf commands (ms ++ m ∷ [])) (sym (map-append of_pending ws (p ∷ []))) (of_append commands ms (m ∷ []) (map of_pending ws) (of_pending p ∷ []) own (is, tt))
+    subst (MarksAsk commands (ms ++ m ∷ [])) (sym (map-append of_pending ws (p ∷ []))) (of_append commands ms (m ∷ []) (map of_pending ws) (of_pending p ∷ []) own (is, tt))
 
 -- the record of a settlement that is of its mark is of its task
-record_told : (reads : Asked → List ℕ → Reading) (commands : List Task) (utc : ℕ) (mark : Mark) (s : Settlement Asked) → IsOf commands (Some mark) (of_settled s)
+record_tasked : (reads : Asked → List ℕ → Reading) (commands : List Task) (utc : ℕ) (mark : Mark) (s : Settlement Asked) → MarkAsks commands (Some mark) (of_settled s)
     → IsOfItsTask commands (record_of reads utc mark s)
-record_told reads commands utc mark s h =
+record_tasked reads commands utc mark s h =
     let wish : Wanted Asked → Wish = λ (a : Wanted Asked). record { target = a.target; call = a.call } in
     record {
       task = h.0;
@@ -59,12 +59,12 @@ record_told reads commands utc mark s h =
     }
 
 -- the records of settlements that are of their marks are of their tasks
-pub settled_told : (reads : Asked → List ℕ → Reading) (commands : List Task) (utc : ℕ) (ms : List (Option Mark)) (ss : List (Settlement Asked)) (ys : List (Wanted Asked))
-    → AreOf commands ms (map of_settled ss ++ ys) → AllByRecursion (IsOfItsTask commands) (records_of reads utc ms ss)
-settled_told reads commands utc [] ss ys h = tt
-settled_told reads commands utc (m ∷ ms) [] ys h = tt
-settled_told reads commands utc (None ∷ ms) (s ∷ ss) ys h = settled_told reads commands utc ms ss ys h.1
-settled_told reads commands utc (Some mark ∷ ms) (s ∷ ss) ys h = (record_told reads commands utc mark s h.0, settled_told reads commands utc ms ss ys h.1)
+pub settled_tasked : (reads : Asked → List ℕ → Reading) (commands : List Task) (utc : ℕ) (ms : List (Option Mark)) (ss : List (Settlement Asked)) (ys : List (Wanted Asked))
+    → MarksAsk commands ms (map of_settled ss ++ ys) → AllByRecursion (IsOfItsTask commands) (records_of reads utc ms ss)
+settled_tasked reads commands utc [] ss ys h = tt
+settled_tasked reads commands utc (m ∷ ms) [] ys h = tt
+settled_tasked reads commands utc (None ∷ ms) (s ∷ ss) ys h = settled_tasked reads commands utc ms ss ys h.1
+settled_tasked reads commands utc (Some mark ∷ ms) (s ∷ ss) ys h = (record_tasked reads commands utc mark s h.0, settled_tasked reads commands utc ms ss ys h.1)
 
 -- a command that is recorded as missed or skipped wasn't sent
 pub unsent_end : (b : Bool) → went_out (if b then Missed else Skipped) ≡ false
@@ -72,6 +72,6 @@ unsent_end true = refl
 unsent_end false = refl
 
 -- the record of a command that isn't sent is of its task
-pub unsent_told : (commands : List Task) (utc cycle place : ℕ) (turn : Turn) (end : End) (task : Task) → slice_get commands place ≡ Some task → went_out end ≡ false
+pub unsent_tasked : (commands : List Task) (utc cycle place : ℕ) (turn : Turn) (end : End) (task : Task) → slice_get commands place ≡ Some task → went_out end ≡ false
     → IsOfItsTask commands (record { sent = None; utc = utc; cycle = cycle; place = place; turn = turn; command = task.command; end = end })
-unsent_told commands utc cycle place turn end task at out = record { task = task; listed = at; sent = sym out; command = refl }
+unsent_tasked commands utc cycle place turn end task at out = record { task = task; listed = at; sent = sym out; command = refl }

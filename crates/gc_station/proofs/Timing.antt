@@ -9,7 +9,7 @@ use Rattle.gc_texts.specs.Tasks.{call_at}
 use Rattle.gc_texts.specs.declared.tasks.Task.{Task}
 use Rattle.gc_station.specs.Requests.{Request, asked_at, in_text, of_command, of_task, sets_clock, untimed}
 
--- what a task asks at any moment is, without that moment, what it asks as the text has it
+-- without its moment (`untimed`), what a task asks at any moment is what the text says
 untimed_at : (task : Task) (utc : ℕ) → untimed task.now (call_at task utc) ≡ untimed task.now task.command.call
 untimed_at task utc = by_clock task.now where
   -- the lemma above, whether the task sets the clock (`true`)
@@ -24,7 +24,7 @@ asked_text commands cycle place utc task others at =
     let request : Asked → Request = λ (call : Asked). record { cycle = cycle; place = place; asked = record { target = task.command.target; call = call } } in
     ap (λ (left : List Task). request (untimed (sets_clock left) (call_at task utc))) at ∙ ap request (untimed_at task utc)
 
--- so is the request of a command that isn't sent
+-- the request of a command that isn't sent, as the text has it, is that of the command's task
 pub unsent_text : (commands : List Task) (cycle place : ℕ) (task : Task) (others : List Task) → drop place commands ≡ task ∷ others
     → in_text commands (record { cycle = cycle; place = place; asked = of_command task.command }) ≡ record { cycle = cycle; place = place; asked = of_task task }
 unsent_text commands cycle place task others at =

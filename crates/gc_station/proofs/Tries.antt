@@ -31,7 +31,7 @@ use Rattle.gc_station.specs.Tries.{IsTried, IsEnding, endings_in, openings_in, S
 use Rattle.gc_station.proofs.Closings.{runs_split, needs_of, end_of, Decided, after_decided, done_sent}
 use Rattle.gc_station.proofs.Counts.{ended_progress}
 use Rattle.gc_station.proofs.Always.{always}
-use Rattle.gc_station.proofs.EachRun.{fine_after, fine_stood}
+use Rattle.gc_station.proofs.EachRun.{invariant_after, invariant_holds}
 use Rattle.gc_station.proofs.Facts.{either_true, action_for, never_true}
 use Rattle.gc_station.proofs.Invariant.{Invariant}
 use Rattle.gc_station.proofs.Going.{after_all-append}
@@ -69,9 +69,9 @@ same_out : (plan : Plan) (commands : List Task) (s t : Model) → Invariant plan
     → length t.records + commands_in t.marks ≡ length s.records + commands_in s.marks
 same_out plan commands s t fine fine' same = counted_out plan commands t fine' ∙ ap length same ∙ sym (counted_out plan commands s fine)
 
--- records that grew, and aren't more, are the same
-grew_none : (old new more : List Record) → new ≡ old ++ more → length new ≤ length old → new ≡ old
-grew_none old new more is few =
+-- records that were only added to, and aren't more than before, are the same
+same_if_no_longer : (old new more : List Record) → new ≡ old ++ more → length new ≤ length old → new ≡ old
+same_if_no_longer old new more is few =
     let a = ap length is in
     let b = length-append old more in
     let none : length more ≡ 0 = omega (arith, a, b, few) in
@@ -95,7 +95,7 @@ settling_by plan s t mid old grew same kept (inl fewer) = inl (λ e. by_kept kep
   by_kept (inl stay) e = let few = fewer.0 in omega (arith, stay, e, few, same)
   by_kept (inr none) e = let few = fewer.0 in omega (arith, none, few)
 settling_by plan s t mid old grew same kept (inr (inr on, tries)) = inr (inr on, tries)
-settling_by plan s t mid old grew same kept (inr (inl least, tries)) = inr (inl (grew_none s.records t.records grew.0 grew.1 (by_kept kept)), tries) where
+settling_by plan s t mid old grew same kept (inr (inl least, tries)) = inr (inl (same_if_no_longer s.records t.records grew.0 grew.1 (by_kept kept)), tries) where
   -- the records didn't become more
   by_kept : ((commands_in t.marks ≡ mid) ⊎ (old ≡ 0)) → length t.records ≤ length s.records
   by_kept (inl stay) = omega (arith, stay, least, same)
@@ -210,8 +210,8 @@ trying_anew plan commands scope tries up acts bytes m all done settled = record 
   some (x ∷ xs) e = cc
 
 -- if the run isn't over, `Trying` holds of the model's tries and its connection
-abbrev Try : Plan → List Task → Scope → List Act → Model → Type 0
-Try plan commands scope acts s = is_over s.progress ≡ false → Trying plan commands scope s.progress.tries (is_up s.progress.phase) acts
+abbrev TryingUnlessOver : Plan → List Task → Scope → List Act → Model → Type 0
+TryingUnlessOver plan commands scope acts s = is_over s.progress ≡ false → Trying plan commands scope s.progress.tries (is_up s.progress.phase) acts
 
 -- `Trying` is preserved by one act, from the model s to u; t is the model before what is outstanding is lost
 try_step : (plan : Plan) (commands : List Task) (scope : Scope) (acts : List Act) (act : Act) (s u : Model) (t : Model) → state_after plan commands scope acts ≡ s
@@ -252,31 +252,32 @@ quits_over plan commands (actions.Close cause.Stale) s act quits = refl
 quits_over plan commands (actions.Close cause.Stopped) s act quits = refl
 quits_over plan commands next s act quits = absurd quits
 
--- `Try` is preserved by one act of a run more
+-- `TryingUnlessOver` is preserved by one act of a run more
 try_after : (plan : Plan) (commands : List Task) (scope : Scope) (done : List Act) (act : Act)
     → Performs commands (state_after plan commands scope done) (action_at plan (state_after plan commands scope done)) act
-    → Try plan commands scope done (state_after plan commands scope done)
-    → Try plan commands scope (done ++ act ∷ []) (after plan commands (state_after plan commands scope done) act)
+    → TryingUnlessOver plan commands scope done (state_after plan commands scope done)
+    → TryingUnlessOver plan commands scope (done ++ act ∷ []) (after plan commands (state_after plan commands scope done) act)
 try_after plan commands scope done act o trying not_over =
     let s = state_after plan commands scope done in
     let u = after plan commands s act in
     let t = moved plan commands (action_at plan s) (with_progress turned s) act in
     let same = ended_progress t in
     let goes = never_true (is_over s.progress) (λ over. over_stays plan commands s act over o) in
-    let fine = fine_stood plan commands scope done in
+    let fine = invariant_holds plan commands scope done in
     let not_over_mid : is_over t.progress ≡ false = sym (ap is_over same) ∙ not_over in
     try_step plan commands scope done act s u t refl (behind_one plan commands scope done act) refl same (untook plan s t act (took_moved plan commands (action_at plan s) s act o))
     (counted_moved plan commands (action_at plan s) s act o (action_for plan s.progress (waiting_of s))
     (λ quits. absurd (not_both (is_over t.progress) (quits_over plan commands (action_at plan s) s act quits) not_over_mid)))
-    (λ gave h. gave_settles plan commands s t u fine (fine_after plan commands s act fine) h (after_grew plan commands s act) same
+    (λ gave h. gave_settles plan commands s t u fine (invariant_after plan commands s act fine) h (after_grew plan commands s act) same
     (row_losing (loses_all t.progress) t ∙ row_read plan commands (action_at plan s) (with_progress turned s) act gave.0 gave.1 o gave.2)
     (kept_marks plan commands s t (loses_all t.progress) refl not_over_mid h.begins fine))
     (trying goes)
 
--- `Try` holds after every run
-try_stood : (plan : Plan) (commands : List Task) (scope : Scope) (acts : List Act) → Runs plan commands (opening plan scope) acts → Try plan commands scope acts (state_after plan commands scope acts)
-try_stood plan commands scope acts runs =
-    always plan commands (opening plan scope) (Try plan commands scope) (λ done act runs' o. try_after plan commands scope done act o)
+-- `TryingUnlessOver` holds after every run
+try_holds : (plan : Plan) (commands : List Task) (scope : Scope) (acts : List Act) → Runs plan commands (opening plan scope) acts
+    → TryingUnlessOver plan commands scope acts (state_after plan commands scope acts)
+try_holds plan commands scope acts runs =
+    always plan commands (opening plan scope) (TryingUnlessOver plan commands scope) (λ done act runs' o. try_after plan commands scope done act o)
     (λ not_over. record {
       before = [];
       behind = [];
@@ -383,7 +384,7 @@ stop_tried plan commands scope acts last why runs stop tried ending = by_decided
   -- the run is over, and not for its turns
   over : (state_after plan commands scope (acts ++ last ∷ [])).progress.phase ≡ phase.Over why
   over = by_needs (needs_of plan (state_after plan commands scope (acts ++ last ∷ [])) (actions.Stop why) stop).1 where
-    -- the phase says that the run is over, or all turns are used up, for which no such run stops
+    -- the phase says that the run is over: the other condition of a stop, that all turns are used up, is no cause of `IsTried`
     by_needs : ((state_after plan commands scope (acts ++ last ∷ [])).progress.phase ≡ phase.Over why)
         ⊎ ((why ≡ cause.Turns) × ((state_after plan commands scope (acts ++ last ∷ [])).progress.turns ≡ 0))
         → (state_after plan commands scope (acts ++ last ∷ [])).progress.phase ≡ phase.Over why
@@ -414,7 +415,7 @@ stop_tried plan commands scope acts last why runs stop tried ending = by_decided
   -- if no try was left before the last act, all tries are used up
   used : (Quits (action_at plan s) → ⊥) → s.progress.tries ≡ 0 → AllTried plan commands scope (acts ++ last ∷ [])
   used never none = all_tried plan commands scope acts last ending (counted never)
-      (subst (λ n. Trying plan commands scope n (is_up s.progress.phase) acts) none (try_stood plan commands scope acts split.0 goes))
+      (subst (λ n. Trying plan commands scope n (is_up s.progress.phase) acts) none (try_holds plan commands scope acts split.0 goes))
 
   -- the last act ended a connection or could make none, so no try was left
   by_decided : Decided plan s (after plan commands s last).progress.phase why last → AllTried plan commands scope (acts ++ last ∷ [])

@@ -1,6 +1,6 @@
 -- A chain that isn't broken goes on over a connection, once the station has synchronized. An act is one call on the link, with
 -- its result.
-use Rattle.std.proofs.Common.{◌≡◌, ◌<◌, ◌&&◌, Bool, true, false, List, [], inl, inr, ◌⊎◌, if◌then◌else◌, refl, sym, ap, ◌∙◌, subst, arith}
+use Rattle.std.proofs.Common.{◌≡◌, ◌<◌, Bool, true, false, List, [], inl, inr, ◌⊎◌, if◌then◌else◌, refl, sym, ap, ◌∙◌, subst, arith}
 use Rattle.gc_texts.specs.declared.tasks.Task.{Task}
 use Rattle.gc_links.specs.Acts.{Act, Told, Cut, Opened}
 use Rattle.gc_station.specs.declared.cause.Cause.{Cause}
@@ -12,56 +12,51 @@ use Rattle.gc_station.specs.declared.progress.Phase.TheVariants as phase
 use Rattle.gc_station.specs.declared.progress.Progress.{Progress}
 use Rattle.gc_station.specs.declared.progress.Waiting.{Waiting}
 use Rattle.gc_station.specs.Deciding.{has_begun, is_up, may_go}
-use Rattle.gc_station.specs.Model.{Model, opening, action_at, requests_out, waiting_of, is_heard, lines_completed, with_progress, with_moment, with_rest, Performs, moved, after_all, Runs}
+use Rattle.gc_station.specs.Model.{Model, opening, action_at, commands_before, waiting_of, is_heard, lines_completed, with_progress, with_moment, with_rest, Performs, moved, after_all, Runs}
 use Rattle.gc_station.specs.Progressing.{turned, moment_noted, failing, cleared, time_passed}
-use Rattle.gc_station.specs.Reasons.{IsFor, IsResting}
+use Rattle.gc_station.specs.Reasons.{HoldsBefore, IsResting}
 use Rattle.gc_station.specs.Runs.{state_after}
 use Rattle.gc_station.specs.Scopes.{Scope}
-use Rattle.gc_station.proofs.Always.{always_far}
+use Rattle.gc_station.proofs.Always.{always_of_progress}
 use Rattle.gc_station.proofs.Closings.{came_phase}
-use Rattle.gc_station.proofs.Facts.{action_for, never_true}
+use Rattle.gc_station.proofs.Facts.{action_for, never_true, both_true}
 use Rattle.gc_station.proofs.Silences.{quieted_up}
 use Rattle.gc_station.proofs.Ticking.{not_both}
 use Rattle.gc_station.proofs.Walk.{asked_along, came_along, quieted_along, closed_along, is_sent, moved_changed, walk}
 use Rattle.gc_station.proofs.Words.{begun_kept}
 
 -- if a chain isn't broken there is a connection, the station has synchronized, and no setup comes first
-abbrev pub OnLine : Progress → Type 0
-OnLine p = p.chain_unbroken ≡ true → (is_up p.phase ≡ true) × (has_begun p ≡ true) × (p.preparing ≡ false)
+abbrev pub IsOnLineIfUnbroken : Progress → Type 0
+IsOnLineIfUnbroken p = p.chain_unbroken ≡ true → (is_up p.phase ≡ true) × (has_begun p ≡ true) × (p.preparing ≡ false)
 
 -- a failure leaves a connection, or none, as it was
-pub fails : (up : Bool) (why : Cause) → is_up (if up then phase.Closing why else phase.Over why) ≡ up
-fails true why = refl
-fails false why = refl
+pub failure_keeps_line : (up : Bool) (why : Cause) → is_up (if up then phase.Closing why else phase.Over why) ≡ up
+failure_keeps_line true why = refl
+failure_keeps_line false why = refl
 
 -- after a line feed that was sent there is a connection
 pub cleared_up : (begun : Bool) → is_up (if begun then phase.Draining else phase.Ready) ≡ true
 cleared_up true = refl
 cleared_up false = refl
 
--- of two tests that both hold, the second does
-both_second : (a b : Bool) → (a && b) ≡ true → b ≡ true
-both_second true b e = e
-both_second false b e = cc
-
 module _ (plan : Plan) (commands : List Task) where
-  -- a chain that isn't broken after an act of the model s wasn't before
-  abbrev Was : Model → Act → Model → Type 0
-  Was s a t = t.progress.chain_unbroken ≡ true → s.progress.chain_unbroken ≡ true
+  -- a chain that isn't broken after an act of the model s wasn't broken before it
+  abbrev WasUnbroken : Model → Act → Model → Type 0
+  WasUnbroken s a t = t.progress.chain_unbroken ≡ true → s.progress.chain_unbroken ≡ true
 
   -- if a chain isn't broken after an act, the act sends the next command, or it wasn't before
   unbroken_before : (s : Model) (o : Action) (act : Act) → Performs commands s o act → (moved plan commands o (with_progress turned s) act).progress.chain_unbroken ≡ true
       → (o ≡ actions.Send) ⊎ (s.progress.chain_unbroken ≡ true)
   unbroken_before s actions.Send act obeys c = inl refl
-  unbroken_before s actions.Renew act obeys c = inr (walk plan commands (Was s) actions.Renew (with_progress turned s) act obeys (λ m d. cc, λ n d. d) c)
-  unbroken_before s actions.Begin act obeys c = inr (walk plan commands (Was s) actions.Begin (with_progress turned s) act obeys (λ m d. cc, λ n d. d) c)
-  unbroken_before s actions.Open act obeys c = inr (walk plan commands (Was s) actions.Open (with_progress turned s) act obeys (λ m d. d, λ n d. cc) c)
-  unbroken_before s actions.Prepare act obeys c = inr (walk plan commands (Was s) actions.Prepare (with_progress turned s) act obeys (λ m d. cc, λ n d. cc) c)
-  unbroken_before s actions.Skip act obeys c = inr (walk plan commands (Was s) actions.Skip (with_progress turned s) act obeys (λ m d. cc, λ n d. d) c)
-  unbroken_before s actions.Pass act obeys c = inr (walk plan commands (Was s) actions.Pass (with_progress turned s) act obeys (λ m d. cc, λ n d. d) c)
+  unbroken_before s actions.Renew act obeys c = inr (walk plan commands (WasUnbroken s) actions.Renew (with_progress turned s) act obeys (λ m d. cc, λ n d. d) c)
+  unbroken_before s actions.Begin act obeys c = inr (walk plan commands (WasUnbroken s) actions.Begin (with_progress turned s) act obeys (λ m d. cc, λ n d. d) c)
+  unbroken_before s actions.Open act obeys c = inr (walk plan commands (WasUnbroken s) actions.Open (with_progress turned s) act obeys (λ m d. d, λ n d. cc) c)
+  unbroken_before s actions.Prepare act obeys c = inr (walk plan commands (WasUnbroken s) actions.Prepare (with_progress turned s) act obeys (λ m d. cc, λ n d. cc) c)
+  unbroken_before s actions.Skip act obeys c = inr (walk plan commands (WasUnbroken s) actions.Skip (with_progress turned s) act obeys (λ m d. cc, λ n d. d) c)
+  unbroken_before s actions.Pass act obeys c = inr (walk plan commands (WasUnbroken s) actions.Pass (with_progress turned s) act obeys (λ m d. cc, λ n d. d) c)
   unbroken_before s (actions.Read until) act obeys c =
       let P : Progress → Type 0 = λ (q : Progress). q.chain_unbroken ≡ true → s.progress.chain_unbroken ≡ true in
-      inr (walk plan commands (Was s) (actions.Read until) (with_progress turned s) act obeys (
+      inr (walk plan commands (WasUnbroken s) (actions.Read until) (with_progress turned s) act obeys (
         λ bytes m. let mid = with_moment m (with_progress (moment_noted m) (with_progress turned s)) in
             came_along (λ (t : Model). P t.progress) (λ t line e. e) (is_heard s.progress.phase) s.progress.word bytes mid (λ d. d)
             (asked_along P (λ q line e. e) mid.progress (lines_completed mid.rest bytes) (λ d. d)) (λ d. d),
@@ -71,32 +66,32 @@ module _ (plan : Plan) (commands : List Task) where
         λ d. d,
       ) c)
   unbroken_before s (actions.Close why) act obeys c =
-      inr (walk plan commands (Was s) (actions.Close why) (with_progress turned s) act obeys
+      inr (walk plan commands (WasUnbroken s) (actions.Close why) (with_progress turned s) act obeys
       (closed_along (λ (q : Progress). q.chain_unbroken ≡ true → s.progress.chain_unbroken ≡ true) plan
       (waiting_of (with_rest [] (with_progress turned s))) why (turned s.progress) (λ d. cc) (λ d. cc)) c)
   unbroken_before s (actions.Stop why) act obeys c = absurd obeys
-  unbroken_before s next act obeys c = inr (walk plan commands (Was s) next (with_progress turned s) act obeys (λ m d. d, λ n d. d) c)
+  unbroken_before s next act obeys c = inr (walk plan commands (WasUnbroken s) next (with_progress turned s) act obeys (λ m d. d, λ n d. d) c)
 
   -- after an act of the model s, if a chain isn't broken, there is a connection
-  abbrev Up : Act → Model → Type 0
-  Up a t = t.progress.chain_unbroken ≡ true → is_up t.progress.phase ≡ true
+  abbrev UpIfUnbroken : Act → Model → Type 0
+  UpIfUnbroken a t = t.progress.chain_unbroken ≡ true → is_up t.progress.phase ≡ true
 
-  -- a failure preserves `Up`
+  -- a failure preserves `UpIfUnbroken`
   failed_up : (s : Model) (why : Cause) → is_up s.progress.phase ≡ true → is_up (with_progress (failing why) s).progress.phase ≡ true
-  failed_up s why up = fails (is_up s.progress.phase) why ∙ up
+  failed_up s why up = failure_keeps_line (is_up s.progress.phase) why ∙ up
 
-  -- an act keeps that there is a connection if a chain isn't broken: there is one, as it wasn't broken before, or the act sends
+  -- if there is a connection before an act, and a chain isn't broken after it, there is a connection after it
   unbroken_up : (s : Model) (o : Action) (act : Act) → Performs commands s o act → is_up s.progress.phase ≡ true
       → (moved plan commands o (with_progress turned s) act).progress.chain_unbroken ≡ true → is_up (moved plan commands o (with_progress turned s) act).progress.phase ≡ true
-  unbroken_up s actions.Open act obeys up = walk plan commands Up actions.Open (with_progress turned s) act obeys (λ m c. refl, λ n c. cc)
+  unbroken_up s actions.Open act obeys up = walk plan commands UpIfUnbroken actions.Open (with_progress turned s) act obeys (λ m c. refl, λ n c. cc)
   unbroken_up s actions.Clear act obeys up =
-      walk plan commands Up actions.Clear (with_progress turned s) act obeys (
+      walk plan commands UpIfUnbroken actions.Clear (with_progress turned s) act obeys (
         λ m c. cleared_up (has_begun s.progress),
-        λ n c. fails (is_up (cleared (turned s.progress)).phase)
-            (cause.Write (requests_out plan commands (turned s.progress)) n) ∙ cleared_up (has_begun s.progress),
+        λ n c. failure_keeps_line (is_up (cleared (turned s.progress)).phase)
+            (cause.Write (commands_before plan commands (turned s.progress)) n) ∙ cleared_up (has_begun s.progress),
       )
   unbroken_up s (actions.Read until) act obeys up =
-      walk plan commands Up (actions.Read until) (with_progress turned s) act obeys (
+      walk plan commands UpIfUnbroken (actions.Read until) (with_progress turned s) act obeys (
         λ bytes m c. ap is_up (came_phase (is_heard s.progress.phase) s.progress.word bytes (with_moment m (with_progress (moment_noted m) (with_progress turned s)))) ∙ up,
         λ m c. quieted_up plan s.progress.phase (time_passed until m (turned s.progress)) refl ∙ up,
         λ c. failed_up s cause.End up,
@@ -104,20 +99,20 @@ module _ (plan : Plan) (commands : List Task) where
         λ c. failed_up s cause.Clock up,
       )
   unbroken_up s (actions.Close why) act obeys up =
-      walk plan commands Up (actions.Close why) (with_progress turned s) act obeys
+      walk plan commands UpIfUnbroken (actions.Close why) (with_progress turned s) act obeys
       (closed_along (λ (q : Progress). q.chain_unbroken ≡ true → is_up q.phase ≡ true) plan (waiting_of (with_rest [] (with_progress turned s))) why (turned s.progress) (λ d. cc) (λ d. cc))
   unbroken_up s (actions.Stop why) act obeys up = absurd obeys
   unbroken_up s actions.Ask act obeys up =
-      walk plan commands Up actions.Ask (with_progress turned s) act obeys (λ m c. up, λ n c. failed_up s (cause.Write (requests_out plan commands (turned s.progress)) n) up)
+      walk plan commands UpIfUnbroken actions.Ask (with_progress turned s) act obeys (λ m c. up, λ n c. failed_up s (cause.Write (commands_before plan commands (turned s.progress)) n) up)
   unbroken_up s actions.Send act obeys up =
-      walk plan commands Up actions.Send (with_progress turned s) act obeys (λ m c. up, λ n c. failed_up s (cause.Write (requests_out plan commands (turned s.progress)) n) up)
-  unbroken_up s actions.Prepare act obeys up = walk plan commands Up actions.Prepare (with_progress turned s) act obeys (λ m c. cc, λ n c. cc)
+      walk plan commands UpIfUnbroken actions.Send (with_progress turned s) act obeys (λ m c. up, λ n c. failed_up s (cause.Write (commands_before plan commands (turned s.progress)) n) up)
+  unbroken_up s actions.Prepare act obeys up = walk plan commands UpIfUnbroken actions.Prepare (with_progress turned s) act obeys (λ m c. cc, λ n c. cc)
   unbroken_up s actions.Flush act obeys up =
-      walk plan commands Up actions.Flush (with_progress turned s) act obeys (λ m c. up, λ n c. failed_up s (cause.Write (requests_out plan commands (turned s.progress)) n) up)
-  unbroken_up s next act obeys up = walk plan commands Up next (with_progress turned s) act obeys (λ m c. up, λ n c. failed_up s cause.Clock up)
+      walk plan commands UpIfUnbroken actions.Flush (with_progress turned s) act obeys (λ m c. up, λ n c. failed_up s (cause.Write (commands_before plan commands (turned s.progress)) n) up)
+  unbroken_up s next act obeys up = walk plan commands UpIfUnbroken next (with_progress turned s) act obeys (λ m c. up, λ n c. failed_up s cause.Clock up)
 
   -- a command of a cycle that is sent ends the setup's turn
-  sent_preparing : (s : Model) (act : Act) → (moved plan commands actions.Send s act).progress.preparing ≡ false
+  pub sent_preparing : (s : Model) (act : Act) → (moved plan commands actions.Send s act).progress.preparing ≡ false
   sent_preparing s (Cut bytes n) = subst (λ (x : Model). x.progress.preparing ≡ false) (is_sent plan commands s) refl
   sent_preparing s act = subst (λ (x : Model). x.progress.preparing ≡ false) (is_sent plan commands s) refl
 
@@ -139,16 +134,16 @@ module _ (plan : Plan) (commands : List Task) where
       closed_along (λ (q : Progress). q.chain_unbroken ≡ true → q.preparing ≡ false) plan (waiting_of (with_rest [] (with_progress turned s))) why (turned s.progress) (λ d. cc) (λ d. cc) c
   unprepared_kept s o act c was = ap (λ (x : Model). x.progress.preparing) (moved_changed plan commands o (with_progress turned s) act) ∙ was
 
-  -- an act preserves `OnLine`
-  on_line_moved : (s : Model) (o : Action) (act : Act) → Performs commands s o act → IsFor plan s.progress (waiting_of s) o → OnLine s.progress
-      → OnLine (moved plan commands o (with_progress turned s) act).progress
+  -- an act preserves `IsOnLineIfUnbroken`
+  on_line_moved : (s : Model) (o : Action) (act : Act) → Performs commands s o act → HoldsBefore plan s.progress (waiting_of s) o → IsOnLineIfUnbroken s.progress
+      → IsOnLineIfUnbroken (moved plan commands o (with_progress turned s) act).progress
   on_line_moved s o act obeys needs on c = by_before (unbroken_before s o act obeys c) where
     -- the lemma above, by whether the act sends, or the chain wasn't broken before
     by_before : (o ≡ actions.Send) ⊎ (s.progress.chain_unbroken ≡ true)
         → (is_up (moved plan commands o (with_progress turned s) act).progress.phase ≡ true) × (has_begun (moved plan commands o (with_progress turned s) act).progress ≡ true)
         × ((moved plan commands o (with_progress turned s) act).progress.preparing ≡ false)
     by_before (inl sends) =
-        let it : IsFor plan s.progress (waiting_of s) actions.Send = subst (λ (x : Action). IsFor plan s.progress (waiting_of s) x) sends needs in (
+        let it : HoldsBefore plan s.progress (waiting_of s) actions.Send = subst (λ (x : Action). HoldsBefore plan s.progress (waiting_of s) x) sends needs in (
           unbroken_up s o act obeys (ap is_up it.0) c,
           begun_kept plan commands s o act obeys it.1 c,
           subst (λ (x : Action). (moved plan commands x (with_progress turned s) act).progress.preparing ≡ false) (sym sends) (sent_preparing (with_progress turned s) act),
@@ -156,15 +151,16 @@ module _ (plan : Plan) (commands : List Task) where
     by_before (inr was) = let it = on was in (unbroken_up s o act obeys it.0 c, begun_kept plan commands s o act obeys it.1 c, unprepared_kept s o act c it.2)
 
 -- after each run, if a chain isn't broken there is a connection, the station has synchronized, and no setup comes first
-pub on_line_stood : (plan : Plan) (commands : List Task) (scope : Scope) (acts : List Act) → Runs plan commands (opening plan scope) acts → OnLine (state_after plan commands scope acts).progress
-on_line_stood plan commands scope acts runs =
-    always_far plan commands (opening plan scope) (λ (p : Progress) (done : List Act). OnLine p) (λ done act runs' o on.
+pub unbroken_holds : (plan : Plan) (commands : List Task) (scope : Scope) (acts : List Act) → Runs plan commands (opening plan scope) acts
+    → IsOnLineIfUnbroken (state_after plan commands scope acts).progress
+unbroken_holds plan commands scope acts runs =
+    always_of_progress plan commands (opening plan scope) (λ (p : Progress) (done : List Act). IsOnLineIfUnbroken p) (λ done act runs' o on.
     let s = after_all plan commands (opening plan scope) done in
     on_line_moved plan commands s (action_at plan s) act o (action_for plan s.progress (waiting_of s)) on) (λ c. cc) acts runs
 
 -- if the run may end (`IsResting`), no command of a chain that has begun is left that may be sent
-pub resting_none : (p : Progress) (w : Waiting) → OnLine p → IsResting p w → 0 < p.unsent → p.next_is_chained ≡ true → may_go p w ≡ false
-resting_none p w on rests some chained = never_true (may_go p w) (λ may. by_rest (both_second w.well p.chain_unbroken may) rests) where
+pub resting_none : (p : Progress) (w : Waiting) → IsOnLineIfUnbroken p → IsResting p w → 0 < p.unsent → p.next_is_chained ≡ true → may_go p w ≡ false
+resting_none p w on rests some chained = never_true (may_go p w) (λ may. by_rest (both_true w.well p.chain_unbroken may).1 rests) where
   -- the lemma above, by why the run may end there
   by_rest : p.chain_unbroken ≡ true → IsResting p w → ⊥
   by_rest c (inl down) = not_both (is_up p.phase) (on c).0 down

@@ -7,7 +7,7 @@ use Rattle.gc_lines.specs.Frames.{rest_behind}
 use Rattle.gc_catalogue.specs.declared.answer.Reading.{Reading}
 use Rattle.gc_catalogue.specs.declared.asked.Asked.{Asked}
 use Rattle.gc_client.specs.Rule
-use Rattle.gc_client.specs.Rule.{heard, hears, lost, restarts}
+use Rattle.gc_client.specs.Rule.{heard, hears, restarts}
 use Rattle.gc_texts.specs.Endings.{Skipped, Missed}
 use Rattle.gc_texts.specs.declared.tasks.Task.{Task}
 use Rattle.gc_links.specs.Acts.{Act, Told, Gave}
@@ -32,15 +32,15 @@ use Rattle.gc_station.proofs.Going.{after_all-append}
 use Rattle.gc_station.proofs.Lists.{all_append, all_on}
 use Rattle.gc_station.proofs.Walk.{lines_along, moved_changed}
 use Rattle.gc_station.proofs.Ticking.{le_of, picks, picks_other, not_both, rises_front}
-use Rattle.gc_station.proofs.Cycles.{Begun, late_more, kept_stood, last_began}
+use Rattle.gc_station.proofs.Cycles.{Begun, late_more, begun_if_clock_rises, last_began}
 
 module _ (plan : Plan) (commands : List Task) (scope : Scope) (some : 0 < plan.every) where
   -- the record is justified by these acts: if it says that its command was missed or skipped, that was for its cause
-  abbrev Truly : List Act → Record → Type 0
-  Truly acts r = UnsentIsJustified plan commands scope acts r
+  abbrev IsUnsentJustified : List Act → Record → Type 0
+  IsUnsentJustified acts r = UnsentIsJustified plan commands scope acts r
 
   -- a record that is justified by these acts is justified by these and more
-  truly_more : (acts more : List Act) (r : Record) → Truly acts r → Truly (acts ++ more) r
+  truly_more : (acts more : List Act) (r : Record) → IsUnsentJustified acts r → IsUnsentJustified (acts ++ more) r
   truly_more acts more r h = (missed_more, skipped_more) where
     -- the record of a missed command is justified by these acts and more
     missed_more : r.end ≡ Missed → IsMissedIn plan commands scope (acts ++ more) r
@@ -79,33 +79,34 @@ module _ (plan : Plan) (commands : List Task) (scope : Scope) (some : 0 < plan.e
           utc = x.utc;
         }
 
-  -- the record of a command that was sent says nothing of being missed or skipped, so it is justified (`Truly`)
-  sent_truly : (acts : List Act) (r : Record) → went_out r.end ≡ true → Truly acts r
+  -- the record of a command that was sent says nothing of being missed or skipped, so it is justified (`IsUnsentJustified`)
+  sent_truly : (acts : List Act) (r : Record) → went_out r.end ≡ true → IsUnsentJustified acts r
   sent_truly acts r out = (λ e. absurd (not_both (went_out r.end) out (ap went_out e)), λ e. absurd (not_both (went_out r.end) out (ap went_out e)))
 
   -- the records of settlements say nothing of being missed or skipped
   settled_truly : (acts : List Act) (reads : Asked → List ℕ → Reading) (utc : ℕ) (marks : List (Option Mark)) (settlements : List (Rule.Settlement Asked))
-      → AllByRecursion (Truly acts) (records_of reads utc marks settlements)
+      → AllByRecursion (IsUnsentJustified acts) (records_of reads utc marks settlements)
   settled_truly acts reads utc [] settlements = tt
   settled_truly acts reads utc (mark ∷ marks) [] = tt
   settled_truly acts reads utc (None ∷ marks) (x ∷ others) = settled_truly acts reads utc marks others
   settled_truly acts reads utc (Some mark ∷ marks) (x ∷ others) = (sent_truly acts _ (ended_sent reads mark.expected x.call x.outcome), settled_truly acts reads utc marks others)
 
   -- lines add records that say nothing of being missed or skipped
-  lines_truly : (acts : List Act) (s : Model) (lines : List (List ℕ)) → AllByRecursion (Truly acts) s.records → AllByRecursion (Truly acts) (lines_came s lines).records
+  lines_truly : (acts : List Act) (s : Model) (lines : List (List ℕ)) → AllByRecursion (IsUnsentJustified acts) s.records → AllByRecursion (IsUnsentJustified acts) (lines_came s lines).records
   lines_truly acts s lines h =
-      lines_along (λ (x : Model). AllByRecursion (Truly acts) x.records)
-      (λ x line all. all_append (Truly acts) x.records _ all (settled_truly acts x.reads x.progress.moment.utc x.marks (hears x.client line (heard line)).settlements)) s lines h
+      lines_along (λ (x : Model). AllByRecursion (IsUnsentJustified acts) x.records)
+      (λ x line all. all_append (IsUnsentJustified acts) x.records _ all (settled_truly acts x.reads x.progress.moment.utc x.marks (hears x.client line (heard line)).settlements)) s lines h
 
   -- a piece adds records that say nothing of being missed or skipped
-  came_truly : (acts : List Act) (b : Bool) (word piece : List ℕ) (s : Model) → AllByRecursion (Truly acts) s.records → AllByRecursion (Truly acts) (after_piece b word piece s).records
+  came_truly : (acts : List Act) (b : Bool) (word piece : List ℕ) (s : Model) → AllByRecursion (IsUnsentJustified acts) s.records
+      → AllByRecursion (IsUnsentJustified acts) (after_piece b word piece s).records
   came_truly acts true (asked ∷ others) piece s h = h
   came_truly acts true [] piece s h = lines_truly acts (with_rest (rest_behind s.rest piece) s) (lines_completed s.rest piece) h
   came_truly acts false word piece s h = h
 
   -- the loss of what is outstanding adds records that say nothing of being missed or skipped
-  losing_truly : (acts : List Act) (b : Bool) (s : Model) → AllByRecursion (Truly acts) s.records → AllByRecursion (Truly acts) (losing b s).records
-  losing_truly acts true s h = all_append (Truly acts) s.records _ h (settled_truly acts s.reads s.progress.moment.utc s.marks (restarts s.client).settlements)
+  losing_truly : (acts : List Act) (b : Bool) (s : Model) → AllByRecursion (IsUnsentJustified acts) s.records → AllByRecursion (IsUnsentJustified acts) (losing b s).records
+  losing_truly acts true s h = all_append (IsUnsentJustified acts) s.records _ h (settled_truly acts s.reads s.progress.moment.utc s.marks (restarts s.client).settlements)
   losing_truly acts false s h = h
 
   -- whether a command that isn't sent is missed or skipped, by whether its cycle is missed
@@ -118,10 +119,10 @@ module _ (plan : Plan) (commands : List Task) (scope : Scope) (some : 0 < plan.e
       → r.utc ≡ skipped_at m p → p.missed ≡ true → IsMissedIn plan commands scope (acts ++ Told m ∷ []) r
   skip_missed acts m p r (inl none) here cycle sent utc missed = let nothing = none.1 in absurd (omega (arith, nothing, here))
   skip_missed acts m p r (inr c) here cycle sent utc missed = record {
-    n = c.n;
-    moment = c.m;
+    n = c.earlier;
+    moment = c.moment;
     late = c.late;
-    begins = (late_more plan commands scope some) acts (Told m ∷ []) c.n c.m c.late c.begins;
+    begins = (late_more plan commands scope some) acts (Told m ∷ []) c.earlier c.moment c.late c.begins;
     cycle = cycle ∙ c.count;
     too_late = le_of plan.every c.late (sym c.missed ∙ missed);
     sent = sent;
@@ -172,7 +173,7 @@ module _ (plan : Plan) (commands : List Task) (scope : Scope) (some : 0 < plan.e
   -- the record of a command that is left out is justified
   skips_truly : (acts : List Act) (m : Moment) (left : List Task) → (Begun plan commands scope some) acts (state_after plan commands scope acts).progress
       → action_at plan (state_after plan commands scope acts) ≡ actions.Skip
-      → AllByRecursion (Truly (acts ++ Told m ∷ [])) (skips_first (turned (state_after plan commands scope acts).progress) m
+      → AllByRecursion (IsUnsentJustified (acts ++ Told m ∷ [])) (skips_first (turned (state_after plan commands scope acts).progress) m
       (mark_next plan commands (turned (state_after plan commands scope acts).progress)) left)
   skips_truly acts m [] cycle_begun is = tt
   skips_truly acts m (task ∷ others) cycle_begun is =
@@ -184,40 +185,40 @@ module _ (plan : Plan) (commands : List Task) (scope : Scope) (some : 0 < plan.e
   -- the records after an act, before what is outstanding is lost, are justified
   moved_truly : (acts : List Act) (next : Action) (act : Act) → (Begun plan commands scope some) acts (state_after plan commands scope acts).progress
       → action_at plan (state_after plan commands scope acts) ≡ next
-      → AllByRecursion (Truly (acts ++ act ∷ [])) (state_after plan commands scope acts).records
-      → AllByRecursion (Truly (acts ++ act ∷ [])) (moved plan commands next (with_progress turned (state_after plan commands scope acts)) act).records
+      → AllByRecursion (IsUnsentJustified (acts ++ act ∷ [])) (state_after plan commands scope acts).records
+      → AllByRecursion (IsUnsentJustified (acts ++ act ∷ [])) (moved plan commands next (with_progress turned (state_after plan commands scope acts)) act).records
   moved_truly acts actions.Skip (Told m) cycle_begun is all =
       let s = state_after plan commands scope acts in
-      all_append (Truly (acts ++ Told m ∷ [])) s.records _ all (skips_truly acts m (drop (place_next commands (turned s.progress)) commands) cycle_begun is)
-  moved_truly acts actions.Skip act cycle_begun is all = all_append (Truly (acts ++ act ∷ [])) (state_after plan commands scope acts).records [] all tt
+      all_append (IsUnsentJustified (acts ++ Told m ∷ [])) s.records _ all (skips_truly acts m (drop (place_next commands (turned s.progress)) commands) cycle_begun is)
+  moved_truly acts actions.Skip act cycle_begun is all = all_append (IsUnsentJustified (acts ++ act ∷ [])) (state_after plan commands scope acts).records [] all tt
   moved_truly acts (actions.Read until) (Gave bytes m) cycle_begun is all =
       let s = with_progress turned (state_after plan commands scope acts) in
       came_truly (acts ++ Gave bytes m ∷ []) (is_heard s.progress.phase) s.progress.word bytes (with_moment m (with_progress (moment_noted m) s)) all
   moved_truly acts (actions.Read until) act cycle_begun is all = all
   moved_truly acts next act cycle_begun is all =
       let t = with_progress turned (state_after plan commands scope acts) in
-      subst (λ (x : Model). AllByRecursion (Truly (acts ++ act ∷ [])) x.records) (sym (moved_changed plan commands next t act)) all
+      subst (λ (x : Model). AllByRecursion (IsUnsentJustified (acts ++ act ∷ [])) x.records) (sym (moved_changed plan commands next t act)) all
 
   -- if the clock doesn't go back in these acts, each record after them is justified
-  abbrev Written : List Act → Type 0
-  Written acts = ClockRises 0 acts → AllByRecursion (Truly acts) (state_after plan commands scope acts).records
+  abbrev JustifiedIfClockRises : List Act → Type 0
+  JustifiedIfClockRises acts = ClockRises 0 acts → AllByRecursion (IsUnsentJustified acts) (state_after plan commands scope acts).records
 
-  -- one act of a run more preserves `Written`
+  -- one act of a run more preserves `JustifiedIfClockRises`
   written_step : (done : List Act) (act : Act) → Runs plan commands (opening plan scope) done
-      → Performs commands (state_after plan commands scope done) (action_at plan (state_after plan commands scope done)) act → Written done → Written (done ++ act ∷ [])
+      → Performs commands (state_after plan commands scope done) (action_at plan (state_after plan commands scope done)) act → JustifiedIfClockRises done → JustifiedIfClockRises (done ++ act ∷ [])
   written_step done act runs o h rises =
       let s = state_after plan commands scope done in
       let front = rises_front 0 done act rises in
-      let cycle_begun = ((kept_stood plan commands scope some) done runs front).1 in
-      let old = all_on (Truly done) (Truly (done ++ act ∷ [])) s.records (λ r x. truly_more done (act ∷ []) r x) (h front) in
+      let cycle_begun = ((begun_if_clock_rises plan commands scope some) done runs front).1 in
+      let old = all_on (IsUnsentJustified done) (IsUnsentJustified (done ++ act ∷ [])) s.records (λ r x. truly_more done (act ∷ []) r x) (h front) in
       let t = moved plan commands (action_at plan s) (with_progress turned s) act in
-      subst (λ (x : Model). AllByRecursion (Truly (done ++ act ∷ [])) x.records) (sym (after_all-append plan commands (opening plan scope) done (act ∷ [])))
+      subst (λ (x : Model). AllByRecursion (IsUnsentJustified (done ++ act ∷ [])) x.records) (sym (after_all-append plan commands (opening plan scope) done (act ∷ [])))
       (losing_truly (done ++ act ∷ []) (loses_all t.progress) t (moved_truly done (action_at plan s) act cycle_begun refl old))
 
-  -- `Written` holds after every run
-  written_stood : (acts : List Act) → Runs plan commands (opening plan scope) acts → Written acts
-  written_stood acts runs = always plan commands (opening plan scope) (λ (xs : List Act) (t : Model). Written xs) written_step (λ rises. tt) acts runs
+  -- `JustifiedIfClockRises` holds after every run
+  written_holds : (acts : List Act) → Runs plan commands (opening plan scope) acts → JustifiedIfClockRises acts
+  written_holds acts runs = always plan commands (opening plan scope) (λ (xs : List Act) (t : Model). JustifiedIfClockRises xs) written_step (λ rises. tt) acts runs
 
 -- the law: each record of a missed or a skipped command is justified
 pub unsent_for_a_cause : UnsentForACause
-unsent_for_a_cause plan commands scope acts some runs rises = written_stood plan commands scope some acts runs rises
+unsent_for_a_cause plan commands scope acts some runs rises = written_holds plan commands scope some acts runs rises

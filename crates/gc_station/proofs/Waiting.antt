@@ -8,7 +8,7 @@ use Rattle.std.proofs.lemmas.List.{length-map}
 use Rattle.gc_catalogue.specs.declared.asked.Asked.{Asked}
 use Rattle.gc_client.specs.declared.pending.Pending.{Pending}
 use Rattle.gc_client.specs.Ids
-use Rattle.gc_client.specs.Ids.{id_at, IsWindow}
+use Rattle.gc_client.specs.Ids.{id_at, IsWithinLimits}
 use Rattle.gc_client.specs.Rule.{ById, expired}
 use Rattle.gc_texts.specs.declared.tasks.Task.{Task}
 use Rattle.gc_station.specs.declared.mark.Mark.{Mark}
@@ -22,7 +22,7 @@ use Rattle.gc_station.specs.Quiet.{IsAsking}
 use Rattle.gc_station.specs.Records.{Record}
 use Rattle.gc_station.specs.Runs.{state_after}
 use Rattle.gc_station.specs.Model.{Model, IsSending, action_at, cycle_out, place_out, request_text, Puts, Performs}
-use Rattle.gc_station.proofs.Lists.{all_append, all_on, Rows, rows_same, rows_map}
+use Rattle.gc_station.proofs.Lists.{all_append, all_on, Rows, rows_follow, rows_map}
 use Rattle.gc_station.specs.Scopes.{Scope}
 
 -- after these acts, the command with this mark is sent
@@ -242,7 +242,7 @@ stays_still act on false d xs all = all_append (ReadsBefore d) xs (act ∷ []) a
 pub still : (plan : Plan) (commands : List Task) (scope : Scope) (acts : List Act) (act : Act) (c : ById Asked) (marks : List (Option Mark)) (rs : List Record) → ((d : ℕ) → ReadsBefore d act)
     → Honest plan commands scope acts (acts ++ act ∷ []) c marks rs → Honest plan commands scope (acts ++ act ∷ []) (acts ++ act ∷ []) c marks rs
 still plan commands scope acts act c marks rs on h = record {
-  waiting = rows_same (Waits plan commands scope acts c.next (length c.waiting)) (Waits plan commands scope (acts ++ act ∷ []) c.next (length c.waiting)) 0 0 c.waiting marks
+  waiting = rows_follow (Waits plan commands scope acts c.next (length c.waiting)) (Waits plan commands scope (acts ++ act ∷ []) c.next (length c.waiting)) 0 0 c.waiting marks
       (λ n j p mark w. asked_more plan commands scope acts act Stayed Stayed n j _ p mark (stays_still act on) w) h.waiting;
   written = h.written;
 }
@@ -289,7 +289,7 @@ expired_waits plan commands scope acts now c marks all =
     (λ n j p mark low w. let below : j < length c.waiting = omega (arith, low) in (at_moment plan commands scope acts now n j _ p mark w, (j, below, refl))) all)
 
 -- after a moment the client's window is still one
-pub expired_window : (c : ById Asked) (now : ℕ) → IsWindow c → IsWindow (at_expired c now)
+pub expired_window : (c : ById Asked) (now : ℕ) → IsWithinLimits c → IsWithinLimits (at_expired c now)
 expired_window c now w = record { digit = w.digit; few = let n : length (map (expired now) c.waiting) ≡ length c.waiting = length-map c.waiting (expired now) in omega (arith, n, w.few) }
 
 -- once the act that reads the moment `now` is among the acts, `StayedAt` becomes `Stayed`
@@ -305,7 +305,7 @@ pub behind_moment : (plan : Plan) (commands : List Task) (scope : Scope) (acts :
     → ((d : ℕ) → now < d → ReadsBefore d act) → ((d : ℕ) → d ≤ now → ReadsAtOrPast d act)
     → Rows (WaitsAt plan commands scope acts client now next count) 0 0 ps marks → Rows (Waits plan commands scope (acts ++ act ∷ []) next count) 0 0 ps marks
 behind_moment plan commands scope acts act client now next count ps marks on past all =
-    rows_same (WaitsAt plan commands scope acts client now next count) (Waits plan commands scope (acts ++ act ∷ []) next count) 0 0 ps marks
+    rows_follow (WaitsAt plan commands scope acts client now next count) (Waits plan commands scope (acts ++ act ∷ []) next count) 0 0 ps marks
     (λ n j p mark w. asked_more plan commands scope acts act (StayedAt now) Stayed n j _ p mark (stays_behind act now on past) w.0) all
 
 -- an act that reads a moment, and so times requests out, preserves `Honest`

@@ -22,7 +22,7 @@ use Rattle.gc_links.specs.Acts.{Act, Told, Untold, Put, Cut, Gave, Silent, Ended
 use Rattle.gc_station.specs.Deciding.{is_quiet}
 use Rattle.gc_station.specs.Marks.{commands_in}
 use Rattle.gc_station.specs.Progressing.{moment_noted, cycle_begun, skipped, failing, opened, after_failure, cleared, request_noted, null_sent, renewed, sent, line_synchronizing, lines_synchronizing, pause_ended, drained, quieted, time_passed, reckoned_early, ended_for, closed, setup_sent}
-use Rattle.gc_station.specs.Model.{Model, waiting_of, place_next, mark_next, requests_out, request_text, null_text, first_text, is_chained_after_next, others_after_next, skip_listed, with_listed, after_pass, Puts, Performs, is_heard, with_progress, with_moment, with_rest, with_records, asks_null, asks_first, asks_next, skips, line_came, lines_came, lines_completed, piece_synchronizing, after_piece, reckoned, piece_at, after_read, after_put, after_close, moved, cycle_length, mark_setup, text_or_null, asks_or_null, asks_setup}
+use Rattle.gc_station.specs.Model.{Model, waiting_of, place_next, mark_next, commands_before, request_text, null_text, first_text, is_chained_after_next, others_after_next, skip_listed, with_listed, after_pass, Puts, Performs, is_heard, with_progress, with_moment, with_rest, with_records, asks_null, asks_first, asks_next, skips, line_came, lines_came, lines_completed, piece_synchronizing, after_piece, reckoned, piece_at, after_read, after_put, after_close, moved, cycle_length, mark_setup, text_or_null, asks_or_null, asks_setup}
 
 -- Parts of an act.
 
@@ -36,15 +36,16 @@ pub asked_along : (P : Progress → Type 0) → ((q : Progress) (line : List ℕ
 asked_along P step p [] h = h
 asked_along P step p (line ∷ others) h = asked_along P step (line_synchronizing p line) others (step p line h)
 
--- a fact of models that each line keeps is kept by a piece, if it is also if the piece is heard while the station synchronizes,
--- or discarded
+-- a fact of models that each line keeps holds after a piece, if it holds in each of three cases: before its lines, if the client
+-- hears them; after it, if it is heard while the station synchronizes; and if it is discarded
 pub came_along : (P : Model → Type 0) → ((t : Model) (line : List ℕ) → P t → P (line_came t line)) → (heard : Bool) (word piece : List ℕ) (s : Model)
     → P (with_rest (rest_behind s.rest piece) s) → P (piece_synchronizing piece s) → P s → P (after_piece heard word piece s)
 came_along P step true [] piece s hears begins drops = lines_along P step (with_rest (rest_behind s.rest piece) s) (lines_completed s.rest piece) hears
 came_along P step true (asked ∷ others) piece s hears begins drops = begins
 came_along P step false word piece s hears begins drops = drops
 
--- a fact of progresses is kept if a read gave nothing, if it is if a pause ends, if a drain ends, and if neither does
+-- a fact of progresses holds after a read that gave nothing, if it holds in each of three cases: a pause ends, a drain ends, or
+-- neither does
 pub quieted_along : (P : Progress → Type 0) (plan : Plan) (at : Phase) (p : Progress) → P (pause_ended plan p) → P (drained p) → P p → P (quieted plan at p)
 quieted_along P plan Pausing p paused quiet same = paused
 quieted_along P plan Draining p paused quiet same = by_test (is_quiet plan p) where
@@ -54,7 +55,7 @@ quieted_along P plan Draining p paused quiet same = by_test (is_quiet plan p) wh
   by_test false = same
 quieted_along P plan at p paused quiet same = same
 
--- a fact of progresses is kept by a close, if it is if the run ends, and if another connection may be made
+-- a fact of progresses holds after a close, if it holds in both cases: the run ends for the cause, or it goes on as after a failure
 pub closed_along : (P : Progress → Type 0) (plan : Plan) (w : Waiting) (why : Cause) (p : Progress) → P (ended_for why p) → P (after_failure plan w.commands why p) → P (closed plan w why p)
 closed_along P plan w cause.Done p ends on = ends
 closed_along P plan w cause.Clock p ends on = ends
@@ -240,11 +241,11 @@ moved_changed plan commands Clear s act = refl
 moved_changed plan commands Ask s (Cut bytes n) = refl
 moved_changed plan commands Ask s act = refl
 moved_changed plan commands Prepare s (Cut bytes n) =
-    let cut = with_progress (failing (cause.Write (requests_out plan commands s.progress) n)) in
+    let cut = with_progress (failing (cause.Write (commands_before plan commands s.progress) n)) in
     subst (λ (u : Model). cut u ≡ changed Prepare s (cut u)) (is_prepared plan commands s) refl
 moved_changed plan commands Prepare s act = subst (λ (u : Model). u ≡ changed Prepare s u) (is_prepared plan commands s) refl
 moved_changed plan commands Send s (Cut bytes n) =
-    let cut = with_progress (failing (cause.Write (requests_out plan commands s.progress) n)) in
+    let cut = with_progress (failing (cause.Write (commands_before plan commands s.progress) n)) in
     subst (λ (u : Model). cut u ≡ changed Send s (cut u)) (is_sent plan commands s) refl
 moved_changed plan commands Send s act = subst (λ (u : Model). u ≡ changed Send s u) (is_sent plan commands s) refl
 moved_changed plan commands Skip s (Told m) = refl
@@ -276,17 +277,18 @@ Behind plan commands P Renew s = ((m : Moment) → P (Told m) (with_moment m
 Behind plan commands P Begin s = ((m : Moment) → P (Told m) (with_moment m (with_progress (cycle_begun plan (cycle_length plan commands) m) s)))
     × ((n : ℕ) → P Untold (with_progress (failing cause.Clock) s))
 Behind plan commands P Open s = ((m : Moment) → P Opened (with_progress opened s)) × ((n : ℕ) → P Unopened (with_progress (after_failure plan (commands_in s.marks) cause.Open) s))
-Behind plan commands P Clear s = Putting P (requests_out plan commands s.progress) (10 ∷ []) (with_progress cleared s)
-Behind plan commands P Ask s = Putting P (requests_out plan commands s.progress) (null_text s.progress.word) (with_progress (null_sent plan) s)
-Behind plan commands P Prepare s = Putting P (requests_out plan commands s.progress) (text_or_null s.progress.moment.utc s.client (drop s.progress.prepared commands)) (preparing plan commands s)
-Behind plan commands P Send s = Putting P (requests_out plan commands s.progress) (first_text s.progress.moment.utc s.client (drop (place_next commands s.progress) commands)) (sending plan commands s)
+Behind plan commands P Clear s = Putting P (commands_before plan commands s.progress) (10 ∷ []) (with_progress cleared s)
+Behind plan commands P Ask s = Putting P (commands_before plan commands s.progress) (null_text s.progress.word) (with_progress (null_sent plan) s)
+Behind plan commands P Prepare s = Putting P (commands_before plan commands s.progress) (text_or_null s.progress.moment.utc s.client (drop s.progress.prepared commands)) (preparing plan commands s)
+Behind plan commands P Send s =
+    Putting P (commands_before plan commands s.progress) (first_text s.progress.moment.utc s.client (drop (place_next commands s.progress) commands)) (sending plan commands s)
 Behind plan commands P Skip s =
     ((m : Moment) → P (Told m) (with_moment m (with_progress (λ p. reckoned_early plan (commands_in s.marks)
     (skipped (is_chained_after_next commands s.progress) (others_after_next commands s.progress) m p)) (with_listed (skip_listed plan commands s (Told m))
     (with_records (skips plan commands s.progress (Told m)) s)))))
     × ((n : ℕ) → P Untold (with_progress (failing cause.Clock) (with_records [] s)))
 Behind plan commands P Pass s = ((m : Moment) → P (Told m) (after_pass plan commands s (Told m))) × ((n : ℕ) → P Untold (with_progress (failing cause.Clock) s))
-Behind plan commands P Flush s = Putting P (requests_out plan commands s.progress) (request_text s.client (Table NullProc)) (with_progress request_noted (asks_null plan s))
+Behind plan commands P Flush s = Putting P (commands_before plan commands s.progress) (request_text s.client (Table NullProc)) (with_progress request_noted (asks_null plan s))
 Behind plan commands P (Read until) s =
     ((bytes : List ℕ) (m : Moment) → P (Gave bytes m) (piece_at plan until bytes m s)) × ((m : Moment) → P (Silent m) (after_read plan until s (Silent m)))
     × P Ended (with_progress (failing cause.End) s) × P Broke (with_progress (failing cause.Read) s) × P Untold (with_progress (failing cause.Clock) s)
@@ -314,14 +316,14 @@ walk plan commands P Begin s act o h = absurd o
 walk plan commands P Open s Opened o h = h.0 (record { elapsed = 0; utc = 0; stops = false })
 walk plan commands P Open s Unopened o h = h.1 0
 walk plan commands P Open s act o h = absurd o
-walk plan commands P Clear s act o h = put_walk P (requests_out plan commands s.progress) (10 ∷ []) (with_progress cleared) s act o h
-walk plan commands P Ask s act o h = put_walk P (requests_out plan commands s.progress) (null_text s.progress.word) (λ (x : Model). with_progress (null_sent plan) x) s act o h
+walk plan commands P Clear s act o h = put_walk P (commands_before plan commands s.progress) (10 ∷ []) (with_progress cleared) s act o h
+walk plan commands P Ask s act o h = put_walk P (commands_before plan commands s.progress) (null_text s.progress.word) (λ (x : Model). with_progress (null_sent plan) x) s act o h
 walk plan commands P Prepare s act o h =
-    let requests = requests_out plan commands s.progress in
+    let requests = commands_before plan commands s.progress in
     let text = text_or_null s.progress.moment.utc s.client (drop s.progress.prepared commands) in
     put_walk P requests text (λ (x : Model). with_progress (setup_sent plan) (asks_setup plan commands x)) s act o (subst (λ (u : Model). Putting P requests text u) (is_prepared plan commands s) h)
 walk plan commands P Send s act o h =
-    let requests = requests_out plan commands s.progress in
+    let requests = commands_before plan commands s.progress in
     let text = first_text s.progress.moment.utc s.client (drop (place_next commands s.progress) commands) in
     put_walk P requests text (λ (x : Model). with_progress (sent (is_chained_after_next commands s.progress) (others_after_next commands s.progress)) (asks_next plan commands x)) s act o
     (subst (λ (u : Model). Putting P requests text u) (is_sent plan commands s) h)
@@ -331,7 +333,7 @@ walk plan commands P Skip s act o h = absurd o
 walk plan commands P Pass s (Told m) o h = h.0 m
 walk plan commands P Pass s Untold o h = h.1 0
 walk plan commands P Pass s act o h = absurd o
-walk plan commands P Flush s act o h = put_walk P (requests_out plan commands s.progress) (request_text s.client (Table NullProc))
+walk plan commands P Flush s act o h = put_walk P (commands_before plan commands s.progress) (request_text s.client (Table NullProc))
     (λ (x : Model). with_progress request_noted (asks_null plan x)) s act o h
 walk plan commands P (Read until) s (Gave bytes m) o h = h.0 bytes m
 walk plan commands P (Read until) s (Silent m) o h = h.1 m

@@ -16,7 +16,7 @@ use Rattle.gc_station.specs.declared.progress.Progress.{Progress}
 use Rattle.gc_station.specs.Beginnings.{lines_heard_at, unanswered_after}
 use Rattle.gc_station.specs.Deciding.{has_begun, is_none_left}
 use Rattle.gc_station.specs.Progressing.{turned, moment_noted, line_synchronizing, lines_synchronizing, time_passed}
-use Rattle.gc_station.specs.Reasons.{IsFor}
+use Rattle.gc_station.specs.Reasons.{HoldsBefore}
 use Rattle.gc_station.specs.Model.{Model, waiting_of, with_progress, with_moment, with_rest, lines_completed, is_heard, after_piece, Performs, moved}
 use Rattle.gc_station.proofs.Invariant.{Invariant}
 use Rattle.gc_station.proofs.Walk.{lines_along, quieted_along, closed_along, walk}
@@ -93,9 +93,9 @@ module _ (plan : Plan) (commands : List Task) where
 
 -- if a station resynchronizes, seven are outstanding, which have all timed out
 pub renews_needs : (plan : Plan) (commands : List Task) (s : Model) (o : Action) → Invariant plan commands s → o ≡ actions.Renew
-    → IsFor plan s.progress (waiting_of s) o → (length s.client.waiting ≡ WINDOW) × (deadlines s.client.waiting ≡ [])
+    → HoldsBefore plan s.progress (waiting_of s) o → (length s.client.waiting ≡ WINDOW) × (deadlines s.client.waiting ≡ [])
 renews_needs plan commands s o fine is needs =
-    let it = subst (λ (x : Action). IsFor plan s.progress (waiting_of s) x) is needs in
+    let it = subst (λ (x : Action). HoldsBefore plan s.progress (waiting_of s) x) is needs in
     let most = fine.window in
     let least = it.3 in
     (omega (arith, most, least), nil_from_length (deadlines s.client.waiting) it.2)

@@ -14,27 +14,26 @@ use Rattle.gc_station.specs.Runs.{state_after}
 use Rattle.gc_station.specs.Model.{Puts, IsSending, cycle_out, place_out, request_text, lines_completed}
 use Rattle.gc_station.specs.Scopes.{Scope}
 
--- an act reads no moment at or past this deadline
+-- the act reads no moment, or one before `deadline`
 abbrev pub ReadsBefore : ℕ → Act → Type 0
 ReadsBefore deadline (Told m) = m.elapsed < deadline
 ReadsBefore deadline (Gave bytes m) = m.elapsed < deadline
 ReadsBefore deadline (Silent m) = m.elapsed < deadline
 ReadsBefore deadline _ = Unit {0}
 
--- how long the first of these commands waits; 0 if there is none
+-- for how many milliseconds the request of the first of these commands waits; 0 if there is no command
 abbrev pub first_deadline : List Task → ℕ
 first_deadline [] = 0
 first_deadline (task ∷ others) = task.deadline
 
--- the deadline of the next command, if its request is sent directly after these acts
+-- the deadline of the request that is sent directly after `acts`, if a command of the text is sent then
 abbrev pub deadline_after : Plan → List Task → Scope → List Act → ℕ
 deadline_after plan commands scope acts =
     let s = state_after plan commands scope acts in
     later s.progress.moment.elapsed (first_deadline (drop (place_out plan commands s) commands))
 
--- after these acts, this act puts the very request of record `r`: the station's next action is a send; the cycle and the place
--- are the record's; the moment read last is the one that the record has as `sent`; and what is put is the request line of the
--- record's call
+-- the act `act`, made after `acts`, writes the request of the record `r`, all of it or a part: a command is sent next; it has
+-- the cycle and the place of `r`; the moment read last is `r.sent`; and the bytes are the line of the call of `r`
 pub record IsOwnRequest (plan : Plan) (commands : List Task) (scope : Scope) (acts : List Act) (act : Act) (r : Record) : Type 0 where
   pub sends : IsSending plan (state_after plan commands scope acts)
   pub cycle : r.cycle ≡ cycle_out plan (state_after plan commands scope acts)
@@ -42,16 +41,15 @@ pub record IsOwnRequest (plan : Plan) (commands : List Task) (scope : Scope) (ac
   pub sent : r.sent ≡ Some (state_after plan commands scope acts).progress.moment.utc
   pub put : Puts (request_text (state_after plan commands scope acts).client r.command.call) act
 
--- after these acts, this act writes a record
+-- the act `act`, made after `acts`, adds the record `r`; it may add other records before it (`earlier`) and after it (`later`)
 pub record IsWrittenAt (plan : Plan) (commands : List Task) (scope : Scope) (acts : List Act) (act : Act) (r : Record) : Type 0 where
   pub earlier : List Record
   pub later : List Record
   pub written : (state_after plan commands scope (acts ++ act ∷ [])).records ≡ (state_after plan commands scope acts).records ++ (earlier ++ r ∷ later)
 
--- the acts are, in this order: `before`; `request`, which puts the request of the record r, of its cycle and place, where the
--- moment read last is the one that the record has for it; `between`, in which no moment at or past the request's deadline is
--- read; a read before that deadline, whose piece completes `line`, with the request's id; and `behind`. At that read r is
--- recorded
+-- among `acts` are, in this order: `request`, which writes the request of the record `r`; the acts `between`, which read no
+-- moment at or past its deadline; and a read before that deadline, which gave `piece`. The piece completes `line`, after the
+-- lines `front`, and `line` has the request's id. At that read `r` is recorded
 pub record IsAnsweredIn (plan : Plan) (commands : List Task) (scope : Scope) (acts : List Act) (r : Record) (line : List ℕ) : Type 0 where
   pub before : List Act
   pub request : Act
@@ -69,7 +67,7 @@ pub record IsAnsweredIn (plan : Plan) (commands : List Task) (scope : Scope) (ac
   pub id : heard line ≡ Some (state_after plan commands scope before).client.next
   pub written : IsWrittenAt plan commands scope (before ++ request ∷ between) (Gave piece moment) r
 
--- the line of the reply, for a command that a reply in time ended: as answered, unreadable or elsewhere. None for any other
+-- the line of the reply of a command that a reply in time ended: as answered, unreadable or elsewhere. `None` for any other
 -- ending
 abbrev pub answer_of : End → Option (List ℕ)
 answer_of (Answered quality answer line) = Some line
@@ -80,6 +78,7 @@ answer_of Lost = None
 answer_of Skipped = None
 answer_of Missed = None
 
--- if a record is of a reply in time (answered, unreadable or elsewhere), the reply's line came as `IsAnsweredIn` says
+-- if the record `r` is of a reply in time (answered, unreadable or elsewhere), the line of the reply came as `IsAnsweredIn`
+-- says
 abbrev pub AnswerIsJustified : Plan → List Task → Scope → List Act → Record → Type 0
 AnswerIsJustified plan commands scope acts r = (line : List ℕ) → answer_of r.end ≡ Some line → IsAnsweredIn plan commands scope acts r line

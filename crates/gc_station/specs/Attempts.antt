@@ -11,23 +11,26 @@ use Rattle.gc_texts.specs.declared.near.Expected.{Expected}
 use Rattle.gc_station.specs.Marks.{end_of}
 use Rattle.gc_station.specs.declared.mark.Mark.{Mark}
 
--- the return code other than 0 of a reply with communication code 0, by what it says
+-- the return code other than 0 that a reading has, with communication code 0; `None` for any other reading
 abbrev pub code_in : Reading → Option ℕ
 code_in (reading.Refused code) = Some code
 code_in _ = None
 
--- the return code other than 0 of the reply that a request had, if it had one
+-- the return code other than 0 of the reply that ended a request for `call` with this outcome; `None` if no reply in time did,
+-- or it has no such code with communication code 0. `reads` gives what a line says of a call
 abbrev pub code_of : (Asked → List ℕ → Reading) → Asked → Outcome → Option ℕ
 code_of reads call (Answered line) = code_in (reads call line)
 code_of reads call Late = None
 code_of reads call Lost = None
 
--- whether a command of the current attempt has ended as its rule names, after one more has ended: this one, or, unless the
--- attempt begins with it, one before it (`listed`)
+-- whether a command of the current attempt has ended as its rule names, after one more ended as `end`, with the return code
+-- `code` other than 0, if any. That is this command itself, or one before it (`listed`), unless the attempt begins with this
+-- command
 abbrev pub listed_after : Bool → Expected → Option ℕ → End → Bool
 listed_after listed expected code end = (if nat_eq expected.turn.link 0 then false else listed) || is_named expected.again code end
 
--- whether a command of an attempt ended as its rule names, after these settlements of the requests with these marks, the oldest first
+-- whether a command of the current attempt has ended as its rule names, after these settlements of the requests with these
+-- marks, the oldest first. `listed` says whether one had before them, and `reads` gives what a line says of a call
 abbrev pub listed_by : (Asked → List ℕ → Reading) → Bool → List (Option Mark) → List (Settlement Asked) → Bool
 listed_by reads listed [] settlements = listed
 listed_by reads listed (mark ∷ marks) [] = listed

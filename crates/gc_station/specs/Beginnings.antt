@@ -17,58 +17,61 @@ use Rattle.gc_station.specs.Runs.{state_after}
 use Rattle.gc_station.specs.Scopes.{Scope}
 use Rattle.gc_station.specs.Model.{Model, Puts, Runs, after, is_heard, lines_completed, null_text, opening, action_at}
 
--- the lines that this act completes, if the station is at this model before it; none in a phase in which what comes is
--- discarded
+-- the lines that the act completes and the station hears, if it has the model `s` before the act; none in a phase in which what
+-- comes is discarded
 abbrev pub lines_heard_at : Model → Act → List (List ℕ)
 lines_heard_at s (Gave piece m) = if is_heard s.progress.phase then lines_completed s.rest piece else []
 lines_heard_at s act = []
 
--- the lines that are heard among these acts, in order, from this model on
+-- the lines that are heard at these acts, in order, from the model `s` on
 abbrev pub lines_heard : Plan → List Task → Model → List Act → List (List ℕ)
 lines_heard plan commands s [] = []
 lines_heard plan commands s (act ∷ acts) = lines_heard_at s act ++ lines_heard plan commands (after plan commands s act) acts
 
--- which of these ids of null procedures are still unanswered after these lines
+-- which of the ids `word` are still unanswered after these lines: each line answers the first id that is left if it has that
+-- id, and otherwise none
 abbrev pub unanswered_after : List ℕ → List (List ℕ) → List ℕ
 unanswered_after word [] = word
 unanswered_after word (line ∷ others) = unanswered_after (left_by word (heard line)) others
 
--- where, after the acts `earlier` and then `between`, a command is sent, or the null procedure that follows commands which have
--- all timed out: the ids that weren't answered after `earlier` are, in order, among the ids of the lines that were heard in
--- `between`. So if `earlier` ends at the start of a run, or where the station resynchronizes, all eight ids were heard in
--- `between`
+-- if after the acts `earlier` and then `between` a command is sent next, or a null procedure that isn't of a synchronization:
+-- the ids that weren't answered after `earlier` are, in order, among the ids of the lines that were heard in `between`. So if
+-- `earlier` ends at the start of a run, or where the station resynchronizes, all eight ids were heard in `between`
 abbrev pub NoneBeforeTheLastAnswer : Type 0
 NoneBeforeTheLastAnswer =
     (plan : Plan) (commands : List Task) (scope : Scope) (earlier between : List Act) → Runs plan commands (opening plan scope) (earlier ++ between)
     → IsAsking (action_at plan (state_after plan commands scope (earlier ++ between)))
     → IsSubsequence (state_after plan commands scope earlier).progress.word (filter_map heard (lines_heard plan commands (state_after plan commands scope earlier) between))
 
--- an act while the station synchronizes: no request is outstanding, and the client is new; a request that is sent is the null
--- procedure of the first id that isn't answered; and each line that the act brings, in order, answers the first id that is left
--- if it has that id, and else answers none
+-- what holds of the act `act`, made after `acts`, while the station synchronizes
 pub record IsSynchronizing (plan : Plan) (commands : List Task) (scope : Scope) (acts : List Act) (act : Act) : Type 0 where
+  -- the client is new: none of its requests is outstanding
   pub client : (state_after plan commands scope acts).client ≡ fresh
   pub marks : (state_after plan commands scope acts).marks ≡ []
+  -- a request that is sent is the null procedure of the first id that isn't answered
   pub asks : IsRequest act → Puts (null_text (state_after plan commands scope acts).progress.word) act
+  -- the ids that are left after the act: each line that it brings answers the first id that is left if it has that id, and
+  -- otherwise none
   pub left : (state_after plan commands scope (acts ++ act ∷ [])).progress.word
       ≡ unanswered_after (state_after plan commands scope acts).progress.word (lines_heard_at (state_after plan commands scope acts) act)
 
--- at an act a station resynchronizes, as `Resynchronizes` says; then nothing is outstanding, and no null procedure is answered
+-- at the act `act`, made after `acts`, the station resynchronizes, as `Resynchronizes` says; after it no null procedure is
+-- answered, and the client is new
 pub record IsResynchronizing (plan : Plan) (commands : List Task) (scope : Scope) (acts : List Act) (act : Act) : Type 0 where
   pub resynchronizes : Resynchronizes plan commands scope acts act
   pub word : (state_after plan commands scope (acts ++ act ∷ [])).progress.word ≡ the_word
   pub client : (state_after plan commands scope (acts ++ act ∷ [])).client ≡ fresh
 
--- a run begins with all eight null procedures; each act while the station synchronizes is `IsSynchronizing`; and if the station
--- resynchronizes, the act is `IsResynchronizing`
+-- a run begins with all eight null procedures (`starts`); each act while the station synchronizes is `IsSynchronizing`
+-- (`begins`); and an act after which the station synchronizes, and before which it didn't, is `IsResynchronizing` (`anew`)
 pub record SynchronizesInOrder (plan : Plan) (commands : List Task) (scope : Scope) (acts : List Act) (act : Act) : Type 0 where
   pub starts : (state_after plan commands scope []).progress.word ≡ the_word
   pub begins : has_begun (state_after plan commands scope acts).progress ≡ false → IsSynchronizing plan commands scope acts act
   pub anew : has_begun (state_after plan commands scope acts).progress ≡ true → has_begun (state_after plan commands scope (acts ++ act ∷ [])).progress ≡ false
       → IsResynchronizing plan commands scope acts act
 
--- after these acts there is a connection that was cleared: as soon as it was made, a lone line feed was sent whole. If the
--- station had synchronized by then, the connection was quiet before anything else was sent on it
+-- among `acts` a connection was made, which is still there (`stays`), and as soon as it was made a lone line feed was sent
+-- whole. If the station had synchronized by then, the connection was quiet before anything else was sent on it
 pub record IsClearedAndQuiet (plan : Plan) (commands : List Task) (scope : Scope) (acts : List Act) : Type 0 where
   pub before : List Act
   pub behind : List Act

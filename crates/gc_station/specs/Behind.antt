@@ -14,7 +14,7 @@ use Rattle.gc_links.specs.Acts.{Act}
 use Rattle.gc_station.specs.declared.mark.Mark.{Mark}
 use Rattle.gc_station.specs.declared.plan.Plan.{Plan}
 use Rattle.gc_station.specs.declared.progress.Action.TheVariants as action
-use Rattle.gc_station.specs.Deciding.{has_begun, action_next, action_prepare, action_room}
+use Rattle.gc_station.specs.Deciding.{has_begun, action_next, action_room}
 use Rattle.gc_station.specs.Links.{parts}
 use Rattle.gc_station.specs.Model.{opening, waiting_of, Runs}
 use Rattle.gc_station.specs.Parts.{Part}
@@ -22,28 +22,29 @@ use Rattle.gc_station.specs.Progressing.{is_over}
 use Rattle.gc_station.specs.Runs.{state_after}
 use Rattle.gc_station.specs.Scopes.{Scope}
 
--- a request was a call of the table, and a reply ended it: it was answered, or late
+-- the settlement `x` is of a call of the table, and a reply ended it: it was answered, or late
 abbrev pub IsReplied : Settlement Asked → Type 0
 IsReplied x = (is_of_table x.call ≡ true) × (x.outcome ≡ Lost → ⊥)
 
--- of the requests that a client sent since its synchronization, one of the last seven is a call of the table that a reply
--- ended; or fewer than seven were sent, so that the last null procedure of the synchronization is one of the last seven.
--- Settlement k is that of request k
+-- of the requests that a client sent since its synchronization (`x.sent`), one of the last seven is a call of the table that a
+-- reply ended: request `k`, with its settlement `s`. Or fewer than seven were sent, so that the last null procedure of the
+-- synchronization is one of the last seven
 abbrev pub IsNearTheTable : Course Asked → Type 0
 IsNearTheTable x =
     (length x.sent < WINDOW)
     ⊎ ((k : ℕ) × (s : Settlement Asked) × (slice_get x.settlements k ≡ Some s) × IsReplied s × (length x.sent ≤ k + WINDOW))
 
--- wherever a command is sent, one of the seven requests before it is a call of the table that a reply ended, or the last null
--- procedure of its part's synchronization (`IsNearTheTable`)
-abbrev pub CommandsGoOutBehindTheTable : Type 0
-CommandsGoOutBehindTheTable =
+-- wherever a command is sent, in any part of a run, one of the seven requests before it is a call of the table that a reply
+-- ended, or the last null procedure of the part's synchronization (`IsNearTheTable`). `front` are the client's steps before the
+-- command
+abbrev pub CommandsAreSentNearTheTable : Type 0
+CommandsAreSentNearTheTable =
     (plan : Plan) (commands : List Task) (scope : Scope) (acts : List Act) → Runs plan commands (opening plan scope) acts
     → (i : ℕ) (part : Part) → slice_get (parts plan commands scope acts) i ≡ Some part
     → (front later : List (Step Asked)) (target : ℕ) (call : Asked) (deadline : ℕ) (mark : Mark) → part.steps ≡ front ++ Send target call deadline ∷ later
     → slice_get part.marks (length (course WINDOW begun front).sent) ≡ Some (Some mark) → IsNearTheTable (course WINDOW begun front)
 
--- each of these tasks asks for a call of the table
+-- each of `tasks` asks for a call of the table
 abbrev pub AreOfTable : List Task → Type 0
 AreOfTable tasks = AllByRecursion (λ task. is_of_table task.command.call ≡ true) tasks
 
@@ -54,5 +55,5 @@ TheTableIsNeverHeldUp =
     (plan : Plan) (commands : List Task) (scope : Scope) (acts : List Act) → Runs plan commands (opening plan scope) acts → AreOfTable commands
     → let s = state_after plan commands scope acts in has_begun s.progress ≡ true → is_over s.progress ≡ false
     → (s.progress.behind ≡ length s.client.waiting)
-    × (action_next plan s.progress (waiting_of s) ≡ action_room plan s.progress (waiting_of s) action.Send)
-    × (action_prepare plan s.progress (waiting_of s) ≡ action_room plan s.progress (waiting_of s) action.Prepare)
+    × (action_next plan s.progress (waiting_of s) action.Send ≡ action_room plan s.progress (waiting_of s) action.Send)
+    × (action_next plan s.progress (waiting_of s) action.Prepare ≡ action_room plan s.progress (waiting_of s) action.Prepare)

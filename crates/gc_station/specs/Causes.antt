@@ -5,7 +5,7 @@ use Rattle.gc_texts.specs.declared.fault.RunFault.TheVariants as fault
 use Rattle.gc_station.specs.declared.cause.Cause.{Cause}
 use Rattle.gc_station.specs.declared.cause.Cause.TheVariants.{Done, Dead, Read, End, Write, Clock, Open, Turns, Stale, Stopped, SetUp}
 
--- the fault of a run that stopped for this cause; none if the run is done, or its end was asked for
+-- the fault that a run reports if it stopped for this cause; `None` if the run is done, or its end was asked for
 abbrev pub fault_of : Cause → Option RunFault
 fault_of Done = None
 fault_of Dead = Some fault.Mute

@@ -18,14 +18,14 @@ use Rattle.gc_station.specs.Runs.{state_after}
 use Rattle.gc_station.specs.Scopes.{Scope}
 use Rattle.gc_station.specs.Model.{Model, action_at, cycles_begun, place_next, is_chained}
 
--- the next command isn't the first of its cycle, which comes after the setup, and is sent only once the one before it was
+-- the cycle's next command isn't the cycle's first, which comes after the setup, and is sent only once the one before it was
 -- answered well
 abbrev pub IsChained : Plan → List Task → Model → Type 0
 IsChained plan commands s = (plan.setup < place_next commands s.progress) × (is_chained (drop (place_next commands s.progress) commands) ≡ true)
 
--- after these acts the command before the next one, of the same cycle, was sent, and no connection was closed since. Its record
--- is the last one. That is an answer which came in time, with the id of that very request, and of a good quality: with both
--- codes 0 and values that read, or with a return code that is accepted of that command
+-- among `acts` the act `request` sent the command before the cycle's next one, in the same cycle. No connection was closed
+-- since (`stays`), and the last record of all is of that command (`answer`): a reply that came in time, with the id of
+-- `request`, and of a good quality. `said` are the values that the record has, and `line` is the reply
 pub record IsLinked (plan : Plan) (commands : List Task) (scope : Scope) (acts : List Act) : Type 0 where
   pub before : List Act
   pub request : Act

@@ -12,24 +12,26 @@ use Rattle.gc_station.specs.declared.progress.Waiting.{Waiting}
 use Rattle.gc_links.specs.Acts.{Act, Untold, Cut, Ended, Broke, Closed, Unopened}
 use Rattle.gc_station.specs.Deciding.{is_up}
 use Rattle.gc_station.specs.Progressing.{is_finished, is_spared}
-use Rattle.gc_station.specs.Reasons.{IsFor, IsAtItsEnd}
+use Rattle.gc_station.specs.Reasons.{HoldsBefore, IsAtItsEnd}
 use Rattle.gc_station.specs.Runs.{state_after}
 use Rattle.gc_station.specs.Model.{Model, waiting_of, action_at, opening, Performs, Runs}
 use Rattle.gc_station.specs.Scopes.{Scope}
 
--- if a null procedure of a synchronization is sent nothing is outstanding, and the client is new: the first command after the
--- synchronization has id 0
+-- if a null procedure of a synchronization is sent next, nothing is outstanding, and the client is new: the first command after
+-- the synchronization has id 0. Nothing is said of any other action
 abbrev pub IsAlone : Action → Model → Type 0
 IsAlone Ask s = (s.client ≡ fresh) × (s.marks ≡ [])
 IsAlone _ s = Unit {0}
 
--- an act performs the action that is next, and the conditions of that action hold
+-- the act performs the action that is next for a station with the model `s` (`obeys`), and the conditions of that action hold:
+-- those of `HoldsBefore` (`needs`), and for a null procedure of a synchronization `IsAlone` (`alone`)
 pub record IsReasoned (plan : Plan) (commands : List Task) (s : Model) (act : Act) : Type 0 where
   pub obeys : Performs commands s (action_at plan s) act
-  pub needs : IsFor plan s.progress (waiting_of s) (action_at plan s)
+  pub needs : HoldsBefore plan s.progress (waiting_of s) (action_at plan s)
   pub alone : IsAlone (action_at plan s) s
 
--- an act shows a cause: the other end closed, a read failed, the clock couldn't be read, or a write was cut
+-- the result of the act is this cause: the other end closed, a read failed, the clock couldn't be read, or a write was cut. No
+-- act shows any other cause
 abbrev pub Shows : Cause → Act → Type 0
 Shows cause.End act = act ≡ Ended
 Shows cause.Read act = act ≡ Broke
@@ -37,21 +39,23 @@ Shows cause.Clock act = act ≡ Untold
 Shows (cause.Write requests bytes) act = (text : List ℕ) × (act ≡ Cut text bytes)
 Shows _ act = ⊥
 
--- a connection is closed for a cause: the run's end, a dead line, or what the last act shows
+-- after `acts` the connection is closed for the cause `why`: the run is at an end as `IsAtItsEnd` says, or the last act shows
+-- the cause
 pub record ClosesForACause (plan : Plan) (commands : List Task) (scope : Scope) (acts : List Act) : Type 0 where
   pub why : Cause
   pub closes : action_at plan (state_after plan commands scope acts) ≡ Close why
   pub shown : IsAtItsEnd plan (state_after plan commands scope acts).progress (waiting_of (state_after plan commands scope acts)) why
       ⊎ ((earlier : List Act) × (last : Act) × (acts ≡ earlier ++ last ∷ []) × Shows why last)
 
--- a run ends as done: no command is left to be sent, and none is outstanding
+-- a run ends as done at the progress `p` with `commands` outstanding commands: no command is left to be sent, and none is
+-- outstanding
 abbrev pub EndsDone : Progress → ℕ → Cause → Type 0
 EndsDone p commands why = (why ≡ cause.Done) × (p.left ≡ 0) × (p.unsent ≡ 0) × (commands ≡ 0)
 
--- a connection was closed, or couldn't be made, for the first of these causes, while `commands` commands were outstanding; and
+-- at the progress `p` with `commands` outstanding commands a connection was closed, or couldn't be made, for the first cause;
 -- then the run ends for the cause `why`. After `Clock` (the clock can't be read), `Turns` (all turns are used up), `Stale` and
--- `Stopped`, `why` is that same cause. After `Done` it is `Done`: no command is left to be sent, and none is outstanding. After
--- any other cause the run is done in the same way; or `why` is that other cause, a new connection would take a try, and no try
+-- `Stopped`, `why` is that same cause. After `Done` the run is done: no command is left to be sent, and none is outstanding.
+-- After any other cause it is done in the same way; or `why` is that other cause, a new connection would take a try, and no try
 -- is left
 abbrev pub EndsAfter : Plan → Progress → ℕ → Cause → Cause → Type 0
 EndsAfter plan p commands cause.Done why = EndsDone p commands why
@@ -63,25 +67,27 @@ EndsAfter plan p commands other why =
     EndsDone p commands why ⊎ ((why ≡ other) × (is_finished commands p ≡ false) × (is_spared plan other p ≡ false) × (p.tries ≡ 0))
 
 -- the act, which performed the action `next`, closed the connection for some cause, or couldn't make one; and the run ends then
--- for the cause `why`, as `EndsAfter` says
+-- for the cause `why`, as `EndsAfter` says. `p` and `w` are of the station before the act
 abbrev pub EndsDisconnected : Plan → Progress → Waiting → Action → Cause → Act → Type 0
 EndsDisconnected plan p w next why act =
     ((other : Cause) × (act ≡ Closed) × (next ≡ Close other) × EndsAfter plan p w.commands other why)
     ⊎ ((act ≡ Unopened) × EndsAfter plan p w.commands cause.Open why)
 
--- an act ends a run for a cause: a call failed while there was no connection, or the connection is gone, and no other is made
+-- the act ends a run for the cause `why`, if the station has the model `s` before it: a call failed while there was no
+-- connection; or the act closed the connection or couldn't make one, and no other one is made
 abbrev pub Ends : Plan → Model → Cause → Act → Type 0
 Ends plan s why act = ((is_up s.progress.phase ≡ false) × Shows why act) ⊎ EndsDisconnected plan s.progress (waiting_of s) (action_at plan s) why act
 
--- a run stops without a connection, and for a cause: all turns are used up, or what the last act shows
+-- after `acts` a run stops for the cause `why`: there is no connection; and all turns are used up, or the last act ends the run
+-- for that cause
 pub record StopsForACause (plan : Plan) (commands : List Task) (scope : Scope) (acts : List Act) (why : Cause) : Type 0 where
   pub down : is_up (state_after plan commands scope acts).progress.phase ≡ false
   pub shown : ((why ≡ cause.Turns) × ((state_after plan commands scope acts).progress.turns ≡ 0))
       ⊎ ((earlier : List Act) × (last : Act) × (acts ≡ earlier ++ last ∷ []) × Ends plan (state_after plan commands scope earlier) why last)
 
 -- a connection is closed, or a run stops, because its turns are used up only after as many acts as it had turns
-abbrev pub EndsForTurnsBehindAsManyActs : Type 0
-EndsForTurnsBehindAsManyActs =
+abbrev pub EndsForTurnsOnlyAfterAsManyActs : Type 0
+EndsForTurnsOnlyAfterAsManyActs =
     (plan : Plan) (commands : List Task) (scope : Scope) (acts : List Act) → Runs plan commands (opening plan scope) acts
     → (action_at plan (state_after plan commands scope acts) ≡ Close cause.Turns) ⊎ (action_at plan (state_after plan commands scope acts) ≡ Stop cause.Turns)
     → scope.turns ≤ length acts

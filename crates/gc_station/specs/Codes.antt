@@ -7,7 +7,7 @@ use Rattle.gc_catalogue.specs.declared.answer.Reading.{Reading}
 use Rattle.gc_catalogue.specs.declared.answer.Reading.TheVariants as reading
 use Rattle.gc_catalogue.specs.declared.asked.Asked.{Asked}
 use Rattle.gc_client.specs.Rule.{Answered, Late, Lost}
-use Rattle.gc_texts.specs.Codes.{are_accepted, no_codes}
+use Rattle.gc_texts.specs.Codes.{lists_code, no_codes}
 use Rattle.gc_texts.specs.Endings as end
 use Rattle.gc_texts.specs.Nears.{is_elsewhere}
 use Rattle.gc_texts.specs.declared.near.Expected.{Expected}
@@ -29,24 +29,24 @@ use Rattle.gc_station.specs.Scopes.{AreReadings}
 -- `none`: a command that is late, lost, skipped or missed was never answered well
 pub record WellIsAnAcceptedCode : Type 0 where
   pub only : (reads : Asked → List ℕ → Reading) (expected : Expected) (call : Asked) (line : List ℕ) (r : ReplyFields) → AreReadings reads → IsReply line r
-      → is_well (end_of reads expected call (Answered line)) ≡ true → (r.rc_com ≡ 0) × ((r.rc ≡ 0) ⊎ (are_accepted expected.accepted r.rc ≡ true))
+      → is_well (end_of reads expected call (Answered line)) ≡ true → (r.rc_com ≡ 0) × ((r.rc ≡ 0) ⊎ (lists_code expected.accepted r.rc ≡ true))
   pub without : (reads : Asked → List ℕ → Reading) (expected : Expected) (call : Asked) (line : List ℕ) (r : ReplyFields) → AreReadings reads → IsReply line r
       → expected.accepted ≡ no_codes → is_well (end_of reads expected call (Answered line)) ≡ true → (r.rc_com ≡ 0) × (r.rc ≡ 0)
   pub unread : (reads : Asked → List ℕ → Reading) (expected : Expected) (call : Asked) (line : List ℕ) (r : ReplyFields) (said : Reading) → AreReadings reads → IsReply line r
-      → IsAskedReading call r said → ((answer : Answer) → said ≡ reading.Value answer → ⊥) → ((code : ℕ) → said ≡ reading.Refused code → are_accepted expected.accepted code ≡ false)
+      → IsAskedReading call r said → ((answer : Answer) → said ≡ reading.Value answer → ⊥) → ((code : ℕ) → said ≡ reading.Refused code → lists_code expected.accepted code ≡ false)
       → is_well (end_of reads expected call (Answered line)) ≡ false
   pub found : (reads : Asked → List ℕ → Reading) (expected : Expected) (call : Asked) (line : List ℕ) (r : ReplyFields) (answer : Answer) → AreReadings reads → IsReply line r
       → IsAskedReading call r (reading.Value answer) → is_well (end_of reads expected call (Answered line)) ≡ not (is_elsewhere expected.near answer)
   pub away : (reads : Asked → List ℕ → Reading) (expected : Expected) (call : Asked) (line : List ℕ) (r : ReplyFields) (answer : Answer) → AreReadings reads → IsReply line r
       → IsAskedReading call r (reading.Value answer) → is_elsewhere expected.near answer ≡ true → end_of reads expected call (Answered line) ≡ end.Elsewhere line
   pub warned : (reads : Asked → List ℕ → Reading) (expected : Expected) (call : Asked) (line : List ℕ) (r : ReplyFields) (answer : Answer) → AreReadings reads → IsReply line r
-      → r.rc_com ≡ 0 → r.rc ≢ 0 → are_accepted expected.accepted r.rc ≡ true → IsAskedReading call (record r { rc = 0 }) (reading.Value answer)
+      → r.rc_com ≡ 0 → r.rc ≢ 0 → lists_code expected.accepted r.rc ≡ true → IsAskedReading call (record r { rc = 0 }) (reading.Value answer)
       → is_well (end_of reads expected call (Answered line)) ≡ not (is_elsewhere expected.near answer)
   pub warned_away : (reads : Asked → List ℕ → Reading) (expected : Expected) (call : Asked) (line : List ℕ) (r : ReplyFields) (answer : Answer) → AreReadings reads → IsReply line r
-      → r.rc_com ≡ 0 → r.rc ≢ 0 → are_accepted expected.accepted r.rc ≡ true → IsAskedReading call (record r { rc = 0 }) (reading.Value answer) → is_elsewhere expected.near answer ≡ true
+      → r.rc_com ≡ 0 → r.rc ≢ 0 → lists_code expected.accepted r.rc ≡ true → IsAskedReading call (record r { rc = 0 }) (reading.Value answer) → is_elsewhere expected.near answer ≡ true
       → end_of reads expected call (Answered line) ≡ end.Elsewhere line
   pub warned_without : (reads : Asked → List ℕ → Reading) (expected : Expected) (call : Asked) (line : List ℕ) (r : ReplyFields) (fault : ValueFault) → AreReadings reads → IsReply line r
-      → r.rc_com ≡ 0 → r.rc ≢ 0 → are_accepted expected.accepted r.rc ≡ true → IsAskedReading call (record r { rc = 0 }) (reading.Unreadable fault)
+      → r.rc_com ≡ 0 → r.rc ≢ 0 → lists_code expected.accepted r.rc ≡ true → IsAskedReading call (record r { rc = 0 }) (reading.Unreadable fault)
       → end_of reads expected call (Answered line) ≡ end.Answered quality.Warning None line
   pub none : (reads : Asked → List ℕ → Reading) (expected : Expected) (call : Asked)
       → (is_well (end_of reads expected call Late) ≡ false) × (is_well (end_of reads expected call Lost) ≡ false)

@@ -4,10 +4,10 @@ use Rattle.gc_texts.specs.Endings.{End, Answered, Unreadable, Elsewhere, Late, L
 use Rattle.gc_station.specs.Records.{Record}
 use Rattle.gc_station.specs.Tallies.{tally_of}
 
--- how many of these records have an ending of this kind
+-- how many of these records have an ending for which `holds` is true
 abbrev pub how_many : (End → Bool) → List Record → ℕ
-how_many so [] = 0
-how_many so (r ∷ others) = if so r.end then suc (how_many so others) else how_many so others
+how_many holds [] = 0
+how_many holds (r ∷ others) = if holds r.end then suc (how_many holds others) else how_many holds others
 
 -- whether an ending is `Answered`
 abbrev pub is_answered : End → Bool
@@ -44,29 +44,30 @@ abbrev pub is_missed : End → Bool
 is_missed Missed = true
 is_missed _ = false
 
--- this number, or the greatest that a count holds
+-- `n`, or 2^64 - 1 if `n` is greater: a count of a tally holds no greater number
 abbrev pub at_most : ℕ → ℕ
 at_most n = min n 18446744073709551615
 
--- whether the attempt of a chain that comes before these records is followed by a further one: the next attempt that begins
--- among them does so with an attempt above 1. Records of cycle 0, of the setup, belong to no chain
+-- whether the attempt before these records is followed by a further one of its chain: the next command among them that begins
+-- an attempt (its link is 0) has an attempt above 1. Records of cycle 0, which are of the setup, are passed over, as they
+-- belong to no chain
 abbrev pub is_followed : List Record → Bool
 is_followed [] = false
 is_followed (r ∷ others) = if nat_eq r.cycle 0 || not (nat_eq r.turn.link 0) then is_followed others else nat_lt 1 r.turn.attempt
 
--- those of these records that are of a cycle, and of the last attempt of their chain
+-- those of these records that are of a cycle, and whose attempt is the last one of its chain
 abbrev pub last_attempts : List Record → List Record
 last_attempts [] = []
 last_attempts (r ∷ others) = if nat_eq r.cycle 0 || is_followed others then last_attempts others else r ∷ last_attempts others
 
--- how many further attempts of a chain begin among these records
+-- how many further attempts of chains begin among these records
 abbrev pub further_attempts : List Record → ℕ
 further_attempts [] = 0
 further_attempts (r ∷ others) =
     if not (nat_eq r.cycle 0) && nat_eq r.turn.link 0 && nat_lt 1 r.turn.attempt then suc (further_attempts others) else further_attempts others
 
--- each count of a tally is the number of the records of last attempts with its ending; `again` is how many chains were sent
--- again
+-- each count of the tally of any records is how many of those of last attempts have its ending, up to 2^64 - 1; `again` is how
+-- many times a chain was sent again
 pub record TalliesCountRecords : Type 0 where
   pub answered : (records : List Record) → (tally_of records).answered ≡ at_most (how_many is_answered (last_attempts records))
   pub unreadable : (records : List Record) → (tally_of records).unreadable ≡ at_most (how_many is_unreadable (last_attempts records))

@@ -16,7 +16,7 @@ use Rattle.gc_station.specs.declared.plan.Plan.{Plan}
 use Rattle.gc_station.specs.declared.progress.Action.TheVariants.{Begin, Send, Skip}
 
 -- the clock doesn't go back: the first moment that these acts read is at or past `now`, each later one at or past the one
--- before it, and all have 64 bits
+-- before it, and all are at most 2^64 - 1
 abbrev pub ClockRises : ℕ → List Act → Type 0
 ClockRises now [] = Unit {0}
 ClockRises now (Told m ∷ acts) = (now ≤ m.elapsed) × (m.elapsed ≤ 18446744073709551615) × ClockRises m.elapsed acts
@@ -24,12 +24,13 @@ ClockRises now (Gave bytes m ∷ acts) = (now ≤ m.elapsed) × (m.elapsed ≤ 1
 ClockRises now (Silent m ∷ acts) = (now ≤ m.elapsed) × (m.elapsed ≤ 18446744073709551615) × ClockRises m.elapsed acts
 ClockRises now (act ∷ acts) = ClockRises now acts
 
--- the due moment of the cycle that has n cycles before it, if the first one began at `first`
+-- the due moment of the cycle that has this many cycles before it, if the first one began at the moment `first`, and cycles are
+-- due `every` milliseconds apart
 abbrev pub due_after : ℕ → ℕ → ℕ → ℕ
 due_after first every zero = first
 due_after first every (suc n) = due_after first every n + every
 
--- among these acts one reads the clock at this moment and begins a cycle, and n cycles began before it
+-- one of `acts` reads the clock at the moment `m` and begins a cycle, before which `n` cycles began
 pub record BeginsAt (plan : Plan) (commands : List Task) (scope : Scope) (acts : List Act) (n : ℕ) (m : Moment) : Type 0 where
   pub before : List Act
   pub behind : List Act
@@ -37,14 +38,15 @@ pub record BeginsAt (plan : Plan) (commands : List Task) (scope : Scope) (acts :
   pub begins : action_at plan (state_after plan commands scope before) ≡ Begin
   pub number : cycles_begun plan (state_after plan commands scope before).progress ≡ n
 
--- among these acts a cycle begins at this moment, `late` milliseconds after its due moment, and n cycles began before it
+-- one of `acts` begins a cycle at the moment `m`, which is `late` milliseconds after the cycle's due moment; `n` cycles began
+-- before it. `first` is the moment at which the first cycle began
 pub record BeginsLate (plan : Plan) (commands : List Task) (scope : Scope) (acts : List Act) (n : ℕ) (m : Moment) (late : ℕ) : Type 0 where
   pub first : Moment
   pub first_begins : BeginsAt plan commands scope acts 0 first
   pub begins : BeginsAt plan commands scope acts n m
   pub grid : due_after first.elapsed plan.every n + late ≡ m.elapsed
 
--- the cycle that began last among these acts: how many began before it (`n`), the moment at which it began, and how many
+-- the cycle that began last among `acts`: how many began before it (`n`), the moment at which it began, and how many
 -- milliseconds after its due moment that was (`late`)
 pub record LastBegan (plan : Plan) (commands : List Task) (scope : Scope) (acts : List Act) : Type 0 where
   pub n : ℕ
@@ -66,8 +68,8 @@ SentOnlyInTime =
     (plan : Plan) (commands : List Task) (scope : Scope) (acts : List Act) → 0 < plan.every → Runs plan commands (opening plan scope) acts → ClockRises 0 acts
     → action_at plan (state_after plan commands scope acts) ≡ Send → (last : LastBegan plan commands scope acts) × (last.late < plan.every)
 
--- the command of a record is missed: its cycle began when the next one was due, or later; it wasn't sent, and the record has the moment at
--- which its cycle was due, by the clock of time stamps
+-- the command of the record `r` is missed: its cycle, before which `n` cycles began, began when the next one was due, or later;
+-- the command wasn't sent; and the record has the moment at which its cycle was due, by the clock of time stamps
 pub record IsMissedIn (plan : Plan) (commands : List Task) (scope : Scope) (acts : List Act) (r : Record) : Type 0 where
   pub n : ℕ
   pub moment : Moment
@@ -78,9 +80,9 @@ pub record IsMissedIn (plan : Plan) (commands : List Task) (scope : Scope) (acts
   pub sent : r.sent ≡ None
   pub due : r.utc ≡ moment.utc - late
 
--- the command of a record is skipped: it is of a chain, and not its first; its cycle began before the next one was due; it
--- wasn't sent, because the one before it wasn't answered well, or a connection was closed or the station resynchronized since
--- that one was sent; and the record has the moment at which the command was left out
+-- the command of the record `r` is skipped: it is of a chain, and not its first; its cycle began before the next one was due;
+-- it wasn't sent, because the one before it wasn't answered well, or a connection was closed or the station resynchronized
+-- since that one was sent (`broken`); and the record has the moment at which the command was left out
 pub record IsSkippedIn (plan : Plan) (commands : List Task) (scope : Scope) (acts : List Act) (r : Record) : Type 0 where
   pub before : List Act
   pub moment : Moment
@@ -97,7 +99,8 @@ pub record IsSkippedIn (plan : Plan) (commands : List Task) (scope : Scope) (act
   pub sent : r.sent ≡ None
   pub utc : r.utc ≡ moment.utc
 
--- if the record is of a missed or a skipped command, that command was missed, or skipped, for its cause
+-- if the record `r` is of a missed or a skipped command, that command was missed as `IsMissedIn` says, or skipped as
+-- `IsSkippedIn` says
 abbrev pub UnsentIsJustified : Plan → List Task → Scope → List Act → Record → Type 0
 UnsentIsJustified plan commands scope acts r = (r.end ≡ Missed → IsMissedIn plan commands scope acts r) × (r.end ≡ Skipped → IsSkippedIn plan commands scope acts r)
 

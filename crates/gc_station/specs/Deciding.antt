@@ -16,15 +16,15 @@ use Rattle.gc_station.specs.declared.progress.Progress.{Progress}
 use Rattle.gc_station.specs.declared.progress.Until.TheVariants.{Limit, Due}
 use Rattle.gc_station.specs.declared.progress.Waiting.{Waiting}
 
--- how many requests may be in flight: as the plan has it, at least one and at most seven
+-- how many requests may be in flight that haven't timed out: as many as the plan says, but at least one and at most seven
 abbrev pub width_of : Plan → ℕ
 width_of plan = min (max plan.width 1) 7
 
--- the moment that lies `wait` after `moment`, or the greatest `u64` if that is past it
+-- the moment `wait` milliseconds after `moment`, or the greatest `u64` if that is past it
 abbrev pub later : ℕ → ℕ → ℕ
 later moment wait = min (moment + wait) 18446744073709551615
 
--- whether there is a connection in a phase
+-- whether there is a connection in this phase
 abbrev pub is_up : Phase → Bool
 is_up phase.Down = false
 is_up phase.Pausing = false
@@ -42,7 +42,7 @@ is_past wait p = nat_le wait (p.moment.elapsed - p.since)
 abbrev pub is_quiet : Plan → Progress → Bool
 is_quiet plan p = is_past plan.quiet p
 
--- whether this list, the ids of the null procedures that aren't answered, is empty
+-- whether there is no id in this list, which is of the null procedures of a synchronization that aren't answered
 abbrev pub is_none_left : List ℕ → Bool
 is_none_left [] = true
 is_none_left (asked ∷ others) = false
@@ -75,12 +75,12 @@ is_between p = (nat_eq p.unsent 0 || not p.next_is_chained) || p.preparing
 abbrev pub is_resting : Progress → Waiting → Bool
 is_resting p w = (not (is_up p.phase) || not (has_begun p)) || (nat_eq w.current 0 && is_between p)
 
--- whether the run ends now because that was asked for
+-- whether the run ends now because its end was asked for: it was asked for, and the run may end here (`is_resting`)
 abbrev pub is_stopping : Progress → Waiting → Bool
 is_stopping p w = p.stops && is_resting p w
 
--- whether no further chain begins, because the end of the run was asked for, though something is in flight that hasn't timed
--- out
+-- whether the end of the run was asked for, and the station is between two chains, but something is in flight that hasn't timed
+-- out: then nothing more is sent, until that is settled or has timed out
 abbrev pub is_held_back : Progress → Waiting → Bool
 is_held_back p w = (p.stops && is_between p) && nat_lt 0 w.current
 
@@ -116,7 +116,8 @@ action_beginning plan p w =
     else if nat_le p.again p.moment.elapsed then Ask
     else Read Limit
 
--- the next action if each command of the cycle is settled
+-- the next action if each command of the cycle is settled: to close the connection if no cycle is left, to begin the next cycle
+-- if it is due, and else to read until it is
 abbrev pub action_done : Plan → Progress → Action
 action_done plan p = if nat_eq p.left 0 then Close Done else if is_due plan p then Begin else Read Due
 
@@ -129,12 +130,12 @@ has_room plan w = nat_lt w.current (width_of plan) && nat_lt w.all WINDOW
 abbrev pub action_room : Plan → Progress → Waiting → Action → Action
 action_room plan p w action = if has_room plan w then action else action_waiting plan p w
 
--- the next action when the next command may be sent: `Send`, if there is room and one of the seven requests before it is a call
--- of the table that a reply ended (`behind`). Else a null procedure is sent first (`Flush`), once no request is in flight that
--- hasn't timed out
-abbrev pub action_next : Plan → Progress → Waiting → Action
-action_next plan p w =
-    if nat_lt p.behind WINDOW then action_room plan p w Send
+-- the next action when the next command may be sent, of a cycle (`action` is `Send`) or of the setup (`Prepare`): `action`, if
+-- there is room and one of the seven requests before it is a call of the table that a reply ended (`behind`). Else a null
+-- procedure is sent first (`Flush`), once no request is in flight that hasn't timed out
+abbrev pub action_next : Plan → Progress → Waiting → Action → Action
+action_next plan p w action =
+    if nat_lt p.behind WINDOW then action_room plan p w action
     else if nat_eq w.current 0 then action_room plan p w Flush
     else action_waiting plan p w
 
@@ -152,14 +153,15 @@ waits_for_all p = p.next_is_chained || nat_lt 0 p.next_others
 -- command is sent if a command of the attempt before ended as its rule names; otherwise this attempt and those after it are
 -- left out, as they are in a missed cycle, in which each command counts as chained
 abbrev pub action_again : Plan → Progress → Waiting → Action
-action_again plan p w = if w.listed && not p.next_is_chained then action_next plan p w else Pass
+action_again plan p w = if w.listed && not p.next_is_chained then action_next plan p w Send else Pass
 
--- the next action if each command that was sent is settled
+-- the next action if each command that was sent is settled: that of a done cycle if no command is left; that of a further
+-- attempt if the next command begins one; to send the next command if it may be sent; and else to skip it
 abbrev pub action_settled : Plan → Progress → Waiting → Action
 action_settled plan p w =
     if nat_eq p.unsent 0 then action_done plan p
     else if nat_lt 0 p.next_others then action_again plan p w
-    else if may_go p w then action_next plan p w
+    else if may_go p w then action_next plan p w Send
     else Skip
 
 -- the next action if no command may be sent before those that are outstanding are settled: each of the cycle was sent, or the
@@ -171,17 +173,10 @@ action_sent plan p w =
     else if nat_eq w.current 0 then action_room plan p w Flush
     else action_waiting plan p w
 
--- the next action if the next command of the setup may be sent: as for a command of the cycle (`action_next`)
-abbrev pub action_prepare : Plan → Progress → Waiting → Action
-action_prepare plan p w =
-    if nat_lt p.behind WINDOW then action_room plan p w Prepare
-    else if nat_eq w.current 0 then action_room plan p w Flush
-    else action_waiting plan p w
-
--- the next action when the setup's next command has its turn. There always is one, since the setup is done once the last one
--- was answered well
+-- the next action when the setup's next command has its turn: that of `action_next`. There always is such a command, since the
+-- setup is done once its last one was answered well; without one the action would be to read
 abbrev pub action_turn : Plan → Progress → Waiting → Action
-action_turn plan p w = if nat_lt p.prepared plan.setup then action_prepare plan p w else Read Limit
+action_turn plan p w = if nat_lt p.prepared plan.setup then action_next plan p w Prepare else Read Limit
 
 -- the next action while the setup isn't done: nothing is sent if no command is left to be sent after it, nor between cycles.
 -- Its first command is sent as soon as there is room, and each other one once the one before it was answered well. If it
@@ -198,7 +193,7 @@ action_preparing plan p w =
 -- the next action once the station has synchronized and its setup is done: that of `action_next`, if there is a command that
 -- needn't wait for the answer of the command before it; otherwise that of `action_sent`
 abbrev pub action_cycle : Plan → Progress → Waiting → Action
-action_cycle plan p w = if nat_lt 0 p.unsent && not (waits_for_all p) then action_next plan p w else action_sent plan p w
+action_cycle plan p w = if nat_lt 0 p.unsent && not (waits_for_all p) then action_next plan p w Send else action_sent plan p w
 
 -- whether the setup is still to be done: no command of a cycle had its turn since the connection was made and the station
 -- synchronized (`preparing`), and a command of the setup wasn't sent yet, or the last one sent is outstanding, or wasn't
@@ -206,8 +201,8 @@ action_cycle plan p w = if nat_lt 0 p.unsent && not (waits_for_all p) then actio
 abbrev pub is_preparing : Plan → Progress → Waiting → Bool
 is_preparing plan p w = p.preparing && not (nat_le plan.setup p.prepared && nat_eq w.commands 0 && w.well)
 
--- the next action once the station has synchronized: that of a station that waits, if the end of the run was asked for and only
--- requests in flight are left; that of the setup until it is done; and then that of the cycle
+-- the next action once the station has synchronized: that of a station that waits, if it only waits for what is in flight
+-- before the run ends (`is_held_back`); that of the setup until it is done; and then that of the cycle
 abbrev pub action_begun : Plan → Progress → Waiting → Action
 action_begun plan p w =
     if is_held_back p w then action_waiting plan p w
@@ -219,7 +214,7 @@ action_begun plan p w =
 abbrev pub action_ready : Plan → Progress → Waiting → Action
 action_ready plan p w = if has_begun p then action_begun plan p w else action_beginning plan p w
 
--- the next action in a phase, if turns are left, the run isn't at its end, and the clock needn't be read first
+-- the next action in this phase, if turns are left, the run doesn't end here, and the clock needn't be read first
 abbrev pub action_of_phase : Plan → Phase → Progress → Waiting → Action
 action_of_phase plan phase.Down p w = Open
 action_of_phase plan phase.Pausing p w = Read Limit
@@ -234,7 +229,7 @@ abbrev pub action_without_turns : Bool → Action
 action_without_turns true = Close Turns
 action_without_turns false = Stop Turns
 
--- the next action if the end isn't decided yet
+-- the next action if the run isn't over and the connection isn't to be closed for a cause already
 abbrev pub action_on : Plan → Progress → Waiting → Action
 action_on plan p w =
     if nat_eq p.turns 0 then action_without_turns (is_up p.phase)
@@ -243,13 +238,13 @@ action_on plan p w =
     else if p.clock_due then ReadClock
     else action_of_phase plan p.phase p w
 
--- the next action in a phase: `Stop` if the run is over, `Close` if the connection is to be closed, and else that of
+-- the next action in this phase: `Stop` if the run is over, `Close` if the connection is to be closed, and else that of
 -- `action_on`
 abbrev pub action_in : Phase → Plan → Progress → Waiting → Action
 action_in (phase.Over cause) plan p w = Stop cause
 action_in (phase.Closing cause) plan p w = Close cause
 action_in _ plan p w = action_on plan p w
 
--- the next action of a station with this progress
+-- the next action of a station with the progress `p`, where `w` says what is outstanding and how the last commands ended
 abbrev pub action_of : Plan → Progress → Waiting → Action
 action_of plan p w = action_in p.phase plan p w

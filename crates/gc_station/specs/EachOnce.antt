@@ -18,19 +18,19 @@ use Rattle.gc_station.specs.Runs.{state_after}
 use Rattle.gc_station.specs.Model.{Model, action_at, cycles_begun, place_next}
 use Rattle.gc_station.specs.Scopes.{Scope}
 
--- all commands of the first `n` cycles, which are counted from 1: each has the commands after the first `setup`, which are the
--- setup
+-- all commands of the first cycles, as many as the number says, in order. Cycles count from 1, and the commands of each are
+-- those of the list `commands` but the first `setup`, which are the setup
 abbrev pub all_cycles : ℕ → List Task → ℕ → List Request
 all_cycles setup commands zero = []
 all_cycles setup commands (suc n) = all_cycles setup commands n ++ requests (suc n) setup (map of_task (drop setup commands))
 
--- the commands that had their turn, sent or not, if this many cycles began: all of the cycles before the last of these, and
--- those before the place `place` of the last
-abbrev pub sent_by : ℕ → List Task → ℕ → ℕ → List Request
-sent_by setup commands zero place = []
-sent_by setup commands (suc n) place = all_cycles setup commands n ++ requests (suc n) setup (map of_task (drop setup (take place commands)))
+-- the commands that had their turn, sent or not, if this many cycles began: all of the cycles before the last one, and those
+-- before the place `place` of the last one. The first `setup` of the list `commands` are the setup
+abbrev pub commands_reached : ℕ → List Task → ℕ → ℕ → List Request
+commands_reached setup commands zero place = []
+commands_reached setup commands (suc n) place = all_cycles setup commands n ++ requests (suc n) setup (map of_task (drop setup (take place commands)))
 
--- these requests, with this one first unless it is of the setup (`true`)
+-- `xs`, with `x` before them unless `x` is of the setup (`true`)
 abbrev pub cycle_with : Bool → Request → List Request → List Request
 cycle_with true x xs = xs
 cycle_with false x xs = x ∷ xs
@@ -40,47 +40,50 @@ abbrev pub of_cycles : List Request → List Request
 of_cycles [] = []
 of_cycles (x ∷ xs) = cycle_with (nat_eq x.cycle 0) x (of_cycles xs)
 
--- the request that a record is of
+-- the request that the record `r` is of
 abbrev pub of_record : Record → Request
 of_record r = record { cycle = r.cycle; place = r.place; asked = of_command r.command }
 
--- the request of an outstanding command
+-- the request that is outstanding as `p`, and has `mark`
 abbrev pub of_waiting : Mark → Pending Asked → Request
 of_waiting mark p = record { cycle = mark.cycle; place = mark.place; asked = of_pending p }
 
--- the requests of commands among those that are outstanding, by their marks
+-- the requests of commands among those that are outstanding, by their marks, one for each; a null procedure has no mark, and is
+-- left out
 abbrev pub still_waiting : List (Option Mark) → List (Pending Asked) → List Request
 still_waiting [] pendings = []
 still_waiting (mark ∷ marks) [] = []
 still_waiting (None ∷ marks) (p ∷ others) = still_waiting marks others
 still_waiting (Some mark ∷ marks) (p ∷ others) = of_waiting mark p ∷ still_waiting marks others
 
--- a list has these elements and those, in order: each of its elements is of the first list or of the second one
+-- the third list consists of the elements of `xs` and those of `ys`, mixed: each element of it is the next one of `xs` or the
+-- next one of `ys`
 abbrev pub Parted : {A : Type 0} → List A → List A → List A → Type 0
 Parted xs ys [] = (xs ≡ []) × (ys ≡ [])
 Parted {A} xs ys (z ∷ zs) = ((others : List A) × (xs ≡ z ∷ others) × Parted others ys zs) ⊎ ((others : List A) × (ys ≡ z ∷ others) × Parted xs others zs)
 
--- of these requests those that are of a cycle, as the text has them: the commands that set the clock are without their moments
+-- those of the requests `xs` that are of a cycle, as the text has them: commands that set the clock are without their moments
 abbrev pub of_text : List Task → List Request → List Request
 of_text commands xs = map (in_text commands) (of_cycles xs)
 
 -- each command that had its turn, in order, either has its record, or is outstanding after the records; or it is of an attempt
--- that was left out
+-- that was left out (`passes`). This holds if the station has the model `s`
 abbrev pub IsEachOnce : Plan → List Task → Model → Type 0
 IsEachOnce plan commands s =
-    Parted (of_text commands (map of_record s.records ++ still_waiting s.marks s.client.waiting)) s.passes (sent_by plan.setup commands (cycles_begun plan s.progress) (place_next commands s.progress))
+    Parted (of_text commands (map of_record s.records ++ still_waiting s.marks s.client.waiting)) s.passes
+    (commands_reached plan.setup commands (cycles_begun plan s.progress) (place_next commands s.progress))
 
--- after these acts of a run `IsEachOnce` holds. If the run stopped there, the records and the attempts that were left out are
--- the commands that had their turn; and if it is done, they are all commands of all cycles
+-- after `acts`, which begin a run, `IsEachOnce` holds. If the run stopped there, the records and the attempts that were left
+-- out are the commands that had their turn (`settled`); and if it is done, they are all commands of all cycles (`done`)
 pub record EachOnce (plan : Plan) (commands : List Task) (scope : Scope) (acts : List Act) : Type 0 where
   pub each : IsEachOnce plan commands (state_after plan commands scope acts)
   pub settled : (cause : Cause) → action_at plan (state_after plan commands scope acts) ≡ Stop cause
       → Parted (of_text commands (map of_record (state_after plan commands scope acts).records)) (state_after plan commands scope acts).passes
-      (sent_by plan.setup commands (cycles_begun plan (state_after plan commands scope acts).progress) (place_next commands (state_after plan commands scope acts).progress))
+      (commands_reached plan.setup commands (cycles_begun plan (state_after plan commands scope acts).progress) (place_next commands (state_after plan commands scope acts).progress))
   pub done : action_at plan (state_after plan commands scope acts) ≡ Stop Done
       → Parted (of_text commands (map of_record (state_after plan commands scope acts).records)) (state_after plan commands scope acts).passes (all_cycles plan.setup commands plan.cycles)
 
--- a station is further than it was: in a later cycle, or at a later place in the same cycle
+-- with the model `t` a station is further than with `s`: in a later cycle, or at a later place in the same cycle
 abbrev pub IsFurther : Plan → List Task → Model → Model → Type 0
 IsFurther plan commands s t =
     (cycles_begun plan s.progress < cycles_begun plan t.progress)

@@ -21,14 +21,14 @@ use Rattle.gc_station.specs.Runs.{state_after}
 use Rattle.gc_station.specs.Model.{Puts, action_at, request_text, lines_completed}
 use Rattle.gc_station.specs.Scopes.{Scope}
 
--- an act reads a moment at or past this one
+-- the act reads a moment at or past `deadline`
 abbrev pub ReadsAtOrPast : ℕ → Act → Type 0
 ReadsAtOrPast deadline (Told m) = deadline ≤ m.elapsed
 ReadsAtOrPast deadline (Gave bytes m) = deadline ≤ m.elapsed
 ReadsAtOrPast deadline (Silent m) = deadline ≤ m.elapsed
 ReadsAtOrPast deadline _ = ⊥
 
--- among these acts one reads a moment at or past this one
+-- one of `acts` reads a moment at or past `deadline`
 pub record OneReadsPast (deadline : ℕ) (acts : List Act) : Type 0 where
   pub earlier : List Act
   pub telling : Act
@@ -36,7 +36,7 @@ pub record OneReadsPast (deadline : ℕ) (acts : List Act) : Type 0 where
   pub at : acts ≡ earlier ++ telling ∷ later
   pub past : ReadsAtOrPast deadline telling
 
--- after these acts, this piece completes a line with this id
+-- a read after `acts` that gives `piece` completes a line with the id `id`
 pub record BringsLine (plan : Plan) (commands : List Task) (scope : Scope) (acts : List Act) (piece : List ℕ) (id : ℕ) : Type 0 where
   pub front : List (List ℕ)
   pub line : List ℕ
@@ -44,8 +44,8 @@ pub record BringsLine (plan : Plan) (commands : List Task) (scope : Scope) (acts
   pub came : lines_completed (state_after plan commands scope acts).rest piece ≡ front ++ line ∷ others
   pub has : heard line ≡ Some id
 
--- among these acts the very request of a record was put; then, up to and with the moment of a piece, a moment at or past its
--- deadline was read; a line with the request's id came with that piece; and this act wrote the record
+-- among `acts` the act `request` writes the request of the record `r`; then, up to the read that gave `piece` at the latest, a
+-- moment at or past its deadline is read; the piece completes a line with the request's id; and at that read `r` is recorded
 pub record IsLateIn (plan : Plan) (commands : List Task) (scope : Scope) (acts : List Act) (r : Record) : Type 0 where
   pub before : List Act
   pub request : Act
@@ -59,8 +59,8 @@ pub record IsLateIn (plan : Plan) (commands : List Task) (scope : Scope) (acts :
   pub came : BringsLine plan commands scope (before ++ request ∷ between) piece (state_after plan commands scope before).client.next
   pub written : IsWrittenAt plan commands scope (before ++ request ∷ between) (Gave piece moment) r
 
--- between a request and this act another request was put; the other one is still outstanding, and this act brings a line with
--- its id
+-- between `request`, which comes after the acts `before`, and `act` another request was sent (`other`); that other one is still
+-- outstanding, and `act` is a read that completes a line with its id
 pub record IsOvertaken (plan : Plan) (commands : List Task) (scope : Scope) (before : List Act) (request : Act) (between : List Act) (act : Act) : Type 0 where
   pub first : List Act
   pub other : Act
@@ -75,8 +75,8 @@ pub record IsOvertaken (plan : Plan) (commands : List Task) (scope : Scope) (bef
   pub reads : act ≡ Gave piece moment
   pub came : BringsLine plan commands scope (before ++ request ∷ between) piece (state_after plan commands scope (before ++ request ∷ first)).client.next
 
--- after these acts the station resynchronizes at this act: it reads the clock, and seven are outstanding, which have all timed
--- out
+-- the act `act`, made after `acts`, resynchronizes the station: it reads the clock, and seven requests are outstanding, which
+-- have all timed out
 pub record Resynchronizes (plan : Plan) (commands : List Task) (scope : Scope) (acts : List Act) (act : Act) : Type 0 where
   pub renews : action_at plan (state_after plan commands scope acts) ≡ Renew
   pub moment : Moment
@@ -84,14 +84,15 @@ pub record Resynchronizes (plan : Plan) (commands : List Task) (scope : Scope) (
   pub seven : length (state_after plan commands scope acts).client.waiting ≡ WINDOW
   pub given_up : deadlines (state_after plan commands scope acts).client.waiting ≡ []
 
--- after these acts, this act is the last one: no act is after it, and the run stops
+-- the act `act`, made after `acts`, is the last one: no act comes after it (`behind`), and the run stops
 pub record IsLast (plan : Plan) (commands : List Task) (scope : Scope) (acts : List Act) (act : Act) (behind : List Act) : Type 0 where
   pub none : behind ≡ []
   pub why : Cause
   pub stops : action_at plan (state_after plan commands scope (acts ++ act ∷ [])) ≡ Stop why
 
--- among these acts the very request of a record was put, and after it an act wrote the record: it brought a line with the id of
--- a request that was put after that one, or the station resynchronizes at it, or it is the last act
+-- among `acts` the act `request` writes the request of the record `r`, and a later act records it as lost. That act brings a
+-- line with the id of a request that was sent after it, or the station resynchronizes at that act, or the act is the last one
+-- of the run
 pub record IsLostIn (plan : Plan) (commands : List Task) (scope : Scope) (acts : List Act) (r : Record) : Type 0 where
   pub before : List Act
   pub request : Act
@@ -104,11 +105,11 @@ pub record IsLostIn (plan : Plan) (commands : List Task) (scope : Scope) (acts :
   pub shown : IsOvertaken plan commands scope before request between act
       ⊎ (Resynchronizes plan commands scope (before ++ request ∷ between) act ⊎ IsLast plan commands scope (before ++ request ∷ between) act behind)
 
--- if a record says that its command is late, `IsLateIn` holds of it: the request was sent, and its reply came too late
+-- if the record `r` says that its command is late, `IsLateIn` holds: the request was sent, and its reply came too late
 abbrev pub LateIsJustified : Plan → List Task → Scope → List Act → Record → Type 0
 LateIsJustified plan commands scope acts r = r.end ≡ Late → IsLateIn plan commands scope acts r
 
--- if a record says that its command is lost, `IsLostIn` holds of it: the request was sent, and no reply to it can be taken any
+-- if the record `r` says that its command is lost, `IsLostIn` holds: the request was sent, and no reply to it can be taken any
 -- more
 abbrev pub LostIsJustified : Plan → List Task → Scope → List Act → Record → Type 0
 LostIsJustified plan commands scope acts r = r.end ≡ Lost → IsLostIn plan commands scope acts r

@@ -7,13 +7,14 @@ use Rattle.gc_links.specs.Acts.{Act, Gave, Closed}
 use Rattle.gc_station.specs.Model.{Model, opening, is_heard, after}
 use Rattle.gc_station.specs.Scopes.{Scope}
 
--- the bytes on a connection after one act more: a read gives more, where bytes are heard, and a close ends the connection
+-- the bytes on a connection after one more act, if there were `bytes` before it: a read adds its piece where bytes are heard,
+-- and a close leaves none
 abbrev pub bytes_heard_with : Bool → Act → List ℕ → List ℕ
 bytes_heard_with heard (Gave piece m) bytes = if heard then bytes ++ piece else bytes
 bytes_heard_with heard Closed bytes = []
 bytes_heard_with heard act bytes = bytes
 
--- the bytes after more acts, from a model on
+-- the bytes on a connection after these acts, if the station has the model `s` and there were `bytes` before them
 abbrev pub bytes_heard_from : Plan → List Task → Model → List ℕ → List Act → List ℕ
 bytes_heard_from plan commands s bytes [] = bytes
 bytes_heard_from plan commands s bytes (act ∷ acts) = bytes_heard_from plan commands (after plan commands s act) (bytes_heard_with (is_heard s.progress.phase) act bytes) acts

@@ -8,6 +8,7 @@ pub mod Deciding
 pub mod Progressing
 pub mod Model
 pub mod Tallies
+pub mod Writing
 pub mod Runs
 pub mod Keeping
 pub mod EachOnce

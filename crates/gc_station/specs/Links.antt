@@ -18,7 +18,8 @@ use Rattle.gc_station.specs.Model.{Runs, is_chained, opening}
 use Rattle.gc_station.specs.declared.mark.Mark.{Mark}
 use Rattle.gc_station.specs.declared.plan.Plan.{Plan}
 
--- each command after the one at place a, up to the one at place b, is sent only once the one before it was answered well
+-- each command of the list after the one at place `a`, up to the one at place `b`, is sent only once the one before it was
+-- answered well
 abbrev pub AreChained : List Task → ℕ → ℕ → Type 0
 AreChained commands a b = (p : ℕ) → a < p → p ≤ b → is_chained (drop p commands) ≡ true
 
@@ -26,12 +27,13 @@ AreChained commands a b = (p : ℕ) → a < p → p ≤ b → is_chained (drop p
 abbrev pub IsBefore : ℕ → ℕ → ℕ → ℕ → Type 0
 IsBefore i m j n = (i < j) ⊎ ((i ≡ j) × (m < n))
 
--- the parts of a whole run
+-- the parts of the run that makes `acts`
 abbrev pub parts : Plan → List Task → Scope → List Act → List Part
 parts plan commands scope acts = parts_of plan commands (opening plan scope) acts
 
--- after these acts, the command at place a of this cycle has a record, which is an answer of a good quality: with both codes 0
--- and values that read, or with a return code that is accepted of that command. And `part` has the request of that command
+-- after `acts` record number `k` is of the command at place `a` of this cycle, and is an answer of a good quality: with both
+-- codes 0 and values that read, or with a return code that is accepted of that command. And request number `m` of `part` is of
+-- that command
 pub record IsAnsweredEarlier (plan : Plan) (commands : List Task) (scope : Scope) (acts : List Act) (part : Part) (cycle a : ℕ) : Type 0 where
   pub k : ℕ
   pub answer : Record
@@ -50,9 +52,9 @@ pub record IsAnsweredEarlier (plan : Plan) (commands : List Task) (scope : Scope
   -- each command that was sent after it in that part is of a cycle, and none of the setup
   pub of_cycles : (x : ℕ) (mark : Mark) → m < x → slice_get part.marks x ≡ Some (Some mark) → 0 < mark.cycle
 
--- the command of this cycle and place was sent as request n of part i of a run, both counted from 0: after the acts `before`,
--- part i is the last one and has n requests so far; and each earlier command of its chain was answered by then, as a request of
--- that very part
+-- the command of this cycle and place was sent as request number `n` of part number `i` of the run, both counted from 0: after
+-- the acts `before`, part `i` is the last one and has `n` requests so far; and each earlier command of its chain was answered
+-- by then, as a request of that same part
 pub record IsSentAfter (plan : Plan) (commands : List Task) (scope : Scope) (acts : List Act) (i n cycle place : ℕ) : Type 0 where
   pub before : List Act
   pub rest : List Act
@@ -71,15 +73,15 @@ ChainsStay =
     → (i n : ℕ) (part : Part) (mark : Mark) → slice_get (parts plan commands scope acts) i ≡ Some part → slice_get part.marks n ≡ Some (Some mark)
     → 0 < mark.cycle → IsSentAfter plan commands scope acts i n mark.cycle mark.place
 
--- of two commands of cycles that are sent, in one part or in two, the later one is of a later place in its cycle, or of a later
--- cycle
+-- of two commands of cycles that are sent as requests `m` of part `i` and `n` of part `j`, the later one has a later place in
+-- the same cycle, or is of a later cycle
 abbrev pub MarksGoOn : Type 0
 MarksGoOn =
     (plan : Plan) (commands : List Task) (scope : Scope) (acts : List Act) → Runs plan commands (opening plan scope) acts
     → (i j m n : ℕ) (p q : Part) (a b : Mark) → slice_get (parts plan commands scope acts) i ≡ Some p → slice_get (parts plan commands scope acts) j ≡ Some q
     → slice_get p.marks m ≡ Some (Some a) → slice_get q.marks n ≡ Some (Some b) → IsBefore i m j n → 0 < a.cycle → 0 < b.cycle → IsBefore a.cycle a.place b.cycle b.place
 
--- the records after some acts stay, before those of the acts that follow
+-- the records after the acts `before` are still there, and come first, after the further acts `rest`
 abbrev pub RecordsStay : Type 0
 RecordsStay =
     (plan : Plan) (commands : List Task) (scope : Scope) (before rest : List Act)

@@ -7,7 +7,7 @@ use Rattle.gc_catalogue.specs.declared.answer.Reading.TheVariants as reading
 use Rattle.gc_catalogue.specs.declared.asked.Asked.{Asked}
 use Rattle.gc_client.specs.Rule.{Settlement, Outcome, Answered, Late, Lost}
 use Rattle.gc_texts.specs.declared.wish.Wish.{Wish}
-use Rattle.gc_texts.specs.Codes.{are_accepted}
+use Rattle.gc_texts.specs.Codes.{lists_code}
 use Rattle.gc_texts.specs.Endings.{End}
 use Rattle.gc_texts.specs.Nears.{is_elsewhere}
 use Rattle.gc_texts.specs.Qualities.{is_good}
@@ -20,54 +20,56 @@ use Rattle.gc_texts.specs.Endings as end
 use Rattle.gc_station.specs.declared.mark.Mark.{Mark}
 use Rattle.gc_station.specs.Records.{Record}
 
--- how many of these marks are of commands
+-- how many of these marks are of commands; a null procedure has none
 abbrev pub commands_in : List (Option Mark) → ℕ
 commands_in [] = 0
 commands_in (None ∷ marks) = commands_in marks
 commands_in (Some mark ∷ marks) = suc (commands_in marks)
 
--- how a command ends whose reply, this line, has this answer: as elsewhere where the answer was measured elsewhere (`true`), else
--- as answered, with this quality
+-- how a command ends whose reply, `line`, has this answer. If the answer was measured elsewhere than the command's target is
+-- (`true`): as elsewhere. Otherwise as answered, with this quality
 abbrev pub value_as : Quality → Bool → Answer → List ℕ → End
 value_as quality true answer line = end.Elsewhere line
 value_as quality false answer line = end.Answered quality (Some answer) line
 
--- how a command ends whose reply, this line, has a return code that is accepted. The reading is the one that the reply would
--- have if its return code were 0. If that is an answer, the command ends with a warning and the answer, or as elsewhere if the
--- answer was measured elsewhere than near this place; and else with a warning and no answer
+-- how a command ends whose reply, `line`, has a return code that is accepted. The reading is what the line would say with
+-- return code 0. If that is an answer, the command ends with a warning and the answer, or as elsewhere if the answer's
+-- direction isn't near `near`; otherwise with a warning and no answer
 abbrev pub warned_as : Option Near → Reading → List ℕ → End
 warned_as near (reading.Value answer) line = value_as quality.Warning (is_elsewhere near answer) answer line
 warned_as near (reading.Refused code) line = end.Answered quality.Warning None line
 warned_as near (reading.ComFault code) line = end.Answered quality.Warning None line
 warned_as near (reading.Unreadable fault) line = end.Answered quality.Warning None line
 
--- how a command ends whose reply, this line, has a return code other than 0, which is accepted (`true`) or not, and would say `zeroed`
--- with return code 0
+-- how a command ends whose reply, `line`, has a return code other than 0, which is accepted (`true`) or not. The line would say
+-- `zeroed` with return code 0, and `near` says where the command's target is, if the text says so
 abbrev pub refused_as : Bool → Option Near → Reading → List ℕ → End
 refused_as true near zeroed line = warned_as near zeroed line
 refused_as false near zeroed line = end.Answered quality.Refused None line
 
--- how a command ends whose reply came in time. The reply is this line, which says the first of these readings, and would say
--- `zeroed` with return code 0. `expected` says where the target is, if the text does, and which return codes are accepted. As
--- unreadable: both codes are 0, and the values don't read. As elsewhere: the answer was measured elsewhere than its target is.
--- Else as answered: fine with both codes 0, with a warning if the return code is accepted, and else refused
+-- how a command ends whose reply, `line`, came in time. The line says the first of these readings, and would say `zeroed` with
+-- return code 0. `expected` says where the target is, if the text says so, and which return codes are accepted. As unreadable:
+-- both codes are 0, and the values don't read. As elsewhere: the answer was measured elsewhere than the target is. Otherwise as
+-- answered: fine with both codes 0, with a warning if the return code is accepted, and else refused
 abbrev pub answer_as : Expected → Reading → Reading → List ℕ → End
 answer_as expected (reading.Unreadable fault) zeroed line = end.Unreadable line fault
 answer_as expected (reading.Value answer) zeroed line = value_as quality.Fine (is_elsewhere expected.near answer) answer line
-answer_as expected (reading.Refused code) zeroed line = refused_as (are_accepted expected.accepted code) expected.near zeroed line
+answer_as expected (reading.Refused code) zeroed line = refused_as (lists_code expected.accepted code) expected.near zeroed line
 answer_as expected (reading.ComFault code) zeroed line = end.Answered quality.Refused None line
 
--- how a command ended whose request had this outcome, where replies say what `reads` gives, and this is expected of the answer
+-- how a command ended that asked for `call`, if its request had this outcome, and `expected` is expected of its answer. `reads`
+-- gives what a line says of a call
 abbrev pub end_of : (Asked → List ℕ → Reading) → Expected → Asked → Outcome → End
 end_of reads expected call (Answered line) = answer_as expected (reads call line) (reads call (as_zero line)) line
 end_of reads expected call Late = end.Late
 end_of reads expected call Lost = end.Lost
 
--- the command that was settled
+-- the command whose request was settled
 abbrev pub command_of : Settlement Asked → Wish
 command_of settlement = record { target = settlement.target; call = settlement.call }
 
--- the record of a command with this mark that was settled at this moment
+-- the record of the command with `mark` whose request was settled at the moment `utc`, by the clock of time stamps. `reads`
+-- gives what a line says of a call
 abbrev pub record_of : (Asked → List ℕ → Reading) → ℕ → Mark → Settlement Asked → Record
 record_of reads utc mark settlement = record {
   sent = Some mark.sent;
@@ -88,7 +90,7 @@ records_of reads utc (mark ∷ marks) [] = []
 records_of reads utc (None ∷ marks) (settlement ∷ others) = records_of reads utc marks others
 records_of reads utc (Some mark ∷ marks) (settlement ∷ others) = record_of reads utc mark settlement ∷ records_of reads utc marks others
 
--- whether a command that ended so was answered well: fine, or with a warning
+-- whether a command with this ending was answered well: with an answer of a good quality, fine or with a warning
 abbrev pub is_well : End → Bool
 is_well (end.Answered quality answer line) = is_good quality
 is_well (end.Unreadable line fault) = false

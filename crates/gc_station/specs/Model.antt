@@ -34,7 +34,7 @@ use Rattle.gc_station.specs.declared.progress.Waiting.{Waiting}
 use Rattle.gc_station.specs.declared.mark.Mark.{Mark}
 use Rattle.gc_links.specs.Acts.{Act, Told, Untold, Put, Cut, Gave, Silent, Ended, Broke, Closed, Opened, Unopened}
 use Rattle.gc_station.specs.Deciding.{later, is_preparing, action_of}
-pub use Rattle.gc_station.specs.Lines.{is_ok, is_reply}
+pub use Rattle.gc_station.specs.Lines.{is_reply}
 use Rattle.gc_station.specs.Attempts.{listed_after, listed_by}
 use Rattle.gc_station.specs.Marks.{commands_in, records_of, last_well, fresh_after}
 use Rattle.gc_station.specs.Progressing.{at_start, turned, moment_noted, cycle_begun, skipped, attempts_left_out, skipped_at, failing, opened, after_failure, cleared, request_noted, null_sent, renewed, sent, caught_up, line_noted, lines_synchronizing, bytes_noted, silent, reckoned_early, closed, loses_all, setup_sent}
@@ -43,28 +43,37 @@ use Rattle.gc_station.specs.Requests.{Request, requests, of_task}
 use Rattle.gc_station.specs.Scopes.{Scope}
 use Rattle.gc_texts.specs.Endings.{Skipped, Missed}
 
--- the state of a station: how far it is, the bytes since the last line feed that it heard on this connection, the client, which
--- command each outstanding request is of, the records so far, whether a command of the attempt that was settled last ended as
--- its rule names (`listed`), the commands that were left out, the moment at which a command that was answered well was recorded
--- last (0 if none was; an earlier moment if the clock went back since), and what replies say
+-- the state of a station after the acts of a run so far
 pub record Model : Type 0 where
+  -- how far the station is: its phase, the moment read last, and what is left
   pub progress : Progress
+  -- the bytes since the last line feed, of those that were heard on this connection
   pub rest : List ℕ
+  -- the client: its next id and its outstanding requests, by its rule
   pub client : ById Asked
+  -- one for each outstanding request, the oldest first: which command it is; `None` for a null procedure
   pub marks : List (Option Mark)
+  -- the records written so far, in order
   pub records : List Record
+  -- whether the command that was recorded last, or one before it in the same attempt, ended in a way after which the text sends
+  -- its chain again
   pub listed : Bool
+  -- the commands of further attempts that were left out so far, in order
   pub passes : List Request
+  -- the moment at which a command that was answered well was recorded last, by the clock for deadlines; 0 if none was, and an
+  -- earlier moment if the clock went back since
   pub fresh : ℕ
+  -- what the line of a reply says of a call
   pub reads : Asked → List ℕ → Reading
 
--- the model of a station that has done nothing
+-- the model of a station that has done nothing: nothing is sent or recorded, and the turns that are left are those of `scope`
 abbrev pub opening : Plan → Scope → Model
 opening plan scope =
     record { progress = at_start plan scope.turns; rest = []; client = fresh; marks = []; records = []; listed = false; passes = []; fresh = 0; reads = scope.reads }
 
--- how many requests are outstanding: in all, of those that haven't timed out, and of commands; whether the command that was
--- recorded last was answered well, and whether one of its attempt ended as its rule names; and when one was answered well last
+-- what a decision looks at besides the progress, of the model `s`: how many requests are outstanding in all, of those that
+-- haven't timed out, and of commands; whether the command that was recorded last was answered well, and whether one of its
+-- attempt ended as its rule names; and when one was answered well last
 abbrev pub waiting_of : Model → Waiting
 waiting_of s = record {
   all = length s.client.waiting;
@@ -75,29 +84,31 @@ waiting_of s = record {
   fresh = s.fresh;
 }
 
--- the next action
+-- the next action of a station that has the model `s`
 abbrev pub action_at : Plan → Model → Action
 action_at plan s = action_of plan s.progress (waiting_of s)
 
--- the place of the cycle's next command in the station's list, counted from 0: the setup is at the front
+-- the place of the cycle's next command in the list `commands`, counted from 0, at the progress `p`. The setup is at the front
+-- of the list, and the commands of a cycle are its end, of which `p.unsent` are left
 abbrev pub place_next : List Task → Progress → ℕ
 place_next commands p = length commands - p.unsent
 
--- how many cycles began
+-- how many cycles have begun at the progress `p`, missed ones included
 abbrev pub cycles_begun : Plan → Progress → ℕ
 cycles_begun plan p = plan.cycles - p.left
 
--- the turn if there is no command
+-- the turn that stands in where there is no command: place 0, attempt 1
 abbrev pub no_turn : Turn
 no_turn = record { place = 0; attempt = 1; link = 0 }
 
 -- what the text says of the answer of the first of these commands: where its target is, which return codes are accepted, and
--- which endings send the chain again; and its turn
+-- which endings send the chain again; and its turn. If there is no command: no place, no codes, no endings and `no_turn`
 abbrev pub expected_first : List Task → Expected
 expected_first [] = record { near = None; accepted = no_codes; again = no_again; turn = no_turn }
 expected_first (task ∷ others) = record { near = task.near; accepted = task.accepted; again = task.again; turn = task.turn }
 
--- the mark of the next command: its cycle, its place, the moment read last, and what is expected of its answer
+-- the mark of the cycle's next command at the progress `p`: its cycle, its place, the moment read last, and what is expected of
+-- its answer
 abbrev pub mark_next : Plan → List Task → Progress → Mark
 mark_next plan commands p =
     record { cycle = cycles_begun plan p; place = place_next commands p; sent = p.moment.utc; expected = expected_first (drop (place_next commands p) commands) }
@@ -115,92 +126,95 @@ cycle_out plan s = if is_preparing plan s.progress (waiting_of s) then 0 else cy
 abbrev pub place_out : Plan → List Task → Model → ℕ
 place_out plan commands s = if is_preparing plan s.progress (waiting_of s) then s.progress.prepared else place_next commands s.progress
 
--- what is expected of an answer, in an attempt of the setup. A command of the setup is of no chain that is sent again: it has
--- no rule, and no attempt of a chain begins with it
+-- `expected` as it is for a command of the setup in the attempt `attempt` of the setup. No ending sends such a command again
+-- (`no_again`), and no attempt of a chain begins with it, so its link is 1
 abbrev pub in_attempt : ℕ → Expected → Expected
 in_attempt attempt expected = record expected { again = no_again; turn = record expected.turn { attempt = attempt; link = 1 } }
 
--- the mark of the next command of the setup: it has cycle 0, and the attempt of the setup
+-- the mark of the setup's next command at the progress `p`: it has cycle 0, and the attempt of the setup
 abbrev pub mark_setup : List Task → Progress → Mark
 mark_setup commands p =
     record { cycle = 0; place = p.prepared; sent = p.moment.utc; expected = in_attempt p.attempt (expected_first (drop p.prepared commands)) }
 
--- how many commands are before the cycle's next one in the list, those of the setup included; 0 before the first cycle
-abbrev pub requests_out : Plan → List Task → Progress → ℕ
-requests_out plan commands p = if nat_eq p.left plan.cycles then 0 else place_next commands p
+-- how many commands come before the cycle's next one in the list `commands`, those of the setup included; 0 before the first
+-- cycle
+abbrev pub commands_before : Plan → List Task → Progress → ℕ
+commands_before plan commands p = if nat_eq p.left plan.cycles then 0 else place_next commands p
 
--- the bytes of a client's next request, for this call: its line with CR LF
+-- the bytes of the next request of `client`, for `call`: its line with CR LF
 abbrev pub request_text : ById Asked → Asked → List ℕ
 request_text client call = with_end (asked_line (Some client.next) call)
 
--- the bytes of the null procedure that is sent while the station synchronizes, if these ids aren't answered: it has the first
--- of them. No bytes if all are answered
+-- the bytes of the null procedure that is sent next while the station synchronizes. The list is of the ids that aren't
+-- answered, and the null procedure has the first of them. No bytes if all are answered
 abbrev pub null_text : List ℕ → List ℕ
 null_text [] = []
 null_text (asked ∷ others) = with_end (request_line (Some asked) NullProc)
 
--- the bytes of the request for the first of these commands, if it is sent at the moment `utc`; none if there is none
+-- the bytes of the request of `client` for the first of these commands, if it is sent at the moment `utc`; no bytes if there is
+-- no command
 abbrev pub first_text : ℕ → ById Asked → List Task → List ℕ
 first_text utc client [] = []
 first_text utc client (task ∷ others) = request_text client (call_at task utc)
 
--- the bytes of the request for the first of these commands of the setup, if it is sent at the moment `utc`; of a null procedure
--- if there is none, which doesn't happen if the setup has at most as many commands as there are
+-- the bytes of the request of `client` for the first of these commands of the setup, if it is sent at the moment `utc`. If
+-- there is no command, which doesn't happen if the list has at least `plan.setup` commands, those of a null procedure
 abbrev pub text_or_null : ℕ → ById Asked → List Task → List ℕ
 text_or_null utc client [] = request_text client (Table NullProc)
 text_or_null utc client (task ∷ others) = request_text client (call_at task utc)
 
--- whether the first of these commands is sent only once the one before it was answered well
+-- whether the first of these commands is sent only once the one before it was answered well; false if there is no command
 abbrev pub is_chained : List Task → Bool
 is_chained [] = false
 is_chained (task ∷ others) = task.chained
 
--- how many commands the attempt that the first of these commands begins and those after it have, if that is a further attempt;
--- otherwise 0
+-- if the first of these commands begins a further attempt of its chain, the number of commands that this attempt and the
+-- chain's later attempts have together; otherwise 0
 abbrev pub others_in : List Task → ℕ
 others_in [] = 0
 others_in (task ∷ others) = task.others
 
--- whether the command this many places after the next one is sent only once the one before it was answered well. In a missed
--- cycle, in which none is sent, this holds of each command
+-- whether the command `count` places after the cycle's next one is sent only once the one before it was answered well. In a
+-- missed cycle, in which none is sent, this holds of each command
 abbrev pub is_chained_after : ℕ → List Task → Progress → Bool
 is_chained_after count commands p = p.missed || is_chained (drop (place_next commands p + count) commands)
 
--- `others_in` from the command this many places after the next one
+-- if the command `count` places after the cycle's next one begins a further attempt of its chain, the number of commands of
+-- this and the chain's later attempts (`others_in`); otherwise 0
 abbrev pub others_after : ℕ → List Task → Progress → ℕ
 others_after count commands p = others_in (drop (place_next commands p + count) commands)
 
--- whether the command after the next one is sent only once the next one was answered well
+-- whether the command after the cycle's next one is sent only once the next one was answered well
 abbrev pub is_chained_after_next : List Task → Progress → Bool
 is_chained_after_next commands p = is_chained_after 1 commands p
 
--- `others_in` from the command after the next one
+-- `others_after` of the command after the cycle's next one
 abbrev pub others_after_next : List Task → Progress → ℕ
 others_after_next commands p = others_after 1 commands p
 
--- a command is sent next: of a cycle, or of the setup
+-- a command is sent next, of a cycle or of the setup, by a station that has the model `s`
 abbrev pub IsSending : Plan → Model → Type 0
 IsSending plan s = (action_at plan s ≡ Send) ⊎ (action_at plan s ≡ Prepare)
 
--- an act puts these bytes, whole or in part
+-- the act writes `bytes` on the link: all of them (`Put`), or fewer (`Cut`)
 abbrev pub Puts : List ℕ → Act → Type 0
 Puts bytes (Put out) = out ≡ bytes
 Puts bytes (Cut out count) = (out ≡ bytes) × (count < length bytes)
 Puts bytes _ = ⊥
 
--- an act reads the clock, or fails to
+-- the act reads the clock alone, or fails to
 abbrev pub ReadsClock : Act → Type 0
 ReadsClock (Told m) = Unit {0}
 ReadsClock Untold = Unit {0}
 ReadsClock _ = ⊥
 
--- an act makes a connection, or fails to
+-- the act makes a connection, or fails to
 abbrev pub IsOpening : Act → Type 0
 IsOpening Opened = Unit {0}
 IsOpening Unopened = Unit {0}
 IsOpening _ = ⊥
 
--- an act is a read, whatever came of it
+-- the act is a read, whatever came of it: bytes, nothing, the end of the connection, a failure, or a clock that can't be read
 abbrev pub IsReading : Act → Type 0
 IsReading (Gave bytes m) = Unit {0}
 IsReading (Silent m) = Unit {0}
@@ -209,7 +223,8 @@ IsReading Broke = Unit {0}
 IsReading Untold = Unit {0}
 IsReading _ = ⊥
 
--- an act performs this action, if this is the model of the station
+-- the act is the call of the link that `action` asks for, if the station has the model `s`. A call that sends writes the bytes
+-- that the model gives; no act performs `Stop`
 abbrev pub Performs : List Task → Model → Action → Act → Type 0
 Performs commands s ReadClock act = ReadsClock act
 Performs commands s Renew act = ReadsClock act
@@ -228,98 +243,102 @@ Performs commands s (Stop cause) act = ⊥
 
 -- What an act does.
 
--- a model with its progress changed by `f`
+-- the model `s` with its progress changed by `f`
 abbrev pub with_progress : (Progress → Progress) → Model → Model
 with_progress f s = record s { progress = f s.progress }
 
--- the model at a later moment: requests whose deadline has come time out
+-- the model `s` after the moment `m`: requests whose deadline has come have timed out, and `fresh` is `m` at the latest
 abbrev pub with_moment : Moment → Model → Model
 with_moment m s = record s { client = expires s.client m.elapsed; fresh = min s.fresh m.elapsed }
 
--- the client after a send; if the send was refused (`None`), the client as it was
+-- the client after a send with this result; if the send was refused (`None`), `client` as it was
 abbrev pub client_sent : ById Asked → Option (Sending (ById Asked)) → ById Asked
 client_sent client None = client
 client_sent client (Some x) = x.client
 
--- the client after a send of this command at the moment `now`, which waits for `wait` milliseconds. The arguments are how many
--- requests may wait at once, the client before, the command, `now` and `wait`
+-- the client after a send of `command` at the moment `now`, whose request waits for `wait` milliseconds. `width` is how many
+-- requests may wait at once, and `ids` is the client before
 abbrev pub sent_to : ℕ → ById Asked → Wish → ℕ → ℕ → ById Asked
 sent_to width ids command now wait = client_sent ids (sends width ids command.target command.call (later now wait))
 
--- the model once a request for this target, with this call and this mark, was sent; it waits for `wait` milliseconds from the
--- moment read last
+-- the model `s` once a request for the target `target` was sent, with `call` and `mark`. The request waits for `wait`
+-- milliseconds from the moment read last
 abbrev pub asks : ℕ → ℕ → Asked → Option Mark → Model → Model
 asks wait target call mark s = record s {
   client = client_sent s.client (sends WINDOW s.client target call (later s.progress.moment.elapsed wait));
   marks = s.marks ++ mark ∷ [];
 }
 
--- the model once a null procedure of the station's own was sent
+-- the model `s` once a null procedure of the station's own was sent: it is for no target, has no mark, and waits for the plan's
+-- deadline
 abbrev pub asks_null : Plan → Model → Model
 asks_null plan s = asks plan.deadline 0 (Table NullProc) None s
 
--- the model once the first of these commands was sent, with this mark
+-- the model `s` once the first of these commands was sent with `mark`; `s` itself if there is no command
 abbrev pub asks_first : Mark → List Task → Model → Model
 asks_first mark [] s = s
 asks_first mark (task ∷ others) s = asks task.deadline task.command.target (call_at task mark.sent) (Some mark) s
 
--- the model once the next command was sent
+-- the model `s` once the cycle's next command was sent
 abbrev pub asks_next : Plan → List Task → Model → Model
 asks_next plan commands s = asks_first (mark_next plan commands s.progress) (drop (place_next commands s.progress) commands) s
 
--- the model once the first of these commands of the setup was sent, with this mark; or a null procedure, if there is none
+-- the model `s` once the first of these commands of the setup was sent with `mark`; if there is no command, once a null
+-- procedure was sent
 abbrev pub asks_or_null : Plan → Mark → List Task → Model → Model
 asks_or_null plan mark [] s = asks_null plan s
 asks_or_null plan mark (task ∷ others) s = asks task.deadline task.command.target (call_at task mark.sent) (Some mark) s
 
--- the model once the next command of the setup was sent
+-- the model `s` once the setup's next command was sent
 abbrev pub asks_setup : Plan → List Task → Model → Model
 asks_setup plan commands s = asks_or_null plan (mark_setup commands s.progress) (drop s.progress.prepared commands) s
 
--- a model with another client in place of its own
+-- the model `s` with `client` in place of its own client
 abbrev pub with_client : ById Asked → Model → Model
 with_client client s = record s { client = client }
 
--- the record of the first of these commands, which isn't sent, at a moment: it is skipped, or its cycle is missed
+-- the record of the first of these commands, which isn't sent: as missed if the cycle is missed at the progress `p`, otherwise
+-- as skipped. It was left out at the moment `m`, and has `mark`. No record if there is no command
 abbrev pub skips_first : Progress → Moment → Mark → List Task → List Record
 skips_first p m mark [] = []
 skips_first p m mark (task ∷ others) =
     record { sent = None; utc = skipped_at m p; cycle = mark.cycle; place = mark.place; turn = mark.expected.turn; command = task.command; end = if p.missed then Missed else Skipped } ∷ []
 
--- the record of the next command, which isn't sent, if the act read the clock; otherwise none
+-- the record of the cycle's next command, which isn't sent, if the act read the clock; no record if the clock couldn't be read
 abbrev pub skips : Plan → List Task → Progress → Act → List Record
 skips plan commands p (Told m) = skips_first p m (mark_next plan commands p) (drop (place_next commands p) commands)
 skips plan commands p _ = []
 
--- whether a command of the attempt ended as its rule names, once the next command was recorded without being sent; `listed`
--- says whether one had before
+-- whether a command of the attempt has ended as its rule names, once the cycle's next command was recorded without being sent;
+-- `listed` says whether one had before
 abbrev pub listed_unsent : Plan → List Task → Progress → Bool → Bool
 listed_unsent plan commands p listed = listed_after listed (mark_next plan commands p).expected None (if p.missed then Missed else Skipped)
 
--- whether a command of the attempt ended as its rule names, once the next command isn't sent: as before, if the clock couldn't
--- be read
+-- whether a command of the attempt has ended as its rule names, after an act that records the cycle's next command without
+-- sending it: `listed_unsent`, or as before if the clock couldn't be read
 abbrev pub skip_listed : Plan → List Task → Model → Act → Bool
 skip_listed plan commands s (Told m) = listed_unsent plan commands s.progress s.listed
 skip_listed plan commands s _ = s.listed
 
--- the commands that are left out if the next one begins a further attempt: those of this attempt and of those after it
+-- the commands that are left out if the cycle's next one begins a further attempt: those of this attempt, and of the chain's
+-- later attempts
 abbrev pub passes_next : Plan → List Task → Progress → List Request
 passes_next plan commands p =
     requests (cycles_begun plan p) (place_next commands p) (map of_task (take p.next_others (drop (place_next commands p) commands)))
 
--- the model with these commands left out besides
+-- the model `s` with `passes` added to the commands that were left out
 abbrev pub with_passes : List Request → Model → Model
 with_passes passes s = record s { passes = s.passes ++ passes }
 
--- the model with `listed` as given
+-- the model `s` with `listed` in place of its own
 abbrev pub with_listed : Bool → Model → Model
 with_listed listed s = record s { listed = listed }
 
--- the model with these records after those that it has
+-- the model `s` with `records` after those that it has
 abbrev pub with_records : List Record → Model → Model
 with_records records s = record s { records = s.records ++ records }
 
--- the model once these settlements of the oldest outstanding requests are recorded, by their marks, which are removed
+-- the model `s` once these settlements of the oldest outstanding requests are recorded, by their marks, which are removed
 abbrev pub with_settled : List (Settlement Asked) → Model → Model
 with_settled settlements s = record s {
   records = s.records ++ records_of s.reads s.progress.moment.utc s.marks settlements;
@@ -328,11 +347,11 @@ with_settled settlements s = record s {
   fresh = fresh_after s.progress.moment.elapsed s.fresh (records_of s.reads s.progress.moment.utc s.marks settlements);
 }
 
--- the model after what a client settled: with the records of these settlements, and the client as it then is
+-- the model `s` with what its client settled: the records of the settlements of `x`, and the client of `x`
 abbrev pub settles : Settled Asked (ById Asked) → Model → Model
 settles x s = with_client x.client (with_settled x.settlements s)
 
--- whether a settlement, if there is one, is of a call of the table
+-- whether there is a settlement, and its call is one of the table
 abbrev pub is_some_of_table : Option (Settlement Asked) → Bool
 is_some_of_table None = false
 is_some_of_table (Some x) = is_of_table x.call
@@ -341,33 +360,33 @@ is_some_of_table (Some x) = is_of_table x.call
 abbrev pub ends_with_table : List (Settlement Asked) → Bool
 ends_with_table settlements = is_some_of_table (slice_get settlements (length settlements - 1))
 
--- the model once a line settled requests: with the records of these settlements, and how many requests are after the last call
--- of the table that a reply ended
+-- the model `s` once a line settled requests, as `x` says: with the records of these settlements, and the number of requests
+-- sent after the last call of the table that a reply ended
 abbrev pub line_settles : Settled Asked (ById Asked) → Model → Model
 line_settles x s = with_progress (caught_up (ends_with_table x.settlements) (length x.client.waiting)) (settles x s)
 
--- the model after a line that came
+-- the model `s` after the client heard `line`
 abbrev pub line_came : Model → List ℕ → Model
 line_came s line = with_progress (line_noted (is_reply line)) (line_settles (hears s.client line (heard line)) s)
 
--- the model after lines that came, in order
+-- the model `s` after the client heard these lines, in order
 abbrev pub lines_came : Model → List (List ℕ) → Model
 lines_came s [] = s
 lines_came s (line ∷ others) = lines_came (line_came s line) others
 
--- the lines that a piece completes after the bytes since the last line feed
+-- the lines that `piece` completes, if `rest` are the bytes before it since the last line feed
 abbrev pub lines_completed : List ℕ → List ℕ → List (List ℕ)
 lines_completed rest piece = filter_map line_in (frames_behind rest piece)
 
--- a model with these bytes since the last line feed in place of its own
+-- the model `s` with `rest` in place of its bytes since the last line feed
 abbrev pub with_rest : List ℕ → Model → Model
 with_rest rest s = record s { rest = rest }
 
--- the model after a piece whose lines are heard, in order
+-- the model `s` after `piece`, whose lines the client hears, in order
 abbrev pub piece_came : List ℕ → Model → Model
 piece_came piece s = lines_came (with_rest (rest_behind s.rest piece) s) (lines_completed s.rest piece)
 
--- the model after a piece whose lines are heard while the station synchronizes, in order
+-- the model `s` after `piece`, whose lines the synchronization hears, in order
 abbrev pub piece_synchronizing : List ℕ → Model → Model
 piece_synchronizing piece s = with_progress (λ p. lines_synchronizing p (lines_completed s.rest piece)) (with_rest (rest_behind s.rest piece) s)
 
@@ -381,26 +400,28 @@ is_heard phase.Ready = true
 is_heard (phase.Closing cause) = false
 is_heard (phase.Over cause) = false
 
--- the model after a piece, with the ids of the synchronization that aren't answered. If the piece is heard (`true`), the client
--- hears it if none of these ids is left, and else the synchronization does; the client doesn't hear what follows the
--- synchronization's last answer in that piece. If it isn't heard (`false`), it is discarded
+-- the model `s` after `piece`. The first argument says whether the piece is heard in this phase; if it isn't (`false`), it is
+-- discarded. The second one is the list of the ids of the synchronization that aren't answered. If none is, the client hears
+-- the piece; otherwise the synchronization does, and the client doesn't hear what follows its last answer in the piece
 abbrev pub after_piece : Bool → List ℕ → List ℕ → Model → Model
 after_piece true [] piece s = piece_came piece s
 after_piece true (asked ∷ others) piece s = piece_synchronizing piece s
 after_piece false word piece s = s
 
--- the model once what a piece settled was counted: a command that was settled gives all tries back, and the cycle may be done
--- early. `before` commands were outstanding before the piece
+-- the model `s` once a piece was heard: all tries are available again if it settled a command after the setup (`bytes_noted`),
+-- and it is noted if the cycle was done early (`reckoned_early`). `before` is how many commands were outstanding before the
+-- piece
 abbrev pub reckoned : Plan → Until → ℕ → Model → Model
 reckoned plan until before s = with_progress (λ p. reckoned_early plan (commands_in s.marks) (bytes_noted plan until before (waiting_of s) p)) s
 
--- the model after a piece that came by this moment: requests whose deadline has come time out first, and then the piece is
--- heard
+-- the model `s` after `piece`, which came by the moment `m`: requests whose deadline has come time out first, and then the
+-- piece is heard
 abbrev pub piece_at : Plan → Until → List ℕ → Moment → Model → Model
 piece_at plan until piece m s =
     reckoned plan until (commands_in s.marks) (after_piece (is_heard s.progress.phase) s.progress.word piece (with_moment m (with_progress (moment_noted m) s)))
 
--- the model after a read
+-- the model `s` after a read with this result. The end of the connection, a failed read and a clock that can't be read are
+-- causes to close the connection
 abbrev pub after_read : Plan → Until → Model → Act → Model
 after_read plan until s (Gave bytes m) = piece_at plan until bytes m s
 after_read plan until s (Silent m) = with_moment m (with_progress (silent plan until m) s)
@@ -408,12 +429,13 @@ after_read plan until s Ended = with_progress (failing cause.End) s
 after_read plan until s Broke = with_progress (failing cause.Read) s
 after_read plan until s _ = with_progress (failing cause.Clock) s
 
--- the model after an act that reads the clock: its progress is changed by `f` or, if the clock couldn't be read, fails for that
+-- the model `s` after an act that reads the clock: `f` changes its progress by the moment that was read. If the clock couldn't
+-- be read, that is the cause to close the connection
 abbrev pub after_clock : (Moment → Progress → Progress) → Model → Act → Model
 after_clock f s (Told m) = with_moment m (with_progress (f m) s)
 after_clock f s _ = with_progress (failing cause.Clock) s
 
--- the model after the clock was read to leave out the further attempts of a chain; if it couldn't be read, none is left out
+-- the model `s` after the clock was read to leave out the further attempts of a chain; if it couldn't be read, none is left out
 abbrev pub after_pass : Plan → List Task → Model → Act → Model
 after_pass plan commands s (Told m) =
     let n = s.progress.next_others in
@@ -422,60 +444,61 @@ after_pass plan commands s (Told m) =
     with_moment m (with_progress (λ p. reckoned_early plan (commands_in s.marks) (attempts_left_out is_chained others m p)) (with_passes (passes_next plan commands s.progress) s))
 after_pass plan commands s _ = with_progress (failing cause.Clock) s
 
--- the model after a write, changed by `f`. If the bytes were cut, the connection is to be closed besides, for a cause that
--- names this number of requests
+-- the model `s` after a write: `f` changes it. If the bytes were cut, the connection is to be closed besides, for a cause that
+-- has the number `requests`
 abbrev pub after_put : ℕ → (Model → Model) → Model → Act → Model
 after_put requests f s (Cut bytes count) = with_progress (failing (cause.Write requests count)) (f s)
 after_put requests f s _ = f s
 
--- the model after an attempt to connect
+-- the model `s` after an attempt to connect
 abbrev pub after_open : Plan → Model → Act → Model
 after_open plan s Opened = with_progress opened s
 after_open plan s _ = with_progress (after_failure plan (commands_in s.marks) cause.Open) s
 
--- the model after a close: the bytes of a line are forgotten, and what is outstanding stays outstanding
+-- the model `s` after its connection was closed for `cause`: the bytes since the last line feed are discarded, and what is
+-- outstanding stays outstanding
 abbrev pub after_close : Plan → Cause → Model → Model
 after_close plan cause s = with_progress (closed plan (waiting_of s) cause) (with_rest [] s)
 
--- the model after an act that performs this action, apart from the turn that is taken
+-- the model `s` after an act that performs `action`, but without the turn that each act takes
 abbrev pub moved : Plan → List Task → Action → Model → Act → Model
 moved plan commands ReadClock s act = after_clock (λ m p. reckoned_early plan (commands_in s.marks) (moment_noted m p)) s act
 moved plan commands Renew s act = after_clock (λ m p. reckoned_early plan 0 (renewed plan m p)) s act
 moved plan commands Begin s act = after_clock (cycle_begun plan (cycle_length plan commands)) s act
 moved plan commands Open s act = after_open plan s act
-moved plan commands Clear s act = after_put (requests_out plan commands s.progress) (with_progress cleared) s act
-moved plan commands Ask s act = after_put (requests_out plan commands s.progress) (with_progress (null_sent plan)) s act
-moved plan commands Prepare s act = after_put (requests_out plan commands s.progress) (λ (s : Model). with_progress (setup_sent plan) (asks_setup plan commands s)) s act
-moved plan commands Send s act = after_put (requests_out plan commands s.progress)
+moved plan commands Clear s act = after_put (commands_before plan commands s.progress) (with_progress cleared) s act
+moved plan commands Ask s act = after_put (commands_before plan commands s.progress) (with_progress (null_sent plan)) s act
+moved plan commands Prepare s act = after_put (commands_before plan commands s.progress) (λ (s : Model). with_progress (setup_sent plan) (asks_setup plan commands s)) s act
+moved plan commands Send s act = after_put (commands_before plan commands s.progress)
     (λ (s : Model). with_progress (sent (is_chained_after_next commands s.progress) (others_after_next commands s.progress)) (asks_next plan commands s)) s act
 moved plan commands Skip s act =
     after_clock (λ m p. reckoned_early plan (commands_in s.marks) (skipped (is_chained_after_next commands s.progress) (others_after_next commands s.progress) m p))
     (with_listed (skip_listed plan commands s act) (with_records (skips plan commands s.progress act) s)) act
 moved plan commands Pass s act = after_pass plan commands s act
-moved plan commands Flush s act = after_put (requests_out plan commands s.progress) (λ (s : Model). with_progress request_noted (asks_null plan s)) s act
+moved plan commands Flush s act = after_put (commands_before plan commands s.progress) (λ (s : Model). with_progress request_noted (asks_null plan s)) s act
 moved plan commands (Read until) s act = after_read plan until s act
 moved plan commands (Close cause) s act = after_close plan cause s
 moved plan commands (Stop cause) s act = s
 
--- the model with all outstanding requests lost and a fresh client, if that is asked for; otherwise the model as it is
+-- the model `s` with all outstanding requests lost and a fresh client if `true`; `s` itself if `false`
 abbrev pub losing : Bool → Model → Model
 losing true s = settles (restarts s.client) s
 losing false s = s
 
--- the model with all outstanding requests lost, if the station resynchronizes or no act follows; otherwise the model as it is
+-- the model `s` with all outstanding requests lost, if the station resynchronizes or no act follows; otherwise `s` itself
 abbrev pub ended : Model → Model
 ended s = losing (loses_all s.progress) s
 
--- the model after an act: a turn is taken, then `moved` for the action that was next, then `ended`
+-- the model `s` after the act: a turn is taken, then `moved` for the action that was next, then `ended`
 abbrev pub after : Plan → List Task → Model → Act → Model
 after plan commands s act = ended (moved plan commands (action_at plan s) (with_progress turned s) act)
 
--- the model after acts, in order
+-- the model `s` after these acts, in order
 abbrev pub after_all : Plan → List Task → Model → List Act → Model
 after_all plan commands s [] = s
 after_all plan commands s (act ∷ acts) = after_all plan commands (after plan commands s act) acts
 
--- each of these acts performs the action that was next
+-- each of these acts, in order, performs the action that was next, from the model `s` on
 abbrev pub Runs : Plan → List Task → Model → List Act → Type 0
 Runs plan commands s [] = Unit {0}
 Runs plan commands s (act ∷ acts) = Performs commands s (action_at plan s) act × Runs plan commands (after plan commands s act) acts

@@ -1,6 +1,6 @@
--- Where an answer was measured, this project's own: whatever the line, the instrument or a hand at it did, an answered command
--- of a target with a known place was measured there, as far as its answer has a direction. An act is one call on the link,
--- with its result.
+-- Where an answer was measured, this project's own: whatever the line, the instrument or its operator did, an answered command
+-- of a target with a known place was measured there, as far as its answer has a direction. An act is one call on the link, with
+-- its result.
 use Rattle.std.specs.Prelude.{◌≡◌, ◌⊎◌, ℕ, true, List, Some, slice_get}
 use Rattle.std.specs.List.{AllByRecursion}
 use Rattle.gc_catalogue.specs.declared.answer.Answer.{Answer}
@@ -9,7 +9,7 @@ use Rattle.gc_catalogue.specs.declared.answer.Reading.TheVariants.{Value, Refuse
 use Rattle.gc_catalogue.specs.declared.asked.Asked.{Asked}
 use Rattle.gc_values.specs.Directions.{IsNear}
 use Rattle.gc_values.specs.declared.direction.Direction.{Direction}
-use Rattle.gc_texts.specs.Codes.{are_accepted}
+use Rattle.gc_texts.specs.Codes.{lists_code}
 use Rattle.gc_texts.specs.Endings.{Answered, Elsewhere}
 use Rattle.gc_texts.specs.Nears.{direction_of}
 use Rattle.gc_texts.specs.Zeroed.{as_zero}
@@ -23,22 +23,22 @@ use Rattle.gc_station.specs.Runs.{state_after}
 use Rattle.gc_station.specs.Scopes.{Scope}
 use Rattle.gc_station.specs.declared.plan.Plan.{Plan}
 
--- if a record is answered, its answer has a direction, and the text says where its command's target is, then that direction is
+-- if the record `r` is answered, its answer has a direction, and the text says where its command's target is, that direction is
 -- near that place, within its tolerance
 abbrev pub IsAtItsTarget : List Task → Record → Type 0
 IsAtItsTarget commands r =
     (task : Task) (near : Near) (quality : Quality) (answer : Answer) (line : List ℕ) (d : Direction) → slice_get commands r.place ≡ Some task → task.near ≡ Some near
     → r.end ≡ Answered quality (Some answer) line → direction_of answer ≡ Some d → IsNear d near.place near.tolerance
 
--- this line says this answer of the call: it has both codes 0; or it has an accepted return code, and says the answer once 0
--- replaces that code
+-- `line` says `answer` of `call`: it has both codes 0; or it has an accepted return code, and says the answer once 0 replaces
+-- that code. `reads` gives what a line says of a call
 abbrev pub HasAnswer : (Asked → List ℕ → Reading) → Codes → Asked → List ℕ → Answer → Type 0
 HasAnswer reads accepted call line answer =
     (reads call line ≡ Value answer)
-    ⊎ ((code : ℕ) × (reads call line ≡ Refused code) × (are_accepted accepted code ≡ true) × (reads call (as_zero line) ≡ Value answer))
+    ⊎ ((code : ℕ) × (reads call line ≡ Refused code) × (lists_code accepted code ≡ true) × (reads call (as_zero line) ≡ Value answer))
 
--- if a record ended as elsewhere, its line says an answer (`HasAnswer`), the text says where the command's target is, and the
--- answer's direction isn't near that place
+-- if the record `r` ended as elsewhere, its line says an answer (`HasAnswer`), the text says where the command's target is, and
+-- the answer's direction isn't near that place
 abbrev pub ElsewhereIsJustified : (Asked → List ℕ → Reading) → List Task → Record → Type 0
 ElsewhereIsJustified reads commands r =
     (task : Task) (line : List ℕ) → slice_get commands r.place ≡ Some task → r.end ≡ Elsewhere line

@@ -14,7 +14,7 @@ use Rattle.gc_station.specs.Progressing.{is_idle}
 abbrev pub dead_at : Plan → Progress → ℕ
 dead_at plan p = later p.alive (dead_after plan)
 
--- the moment at which the next cycle is due
+-- the moment at which the next cycle is due: `every` milliseconds after the last one began
 abbrev pub due_at : Plan → Progress → ℕ
 due_at plan p = later p.began plan.every
 
@@ -24,11 +24,11 @@ abbrev pub retry_at : Plan → Progress → ℕ
 retry_at plan p = if is_idle plan p then max (later p.since p.pause) (due_at plan p) else later p.since p.pause
 
 -- the moment from which on the run is stale, if no answer of a good quality is recorded until then; the greatest `u64` if it
--- never is
+-- never is. `fresh` is when the last such answer was recorded
 abbrev pub stale_at : Plan → ℕ → ℕ
 stale_at plan fresh = if nat_lt 0 plan.stale then later fresh plan.stale else 18446744073709551615
 
--- how long a read waits at most: a second if somebody may ask for the end of the run, else a minute
+-- how many milliseconds a read waits at most: a second if somebody may ask for the end of the run, otherwise a minute
 abbrev pub longest : Plan → ℕ
 longest plan = if plan.watched then 1000 else 60000
 
@@ -49,8 +49,9 @@ abbrev pub ends_at : Plan → Progress → Until → Option ℕ → ℕ
 ends_at plan p until (Some deadline) = min deadline (ends_without_deadline plan p until)
 ends_at plan p until None = ends_without_deadline plan p until
 
--- how many milliseconds a read waits: until `ends_at`, or until the run is stale if that is earlier, but at least one and at most
--- `longest`
+-- how many milliseconds a read waits: until `ends_at`, or until the run is stale if that is earlier, but at least one and at
+-- most `longest`. `fresh` is when the last answer of a good quality was recorded, and `deadline` is the next deadline of a
+-- request, if any
 abbrev pub patience : Plan → Progress → ℕ → Until → Option ℕ → ℕ
 patience plan p fresh until deadline = min (max (min (ends_at plan p until deadline) (stale_at plan fresh) - p.moment.elapsed) 1) (longest plan)
 
@@ -58,13 +59,13 @@ patience plan p fresh until deadline = min (max (min (ends_at plan p until deadl
 abbrev pub has_overrun : Plan → Progress → Bool
 has_overrun plan p = not p.early && not p.missed && is_due plan p && nat_lt 0 p.left && nat_lt 0 plan.every
 
--- the cycle that is to be reported as overrun: the one that began last, if it has overrun and is after `told`, the last one that was
--- reported
+-- the cycle that is to be reported as overrun: the one that began last, if it has overrun and is after `reported`, the last one
+-- that was reported
 abbrev pub overrun : Plan → Progress → ℕ → Option ℕ
-overrun plan p told = if has_overrun plan p && nat_lt told (cycles_begun plan p) then Some (cycles_begun plan p) else None
+overrun plan p reported = if has_overrun plan p && nat_lt reported (cycles_begun plan p) then Some (cycles_begun plan p) else None
 
--- the number of the last cycle that was reported as overrun: the given cycle, if one is to be reported now, else `told` as
+-- the number of the last cycle that was reported as overrun: this cycle if one is reported now, otherwise `reported`, the one
 -- before
 abbrev pub reported_then : ℕ → Option ℕ → ℕ
-reported_then told None = told
-reported_then told (Some cycle) = cycle
+reported_then reported None = reported
+reported_then reported (Some cycle) = cycle

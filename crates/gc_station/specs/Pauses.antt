@@ -15,42 +15,49 @@ use Rattle.gc_station.specs.declared.progress.Progress.{Progress}
 use Rattle.gc_station.specs.declared.progress.Until.{Until}
 use Rattle.gc_station.specs.declared.progress.Waiting.{Waiting}
 
--- a time that was doubled `n` times
+-- `time`, doubled as often as the number says
 abbrev pub doubled : ℕ → ℕ → ℕ
 doubled zero time = time
 doubled (suc n) time = 2 * doubled n time
 
--- the length of the pause after n failures in a row: none after none; the quiet time after the first, and after each
--- further one twice the last pause, up to a minute and never below the quiet time
+-- the length of the pause after this number of failures in a row: 0 after none; the quiet time after the first; and after each
+-- further one twice the pause before, up to a minute and never below the quiet time
 abbrev pub pause_after : Plan → ℕ → ℕ
 pause_after plan zero = 0
 pause_after plan (suc n) = max (min (doubled n plan.quiet) 60000) plan.quiet
 
--- an action that touches neither the tries nor the pause: it doesn't make a connection, read from one or close one
+-- an action that changes neither the tries nor the pause: it doesn't make a connection, read or close one
 abbrev pub LeavesTries : Action → Type 0
 LeavesTries Open = ⊥
 LeavesTries (Read until) = ⊥
 LeavesTries (Close why) = ⊥
 LeavesTries _ = Unit {0}
 
--- at the start all tries are left, and the pause is 0. A failure takes one try, and makes the pause that of one failure more;
--- without a try left the run is over. A close while no connection is wanted takes no try, and makes a pause of 0 that of one
--- failure. A read that settles a command gives all tries back, and makes the pause 0, where since the setup a command of a
--- cycle had its turn. Other bytes change neither, nor does an act that is no opening, no read and no close
+-- how the tries and the pause change at each act. `plan.retries` tries are there at the start
 pub record TriesAndPausesAreCounted : Type 0 where
+  -- at the start all tries are left, and the pause is 0
   pub start : (plan : Plan) (turns : ℕ) → ((at_start plan turns).tries ≡ plan.retries) × ((at_start plan turns).pause ≡ pause_after plan 0)
+  -- a failure makes the pause that of one failure more
   pub failed : (plan : Plan) (commands n : ℕ) (why : Cause) (p : Progress) → is_spared plan why p ≡ false → p.pause ≡ pause_after plan n
       → (after_failure plan commands why p).pause ≡ pause_after plan (suc n)
+  -- a failure takes one try, if one is left
   pub takes : (plan : Plan) (commands : ℕ) (why : Cause) (p : Progress) → is_spared plan why p ≡ false → 0 < p.tries → (after_failure plan commands why p).tries + 1 ≡ p.tries
+  -- after a failure without a try left the run is over
   pub none_left : (plan : Plan) (commands : ℕ) (why : Cause) (p : Progress) → is_spared plan why p ≡ false → p.tries ≡ 0
       → ((after_failure plan commands why p).phase ≡ phase.Over cause.Done) ⊎ ((after_failure plan commands why p).phase ≡ phase.Over why)
+  -- a close while no connection is wanted (`is_spared`) takes no try, and leaves the pause as it is
   pub spared : (plan : Plan) (commands n : ℕ) (why : Cause) (p : Progress) → is_spared plan why p ≡ true → p.pause ≡ pause_after plan (suc n)
       → ((after_failure plan commands why p).pause ≡ pause_after plan (suc n)) × ((after_failure plan commands why p).tries ≡ p.tries)
+  -- but such a close makes a pause of 0 that of one failure
   pub spared_first : (plan : Plan) (commands : ℕ) (why : Cause) (p : Progress) → is_spared plan why p ≡ true → p.pause ≡ pause_after plan 0
       → ((after_failure plan commands why p).pause ≡ pause_after plan 1) × ((after_failure plan commands why p).tries ≡ p.tries)
+  -- bytes that settle a command, once a command of a cycle had its turn after the setup, give all tries back, and make the
+  -- pause 0
   pub settled : (plan : Plan) (until : Until) (before : ℕ) (after : Waiting) (p : Progress) → after.commands < before → p.preparing ≡ false
       → ((bytes_noted plan until before after p).tries ≡ plan.retries) × ((bytes_noted plan until before after p).pause ≡ pause_after plan 0)
+  -- bytes that settle none, or come before that, change neither
   pub unsettled : (plan : Plan) (until : Until) (before : ℕ) (after : Waiting) (p : Progress) → (before ≤ after.commands) ⊎ (p.preparing ≡ true)
       → ((bytes_noted plan until before after p).tries ≡ p.tries) × ((bytes_noted plan until before after p).pause ≡ p.pause)
+  -- nor does an act that makes no connection, reads nothing and closes none
   pub other : (plan : Plan) (commands : List Task) (action : Action) (s : Model) (act : Act) → LeavesTries action
       → ((moved plan commands action s act).progress.tries ≡ s.progress.tries) × ((moved plan commands action s act).progress.pause ≡ s.progress.pause)

@@ -49,7 +49,7 @@ at_start plan turns = record {
   stops = false;
 }
 
--- the progress after a turn
+-- the progress `p` with one turn fewer left
 abbrev pub turned : Progress → Progress
 turned p = record p { turns = p.turns - 1 }
 
@@ -64,15 +64,15 @@ moment_noted m p = record p { moment = m; since = m.elapsed; alive = min p.alive
 abbrev pub cycle_start : Plan → Moment → Progress → ℕ
 cycle_start plan m p = if nat_eq p.left plan.cycles || nat_eq plan.every 0 then m.elapsed else min (later p.began plan.every) m.elapsed
 
--- whether a cycle that would begin at this moment is missed: the one after it is due by then
+-- whether a cycle that would begin at the moment `m` is missed: the one after it is due by then
 abbrev pub is_missing : Plan → Moment → Progress → Bool
 is_missing plan m p = nat_lt 0 plan.every && nat_le plan.every (m.elapsed - cycle_start plan m p)
 
--- when a cycle that begins at this moment was due, by the clock of time stamps
+-- when a cycle that begins at the moment `m` was due, by the clock of time stamps, in milliseconds since 1970-01-01
 abbrev pub due_of : Plan → Moment → Progress → ℕ
 due_of plan m p = m.utc - (m.elapsed - cycle_start plan m p)
 
--- the progress after the beginning of a cycle of `count` commands. If it is missed, none of them is sent
+-- the progress after a cycle of `count` commands began at the moment `m`. If the cycle is missed, none of them is sent
 abbrev pub cycle_begun : Plan → ℕ → Moment → Progress → Progress
 cycle_begun plan count m p =
     let q = moment_noted m p in
@@ -89,33 +89,34 @@ cycle_begun plan count m p =
       preparing = false;
     }
 
--- the moment in the record of a command that isn't sent: where its cycle is missed, the moment at which the cycle was due;
--- otherwise this one
+-- the moment in the record of a command that is left out at the moment `m`: if its cycle is missed, the moment at which the
+-- cycle was due; otherwise `m`
 abbrev pub skipped_at : Moment → Progress → ℕ
 skipped_at m p = if p.missed then p.due else m.utc
 
--- the progress after a command that isn't sent. `next_is_chained`: the one after it is sent only once this one was answered
--- well; `others`: how many commands that one's attempt and those after it have, if it begins a further attempt, else 0
+-- the progress after the next command was left out at the moment `m`. `next_is_chained`: whether the command after it is sent
+-- only once this one was answered well. `others`: if that one begins a further attempt of its chain, how many commands this and
+-- the chain's later attempts have together; otherwise 0
 abbrev pub skipped : Bool → ℕ → Moment → Progress → Progress
 skipped next_is_chained others m p =
     let q = moment_noted m p in record q { unsent = p.unsent - 1; next_is_chained = next_is_chained; next_others = others; chain_unbroken = false; preparing = false }
 
--- the progress once the further attempts of a chain that the next command begins were left out. `next_is_chained` and `others`
--- are of the command after them, as of `skipped`
+-- the progress after the further attempts of a chain that the next command begins were left out at the moment `m`.
+-- `next_is_chained` and `others` are of the command after them, as in `skipped`
 abbrev pub attempts_left_out : Bool → ℕ → Moment → Progress → Progress
 attempts_left_out next_is_chained others m p =
     let q = moment_noted m p in record q { unsent = p.unsent - p.next_others; next_is_chained = next_is_chained; next_others = others; chain_unbroken = false; preparing = false }
 
--- the progress after a failure for this cause: the connection is to be closed, and without a connection the run is over
+-- the progress after a call that failed for `cause`: the connection is to be closed, and without a connection the run is over
 abbrev pub failing : Cause → Progress → Progress
 failing cause p = record p { phase = if is_up p.phase then phase.Closing cause else phase.Over cause }
 
--- the progress after a connection that was made
+-- the progress after a connection was made: its line feed is to be sent
 abbrev pub opened : Progress → Progress
 opened p = record p { phase = phase.Clearing }
 
--- whether a failure for this cause takes no try: a connection was closed while none is wanted. An attempt that failed always
--- takes one
+-- whether the next attempt to connect takes no try: a connection was closed for this cause while none is wanted. An attempt
+-- that failed always takes one
 abbrev pub is_spared : Plan → Cause → Progress → Bool
 is_spared plan cause.Open p = false
 is_spared plan _ p = is_idle plan p
@@ -141,8 +142,8 @@ next_attempt p = if nat_eq p.prepared 0 then p.attempt else later p.attempt 1
 abbrev pub setup_restarted : Plan → Progress → Progress
 setup_restarted plan p = record p { preparing = nat_lt 0 plan.setup; prepared = 0; attempt = next_attempt p }
 
--- the progress after a connection that was closed or couldn't be made: the setup is sent again on the next connection, and the
--- next attempt takes a try, unless it is spared
+-- the progress after a connection was closed for the cause `why`, or couldn't be made, with `commands` commands outstanding.
+-- The next attempt to connect takes a try, unless it is spared, and the setup is sent again on the next connection
 abbrev pub after_failure : Plan → ℕ → Cause → Progress → Progress
 after_failure plan commands why p = record p {
   phase = phase_again plan commands why p;
@@ -155,20 +156,22 @@ after_failure plan commands why p = record p {
   attempt = next_attempt p;
 }
 
--- the progress after the line feed: a connection is drained next, unless a synchronization goes on with it
+-- the progress after the line feed of a new connection was sent: the connection is drained next, unless a synchronization goes
+-- on with it
 abbrev pub cleared : Progress → Progress
 cleared p = record p { phase = if has_begun p then phase.Draining else phase.Ready; again = 0; asked = false; clock_due = true }
 
--- one more than a number, but at most the number of requests that can wait
-abbrev pub one_more : ℕ → ℕ
-one_more n = if nat_lt n WINDOW then n + 1 else n
+-- one more than `n`, but `n` itself if it is `WINDOW`, the number of requests that can be outstanding, or more
+abbrev pub one_more_in_window : ℕ → ℕ
+one_more_in_window n = if nat_lt n WINDOW then n + 1 else n
 
--- the progress after a request: the time after which the line is dead begins with the first one after a reply line
+-- the progress after a request was sent: one more was sent after the last call of the table that a reply ended (`behind`). The
+-- time after which the line is dead begins with the first request after a reply line
 abbrev pub request_noted : Progress → Progress
-request_noted p = record p { alive = if p.asked then p.alive else p.moment.elapsed; asked = true; clock_due = true; behind = one_more p.behind }
+request_noted p = record p { alive = if p.asked then p.alive else p.moment.elapsed; asked = true; clock_due = true; behind = one_more_in_window p.behind }
 
--- the progress after the null procedure of the first id that isn't answered: it is sent again at its deadline. No command is
--- sent before it is answered
+-- the progress after the null procedure of the first id that isn't answered was sent: it is sent again at its deadline. No
+-- command is sent before it is answered, so `behind` is 0
 abbrev pub null_sent : Plan → Progress → Progress
 null_sent plan p = let q = request_noted p in record q { again = later p.moment.elapsed plan.deadline; behind = 0 }
 
@@ -178,15 +181,15 @@ null_sent plan p = let q = request_noted p in record q { again = later p.moment.
 abbrev pub renewed : Plan → Moment → Progress → Progress
 renewed plan m p = let q = moment_noted m p in setup_restarted plan (record q { word = the_word; again = 0; asked = p.asked && goes_on plan q; chain_unbroken = false; behind = 0 })
 
--- the progress after the next command. `next_is_chained` and `others` are of the one after it, as of `skipped`
+-- the progress after the cycle's next command was sent. `next_is_chained` and `others` are of the one after it, as in `skipped`
 abbrev pub sent : Bool → ℕ → Progress → Progress
 sent next_is_chained others p = let q = request_noted p in record q { unsent = p.unsent - 1; next_is_chained = next_is_chained; next_others = others; chain_unbroken = true; preparing = false }
 
--- the progress after the next command of the setup
+-- the progress after the setup's next command was sent
 abbrev pub setup_sent : Plan → Progress → Progress
 setup_sent plan p = let q = request_noted p in record q { prepared = min (p.prepared + 1) plan.setup; chain_unbroken = false }
 
--- the progress after a line that was heard: a reply line shows that the line is alive
+-- the progress after a line was heard: a reply line (`is_reply`) shows that the line is alive
 abbrev pub line_noted : Bool → Progress → Progress
 line_noted is_reply p = record p { alive = if is_reply then p.moment.elapsed else p.alive; asked = if is_reply then false else p.asked }
 
@@ -200,22 +203,23 @@ caught_up of_table waiting p = record p { behind = if of_table then waiting else
 abbrev pub answered : Option ℕ → Progress → Progress
 answered id p = record p { word = left_by p.word id; again = if is_answered p.word id then 0 else p.again }
 
--- the progress after a line that was heard while the station synchronizes
+-- the progress after `line` was heard while the station synchronizes
 abbrev pub line_synchronizing : Progress → List ℕ → Progress
 line_synchronizing p line = line_noted (is_reply line) (answered (heard line) p)
 
--- the progress after the lines of a piece that were heard while the station synchronizes, in order
+-- the progress after these lines were heard while the station synchronizes, in order
 abbrev pub lines_synchronizing : Progress → List (List ℕ) → Progress
 lines_synchronizing p [] = p
 lines_synchronizing p (line ∷ others) = lines_synchronizing (line_synchronizing p line) others
 
--- whether the cycle counts as done early after a read. A read until the next cycle is due shows that it was, because only a done cycle
--- has such a read; after any other read it counts as before (`early`)
+-- whether the cycle counts as done early after a read. A read until the next cycle is due shows that it was, because only a
+-- done cycle has such a read; after any other read it counts as before (`early`)
 abbrev pub early_after : Until → Bool → Bool
 early_after Due early = true
 early_after Limit early = early
 
--- whether a read gives the tries back: it settled a command, and the setup is done
+-- whether bytes give all tries back: they settled a command, since fewer than `before` are outstanding after them, and a
+-- command of a cycle had its turn after the setup
 abbrev pub gives_back : ℕ → Waiting → Progress → Bool
 gives_back before after p = nat_lt after.commands before && not p.preparing
 
@@ -229,15 +233,16 @@ bytes_noted plan until before after p = record p {
   pause = if gives_back before after p then 0 else p.pause;
 }
 
--- the progress at the end of a pause that was long enough: the next action connects, if a connection is wanted
+-- the progress of a station that pauses, after a read that gave nothing: if the pause was long enough and a connection is
+-- wanted, the next action connects
 abbrev pub pause_ended : Plan → Progress → Progress
 pause_ended plan p = record p { phase = if is_past p.pause p && not (is_idle plan p) then phase.Down else p.phase }
 
--- the progress at the end of draining, once the connection was quiet: requests may be sent
+-- the progress after a new connection was drained, because it was quiet: requests may be sent
 abbrev pub drained : Progress → Progress
 drained p = record p { phase = phase.Ready; alive = p.moment.elapsed; asked = false }
 
--- the progress after a read of which nothing came: a pause, or a draining, that was long enough ends
+-- the progress after a read that gave nothing: a pause, or a draining, that was long enough ends
 abbrev pub quieted : Plan → Phase → Progress → Progress
 quieted plan phase.Pausing p = pause_ended plan p
 quieted plan phase.Draining p = if is_quiet plan p then drained p else p
@@ -257,7 +262,7 @@ time_passed until m p = record p {
   early = early_after until p.early;
 }
 
--- the progress after a read that gave nothing until this moment
+-- the progress after a read that gave nothing until the moment `m`
 abbrev pub silent : Plan → Until → Moment → Progress → Progress
 silent plan until m p = quieted plan p.phase (time_passed until m p)
 
@@ -266,12 +271,12 @@ silent plan until m p = quieted plan p.phase (time_passed until m p)
 abbrev pub reckoned_early : Plan → ℕ → Progress → Progress
 reckoned_early plan commands p = record p { early = p.early || (nat_eq commands 0 && nat_eq p.unsent 0 && not (is_due plan p)) }
 
--- the progress at the end of a run, for this cause: no other connection is made
+-- the progress at the end of a run for the cause `why`: no further connection is made
 abbrev pub ended_for : Cause → Progress → Progress
 ended_for why p = record p { phase = phase.Over why; chain_unbroken = false }
 
--- the progress after a close: for `Done`, `Clock`, `Turns`, `Stale` and `Stopped` no other connection is made; for any other cause `after_failure`
--- says whether
+-- the progress after a close for this cause. For `Done`, `Clock`, `Turns`, `Stale` and `Stopped` no further connection is made;
+-- for any other cause `after_failure` says whether one is
 abbrev pub closed : Plan → Waiting → Cause → Progress → Progress
 closed plan w cause.Done p = ended_for cause.Done p
 closed plan w cause.Clock p = ended_for cause.Clock p
@@ -280,7 +285,7 @@ closed plan w cause.Stale p = ended_for cause.Stale p
 closed plan w cause.Stopped p = ended_for cause.Stopped p
 closed plan w why p = after_failure plan w.commands why p
 
--- whether the run is over in a phase
+-- whether the run is over in this phase
 abbrev pub is_over_in : Phase → Bool
 is_over_in phase.Down = false
 is_over_in phase.Pausing = false

@@ -1,12 +1,12 @@
--- What the quality of an answer says of its line, this project's own: fine with both codes 0, a warning with a return code that the
--- text accepts of that command, and else refused.
+-- What the quality of an answer says of its line, this project's own: fine with both codes 0, a warning with a return code that
+-- the text accepts of that command, and else refused.
 use Rattle.std.specs.Prelude.{◌≡◌, ℕ, true, false, List, drop, Option, Some, None}
 use Rattle.std.specs.List.{AllByRecursion}
 use Rattle.gc_catalogue.specs.declared.answer.Answer.{Answer}
 use Rattle.gc_catalogue.specs.declared.answer.Reading.{Reading}
 use Rattle.gc_catalogue.specs.declared.answer.Reading.TheVariants as reading
 use Rattle.gc_catalogue.specs.declared.asked.Asked.{Asked}
-use Rattle.gc_texts.specs.Codes.{are_accepted, no_codes}
+use Rattle.gc_texts.specs.Codes.{lists_code, no_codes}
 use Rattle.gc_texts.specs.Endings.{Answered}
 use Rattle.gc_texts.specs.Qualities.{is_good}
 use Rattle.gc_texts.specs.Zeroed.{as_zero}
@@ -21,35 +21,36 @@ use Rattle.gc_station.specs.Runs.{state_after}
 use Rattle.gc_station.specs.Scopes.{Scope}
 use Rattle.gc_station.specs.declared.plan.Plan.{Plan}
 
--- the answer that a reading is, if it is one
+-- the answer that a reading has; `None` if it is a refusal, a fault of communication or unreadable
 abbrev pub answer_in : Reading → Option Answer
 answer_in (reading.Value answer) = Some answer
 answer_in (reading.Refused code) = None
 answer_in (reading.ComFault code) = None
 answer_in (reading.Unreadable fault) = None
 
--- a reply says a refusal with a return code that isn't among these, or a fault of communication
+-- a reading is a refusal with a return code that isn't in `accepted`, or a fault of communication
 abbrev pub IsRefusal : Codes → Reading → Type 0
 IsRefusal accepted (reading.Value answer) = ⊥
-IsRefusal accepted (reading.Refused code) = are_accepted accepted code ≡ false
+IsRefusal accepted (reading.Refused code) = lists_code accepted code ≡ false
 IsRefusal accepted (reading.ComFault code) = Unit {0}
 IsRefusal accepted (reading.Unreadable fault) = ⊥
 
--- what the line of an answer of this quality says of its call, if the codes `accepted` are accepted, and what the record has as
--- its values (`said`). `Fine`: the line says an answer, and the record has it. `Warning`: the line says a refusal with an
--- accepted code; the record has the answer, if any, that the line would say with return code 0. `Refused`: the line says any
--- other refusal or a fault of communication, and the record has no answer
+-- what `line`, the reply to `call`, says if its answer is of this quality, and which values its record has (`said`). `accepted`
+-- are the codes that are accepted, and `reads` gives what a line says of a call. `Fine`: the line says an answer, and the
+-- record has it. `Warning`: the line says a refusal with an accepted code; the record has the answer, if any, that the line
+-- would say with return code 0. `Refused`: the line says any other refusal or a fault of communication, and the record has no
+-- answer
 abbrev pub IsOfQuality : (Asked → List ℕ → Reading) → Codes → Asked → Quality → Option Answer → List ℕ → Type 0
 IsOfQuality reads accepted call Fine said line = (answer : Answer) × (said ≡ Some answer) × (reads call line ≡ reading.Value answer)
 IsOfQuality reads accepted call Warning said line =
-    (code : ℕ) × (reads call line ≡ reading.Refused code) × (are_accepted accepted code ≡ true) × (said ≡ answer_in (reads call (as_zero line)))
+    (code : ℕ) × (reads call line ≡ reading.Refused code) × (lists_code accepted code ≡ true) × (said ≡ answer_in (reads call (as_zero line)))
 IsOfQuality reads accepted call Refused said line = (said ≡ None) × IsRefusal accepted (reads call line)
 
--- the codes that are accepted of the command at this place of a cycle
+-- the return codes that are accepted of the command at `place` in the list `commands`
 abbrev pub accepted_at : List Task → ℕ → Codes
 accepted_at commands place = (expected_first (drop place commands)).accepted
 
--- a record that is answered has the quality of its line, by the codes that are accepted of its command
+-- if the record `r` is answered, its answer has the quality of its line, by the codes that are accepted of its command
 abbrev pub IsAsListed : (Asked → List ℕ → Reading) → List Task → Record → Type 0
 IsAsListed reads commands r =
     (quality : Quality) (said : Option Answer) (line : List ℕ) → r.end ≡ Answered quality said line

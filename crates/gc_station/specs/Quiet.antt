@@ -7,59 +7,58 @@ use Rattle.gc_station.specs.declared.progress.Action.{Action}
 use Rattle.gc_station.specs.declared.progress.Action.TheVariants.{Prepare, Send, Flush}
 use Rattle.gc_links.specs.Acts.{Act, Told, Put, Cut, Gave, Silent, Closed, Opened, Unopened}
 
--- an act puts a request, whole or in part: bytes that aren't the lone line feed
+-- the act sends a request, whole or in part: bytes that aren't the lone line feed
 abbrev pub IsRequest : Act → Type 0
 IsRequest (Put bytes) = bytes ≢ 10 ∷ []
 IsRequest (Cut bytes count) = bytes ≢ 10 ∷ []
 IsRequest _ = ⊥
 
--- an action sends a request of the client, and none of a synchronization: the next command, or a null procedure after requests
--- that have all timed out
+-- the action sends a request of the client: a command, or by `Flush` a null procedure, but none of a synchronization
 abbrev pub IsAsking : Action → Type 0
 IsAsking Prepare = Unit {0}
 IsAsking Send = Unit {0}
 IsAsking Flush = Unit {0}
 IsAsking _ = ⊥
 
--- an act puts no request
+-- the act sends no request
 abbrev pub AsksNothing : Act → Type 0
 AsksNothing act = IsRequest act → ⊥
 
--- an act reads this moment, together with whatever else came of it
+-- the act reads the moment `elapsed`, alone or together with bytes or silence
 abbrev pub TellsMoment : ℕ → Act → Type 0
 TellsMoment elapsed (Told m) = m.elapsed ≡ elapsed
 TellsMoment elapsed (Gave bytes m) = m.elapsed ≡ elapsed
 TellsMoment elapsed (Silent m) = m.elapsed ≡ elapsed
 TellsMoment elapsed _ = ⊥
 
--- an act reads a moment: it reads the clock, or is a read that gave bytes or nothing. No bytes are sent, and the connection
--- stays
+-- the act reads the clock, or is a read that gave bytes or nothing. So it reads a moment, sends nothing, and leaves the
+-- connection as it is
 abbrev pub IsListening : Act → Type 0
 IsListening (Told m) = Unit {0}
 IsListening (Gave bytes m) = Unit {0}
 IsListening (Silent m) = Unit {0}
 IsListening _ = ⊥
 
--- an act is a read that gave nothing
+-- the act is a read that gave nothing
 abbrev pub IsSilent : Act → Type 0
 IsSilent (Silent m) = Unit {0}
 IsSilent _ = ⊥
 
--- an act doesn't close the connection
+-- the act doesn't close the connection
 abbrev pub KeepsOpen : Act → Type 0
 KeepsOpen Closed = ⊥
 KeepsOpen _ = Unit {0}
 
--- an act doesn't close the connection, and doesn't make one or try to
+-- the act doesn't close the connection, and doesn't make one or try to
 abbrev pub StaysConnected : Act → Type 0
 StaysConnected Closed = ⊥
 StaysConnected Opened = ⊥
 StaysConnected Unopened = ⊥
 StaysConnected _ = Unit {0}
 
--- these acts begin with a quiet time of `quiet` milliseconds, before anything is sent. First bytes may come; then an act read a
--- moment; and the reads after it gave nothing, until one read a moment at least `quiet` milliseconds later by the clock. A
--- quiet time of 0 has always passed, also if the clock went back
+-- `acts` begin with a quiet time of `quiet` milliseconds, before anything is sent. First bytes may come (`drain`); then `start`
+-- reads the moment `from`; and the reads after it (`silence`) give nothing, until one reads a moment (`last`) at least `quiet`
+-- milliseconds later by the clock. A quiet time of 0 has always passed, also if the clock went back
 pub record IsQuietFirst (quiet : ℕ) (acts : List Act) : Type 0 where
   pub drain : List Act
   pub start : Act

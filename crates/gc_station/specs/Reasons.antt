@@ -16,8 +16,8 @@ use Rattle.gc_station.specs.Deciding.{width_of, has_begun, is_up, is_idle, is_de
 abbrev pub HasRoom : Plan → Waiting → Type 0
 HasRoom plan w = (w.current < width_of plan) × (w.all < WINDOW)
 
--- each command of the cycle was sent, or the next one waits for the answer of the one before it in its chain, or begins a further
--- attempt of its chain
+-- no further command may be sent before those that were sent are settled: each command of the cycle was sent, or the next one
+-- waits for the answer of the one before it in its chain, or begins a further attempt of its chain
 abbrev pub IsHeld : Progress → Type 0
 IsHeld p = (p.unsent ≡ 0) ⊎ ((p.next_is_chained ≡ true) ⊎ (0 < p.next_others))
 
@@ -39,10 +39,10 @@ StaysInItsChain p = p.stops ≡ true → p.next_is_chained ≡ true
 abbrev pub SetUpWaits : Plan → Progress → Waiting → Type 0
 SetUpWaits plan p w = (is_preparing plan p w ≡ true) × (0 < p.prepared)
 
--- no command may be sent: the station hasn't synchronized; or there is no room; or some request hasn't timed out, and either
--- all that may be sent was sent (`IsHeld`), or the setup waits for an answer (`SetUpWaits`), and some commands are outstanding,
--- or none of the last seven requests is a call of the table that a reply ended, or the end of the run was asked for, and the
--- station is between two chains
+-- no command may be sent: the station hasn't synchronized; or there is no room; or some request hasn't timed out, and one of
+-- three holds. Commands are outstanding, and the next one waits until they are settled (`IsHeld`, or `SetUpWaits` for the
+-- setup); or none of the last seven requests is a call of the table that a reply ended; or the end of the run was asked for,
+-- and the station is between two chains
 abbrev pub NothingMayGo : Plan → Progress → Waiting → Type 0
 NothingMayGo plan p w =
     (has_begun p ≡ false)
@@ -70,7 +70,8 @@ abbrev pub WantsNull : Plan → Progress → Waiting → Type 0
 WantsNull plan p w = ((IsHeld p ⊎ SetUpWaits plan p w) × (0 < w.commands)) ⊎ ((((0 < p.unsent) × MayGo p w) ⊎ MayPrepare plan p w) × (WINDOW ≤ p.behind))
 
 -- the connection is to be closed though no call of the link failed: all is done; all turns are used up; no command may be sent,
--- and the line is dead; the run is stale; or its end was asked for, and it may end here
+-- and the line is dead; a command of the setup wasn't answered well; the run is stale; or its end was asked for, and it may end
+-- here
 abbrev pub IsAtItsEnd : Plan → Progress → Waiting → Cause → Type 0
 IsAtItsEnd plan p w Done = (p.left ≡ 0) × (p.unsent ≡ 0) × (w.commands ≡ 0)
 IsAtItsEnd plan p w Dead = NothingMayGo plan p w × (is_dead plan p w ≡ true)
@@ -81,33 +82,36 @@ IsAtItsEnd plan p w Stale = is_stale plan p w ≡ true
 IsAtItsEnd plan p w Stopped = (p.stops ≡ true) × IsResting p w
 IsAtItsEnd plan p w _ = ⊥
 
--- there is a connection to be closed for this cause; a run that is stale, or whose end was asked for, ends without one, too
+-- there is a connection, which is to be closed for this cause. For `Stale` and `Stopped` there may be none: the run ends
+-- without one, too
 abbrev pub HasConnectionFor : Cause → Progress → Type 0
 HasConnectionFor Stale p = Unit {0}
 HasConnectionFor Stopped p = Unit {0}
 HasConnectionFor _ p = is_up p.phase ≡ true
 
--- what holds if this action is the next one; nothing is said of reading the clock and of a read
-abbrev pub IsFor : Plan → Progress → Waiting → Action → Type 0
-IsFor plan p w action.ReadClock = Unit {0}
+-- what holds at the progress `p` with the outstanding requests `w` if this action is the next one; nothing is said of reading
+-- the clock and of a read
+abbrev pub HoldsBefore : Plan → Progress → Waiting → Action → Type 0
+HoldsBefore plan p w action.ReadClock = Unit {0}
 -- the station resynchronizes where seven are outstanding, which have all timed out
-IsFor plan p w action.Renew = (p.phase ≡ phase.Ready) × (has_begun p ≡ true) × (w.current ≡ 0) × (WINDOW ≤ w.all)
-IsFor plan p w action.Begin = (p.phase ≡ phase.Ready) × (has_begun p ≡ true) × (p.unsent ≡ 0) × (w.commands ≡ 0) × (0 < p.left) × (p.stops ≡ false) × (is_preparing plan p w ≡ false)
-IsFor plan p w action.Open = p.phase ≡ phase.Down
-IsFor plan p w action.Clear = p.phase ≡ phase.Clearing
+HoldsBefore plan p w action.Renew = (p.phase ≡ phase.Ready) × (has_begun p ≡ true) × (w.current ≡ 0) × (WINDOW ≤ w.all)
+HoldsBefore plan p w action.Begin = (p.phase ≡ phase.Ready) × (has_begun p ≡ true) × (p.unsent ≡ 0) × (w.commands ≡ 0) × (0 < p.left) × (p.stops ≡ false) × (is_preparing plan p w ≡ false)
+HoldsBefore plan p w action.Open = p.phase ≡ phase.Down
+HoldsBefore plan p w action.Clear = p.phase ≡ phase.Clearing
 -- the null procedure of a synchronization is sent, and again at its deadline, unless the cycle is done and the next isn't due
-IsFor plan p w action.Ask = (p.phase ≡ phase.Ready) × (has_begun p ≡ false) × (p.again ≤ p.moment.elapsed) × (is_idle plan p ≡ false)
+HoldsBefore plan p w action.Ask = (p.phase ≡ phase.Ready) × (has_begun p ≡ false) × (p.again ≤ p.moment.elapsed) × (is_idle plan p ≡ false)
 -- no command of the setup is sent if the end of the run was asked for
-IsFor plan p w action.Prepare = (p.phase ≡ phase.Ready) × (has_begun p ≡ true) × MayPrepare plan p w × HasRoom plan w × (p.behind < WINDOW) × (p.stops ≡ false)
+HoldsBefore plan p w action.Prepare = (p.phase ≡ phase.Ready) × (has_begun p ≡ true) × MayPrepare plan p w × HasRoom plan w × (p.behind < WINDOW) × (p.stops ≡ false)
 -- a command of a cycle has its turn only once the setup is done
-IsFor plan p w action.Send =
+HoldsBefore plan p w action.Send =
     (p.phase ≡ phase.Ready) × (has_begun p ≡ true) × (0 < p.unsent) × HasRoom plan w × MayGo p w × (p.behind < WINDOW) × MayRetry p w × StaysInItsChain p × (is_preparing plan p w ≡ false)
-IsFor plan p w action.Skip = (p.phase ≡ phase.Ready) × (has_begun p ≡ true) × (0 < p.unsent) × (w.commands ≡ 0) × (p.next_is_chained ≡ true) × (may_go p w ≡ false) × (is_preparing plan p w ≡ false)
+HoldsBefore plan p w action.Skip =
+    (p.phase ≡ phase.Ready) × (has_begun p ≡ true) × (0 < p.unsent) × (w.commands ≡ 0) × (p.next_is_chained ≡ true) × (may_go p w ≡ false) × (is_preparing plan p w ≡ false)
 -- the further attempts of a chain are left out if all that were sent are settled, and no command of the attempt before ended as
 -- its rule names; or if nothing is sent, because the cycle is missed
-IsFor plan p w action.Pass =
+HoldsBefore plan p w action.Pass =
     (p.phase ≡ phase.Ready) × (has_begun p ≡ true) × (0 < p.unsent) × (w.commands ≡ 0) × (0 < p.next_others) × ((w.listed ≡ false) ⊎ (p.next_is_chained ≡ true)) × (is_preparing plan p w ≡ false)
-IsFor plan p w action.Flush = (p.phase ≡ phase.Ready) × (has_begun p ≡ true) × WantsNull plan p w × (w.current ≡ 0) × HasRoom plan w
-IsFor plan p w (action.Read until) = Unit {0}
-IsFor plan p w (action.Close cause) = HasConnectionFor cause p × ((p.phase ≡ phase.Closing cause) ⊎ IsAtItsEnd plan p w cause)
-IsFor plan p w (action.Stop cause) = (is_up p.phase ≡ false) × ((p.phase ≡ phase.Over cause) ⊎ ((cause ≡ Turns) × (p.turns ≡ 0)))
+HoldsBefore plan p w action.Flush = (p.phase ≡ phase.Ready) × (has_begun p ≡ true) × WantsNull plan p w × (w.current ≡ 0) × HasRoom plan w
+HoldsBefore plan p w (action.Read until) = Unit {0}
+HoldsBefore plan p w (action.Close cause) = HasConnectionFor cause p × ((p.phase ≡ phase.Closing cause) ⊎ IsAtItsEnd plan p w cause)
+HoldsBefore plan p w (action.Stop cause) = (is_up p.phase ≡ false) × ((p.phase ≡ phase.Over cause) ⊎ ((cause ≡ Turns) × (p.turns ≡ 0)))

@@ -11,33 +11,40 @@ use Rattle.gc_catalogue.specs.declared.answer.Reading.{Reading}
 use Rattle.gc_catalogue.specs.declared.asked.Asked.{Asked}
 use Rattle.gc_station.specs.Scopes.{AreReadings}
 
--- how a command ended: the moment read last before its request was sent, if it was (`sent`); the moment of its end (`utc`),
--- both by the clock of time stamps; its cycle, and its place among the tasks of the station; which command of the text it is,
--- and in which attempt; what it asked, and whom; and its ending
+-- how a command ended
 pub record Record : Type 0 where
+  -- the moment read last before its request was sent, by the clock of time stamps; `None` if it wasn't sent
   pub sent : Option ℕ
+  -- the moment of its end, by the clock of time stamps; of a missed command the moment at which its cycle was due
   pub utc : ℕ
+  -- its cycle, counted from 1; 0 for a command of the setup
   pub cycle : ℕ
+  -- its place in the station's list, counted from 0
   pub place : ℕ
+  -- which command of the text it is, and in which attempt
   pub turn : Turn
+  -- what it asked, and of which target
   pub command : Wish
+  -- its ending
   pub end : End
 
 -- the record of a command with this stamp and this ending, as contracts see it
 abbrev pub record_seen : Stamp → Wish → Ending → Record
 record_seen stamp command ending = record { sent = stamp.sent; utc = stamp.utc; cycle = stamp.cycle; place = stamp.place; turn = stamp.turn; command = command; end = ending_seen ending }
 
--- a text was written whole, or if the write failed (`Err`) a first part of it, which isn't all
+-- a write of `text` with this result, after which a book that had taken `old` has taken `new`: the whole text, or if the write
+-- failed (`Err`) a first part that isn't all of it
 abbrev pub Writes : {X E : Type 0} → Option (List ℕ) → Option (List ℕ) → List ℕ → Result X E → Type 0
 Writes old new text (Ok _) = Appends old new text
 Writes old new text (Err _) = (part : ℕ) × (part < length text) × Appends old new (take part text)
 
--- the texts of records, one after the other
+-- the texts of `records`, one after the other, each as `text` writes it
 abbrev pub texts_of : (Record → List ℕ) → List Record → List ℕ
 texts_of text records = flat_map text records
 
--- a book that was to write the records `all`, in order, broke off within the record `next`, which comes after those of
--- `before`: all records before `next` were written whole, and of `next` only a first part
+-- a book that had taken `old` and was to take the records `all`, in order, failed within the record `next`, which comes after
+-- those of `before`: it has taken all records before `next` whole, and of `next` only a first part. `new` is what it has taken
+-- then
 pub record WritesPart (text : Record → List ℕ) (before all : List Record) (old new : Option (List ℕ)) : Type 0 where
   pub earlier : List Record
   pub next : Record
@@ -47,14 +54,22 @@ pub record WritesPart (text : Record → List ℕ) (before all : List Record) (o
   pub not_all : part < length (text next)
   pub took : Appends old new (texts_of text (before ++ earlier) ++ take part (text next))
 
--- all these records were written whole; or, if the book failed, those of `before`, and a part of the others
+-- a book that had taken `old` has taken `new`: the texts of the records `all`, whole; or if it failed (`Err`), those of
+-- `before`, and a part of the others
 abbrev pub WritesAll : {X E : Type 0} → (Record → List ℕ) → List Record → List Record → Option (List ℕ) → Option (List ℕ) → Result X E → Type 0
 WritesAll text before all old new (Ok _) = Appends old new (texts_of text all)
 WritesAll text before all old new (Err _) = WritesPart text before all old new
 
--- for each function `reads` that gives replies' readings: a book that had taken the texts of the records `before` wrote those of `news`
--- after them; or it failed, and wrote a part of these
+-- a book that had taken `old`, which ends with the texts of some records `before`, has taken `new`: the texts of the records
+-- `news reads` besides, whole, or if it failed (`Err`) a part of them. This holds for each function `reads` that gives replies'
+-- readings
 abbrev pub WritesNews : {X E : Type 0} → (Record → List ℕ) → (old new : Option (List ℕ)) → (news : (Asked → List ℕ → Reading) → List Record) → Result X E → Type 0
 WritesNews text old new news result =
     (reads : Asked → List ℕ → Reading) (start : Option (List ℕ)) (before : List Record)
     → AreReadings reads → Appends start old (texts_of text before) → WritesAll text before (before ++ news reads) start new result
+
+-- a book that had taken `old`, which ends with the texts of some records `before`, has taken `new`: the texts of the records
+-- `news` besides, whole, or if it failed (`Err`) a part of them
+abbrev pub WritesMore : {X E : Type 0} → (Record → List ℕ) → (old new : Option (List ℕ)) → (news : List Record) → Result X E → Type 0
+WritesMore text old new news result =
+    (start : Option (List ℕ)) (before : List Record) → Appends start old (texts_of text before) → WritesAll text before (before ++ news) start new result

@@ -10,40 +10,45 @@ use Rattle.gc_texts.specs.Tasks.{call_at}
 use Rattle.gc_texts.specs.declared.tasks.Task.{Task}
 use Rattle.gc_texts.specs.declared.wish.Wish.{Wish}
 
--- a request of a run: of which cycle and place it is, whom it is for, and what it asks for
+-- a request of a run
 pub record Request : Type 0 where
+  -- its cycle, counted from 1; 0 for the setup
   pub cycle : ℕ
+  -- its command's place in the station's list, counted from 0
   pub place : ℕ
+  -- its target and its call
   pub asked : Wanted Asked
 
--- the requests of one cycle, of which the first has this place
+-- the requests of the cycle `cycle` for these targets and calls; the first one has the place `place`, and each further one the
+-- next place
 abbrev pub requests : ℕ → ℕ → List (Wanted Asked) → List Request
 requests cycle place [] = []
 requests cycle place (a ∷ others) = record { cycle = cycle; place = place; asked = a } ∷ requests cycle (place + 1) others
 
--- what a command asks, and whom
+-- the target and the call of the command `c`
 abbrev pub of_command : Wish → Wanted Asked
 of_command c = record { target = c.target; call = c.call }
 
--- what a command asks as the text has it: without its moment, if it sets the clock (`true`)
+-- a call as the text has it. If its command sets the clock (`true`), that is the call for the beginning of 1970; otherwise
+-- `call` itself
 abbrev pub untimed : Bool → Asked → Asked
 untimed true call = Table (SetDate (date_time 0))
 untimed false call = call
 
--- what the command of a task asks as the text has it, and whom
+-- the target and the call of the command of `task`, as the text has it
 abbrev pub of_task : Task → Wanted Asked
 of_task task = record { target = task.command.target; call = untimed task.now task.command.call }
 
--- the command of a task where its request is sent at this moment
+-- the command of `task` if its request is sent at the moment `utc`, by the clock of time stamps
 abbrev pub command_at : ℕ → Task → Wish
 command_at utc task = record { target = task.command.target; call = call_at task utc }
 
--- the command of a task whose request was sent at this moment; if it wasn't sent (`None`), the command as in the text
+-- the command of `task` if its request was sent at this moment; if it wasn't sent (`None`), the command as in the text
 abbrev pub command_sent : Option ℕ → Task → Wish
 command_sent None task = task.command
 command_sent (Some utc) task = command_at utc task
 
--- what the request of a task asks that is sent at this moment, and whom
+-- the target and the call of the command of `task` if its request is sent at the moment `utc`
 abbrev pub asked_at : ℕ → Task → Wanted Asked
 asked_at utc task = of_command (command_at utc task)
 
@@ -52,6 +57,6 @@ abbrev pub sets_clock : List Task → Bool
 sets_clock [] = false
 sets_clock (task ∷ others) = task.now
 
--- a request of these commands, as the text has it: without its moment, where its command sets the clock
+-- the request `x` for one of these commands, as the text has it: without its moment if its command sets the clock
 abbrev pub in_text : List Task → Request → Request
 in_text commands x = record x { asked = record x.asked { call = untimed (sets_clock (drop x.place commands)) x.asked.call } }

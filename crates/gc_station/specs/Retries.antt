@@ -19,36 +19,39 @@ use Rattle.gc_station.specs.Scopes.{Scope}
 use Rattle.gc_station.specs.declared.plan.Plan.{Plan}
 use Rattle.gc_station.specs.declared.progress.Action.TheVariants.{Send, Pass}
 
--- after which ends a command is sent again, if the text says this of it; none if it is of the setup (`true`), which is no chain
+-- the endings after which a chain is sent again, if the text says `again` of a command of it; for a command of the setup
+-- (`true`) none, since it is of no chain
 abbrev pub rule_as : Bool → Again → Again
 rule_as true again = no_again
 rule_as false again = again
 
--- after which ends of the command at this place of this cycle its chain is sent again; the setup has cycle 0
+-- the endings of the command at this cycle and place after which its chain is sent again. Cycle 0 is the setup
 abbrev pub rule_at : List Task → ℕ → ℕ → Again
 rule_at commands cycle place = rule_as (nat_eq cycle 0) (expected_first (drop place commands)).again
 
--- the turn of a command of which the text says this turn; if it is of the setup (`true`), that of this attempt of the setup,
--- which no attempt of a chain begins with
+-- the turn of a command of which the text says `turn`. A command of the setup (`true`) has the attempt `attempt` of the setup
+-- in its turn, and link 1, since no attempt of a chain begins with it
 abbrev pub turn_as : Bool → ℕ → Turn → Turn
 turn_as true attempt turn = record turn { attempt = attempt; link = 1 }
 turn_as false attempt turn = turn
 
--- the turn of the command at this place of this cycle; if it is of the setup, that of this attempt of the setup
+-- the turn of the command at this cycle and place. For a command of the setup, which has cycle 0, `attempt` is the attempt of
+-- the setup
 abbrev pub turn_at : List Task → ℕ → ℕ → ℕ → Turn
 turn_at commands cycle attempt place = turn_as (nat_eq cycle 0) attempt (expected_first (drop place commands)).turn
 
--- the return code other than 0 of a command that ended so, if a reply answered it that has one, with communication code 0
-abbrev pub code_said : (Asked → List ℕ → Reading) → Asked → End → Option ℕ
-code_said reads call (Answered quality answer line) = code_in (reads call line)
-code_said reads call _ = None
+-- the return code other than 0 of the reply to `call`, if the command ended as answered and the reply has one, with
+-- communication code 0. `reads` gives what a line says of a call
+abbrev pub code_of_end : (Asked → List ℕ → Reading) → Asked → End → Option ℕ
+code_of_end reads call (Answered quality answer line) = code_in (reads call line)
+code_of_end reads call _ = None
 
--- whether a record is of a command that ended as the rule of its chain names
+-- whether the record `r` is of a command that ended as the rule of its chain names
 abbrev pub is_listed : (Asked → List ℕ → Reading) → List Task → Record → Bool
-is_listed reads commands r = is_named (rule_at commands r.cycle r.place) (code_said reads r.command.call r.end) r.end
+is_listed reads commands r = is_named (rule_at commands r.cycle r.place) (code_of_end reads r.command.call r.end) r.end
 
--- one of these records is of a command that ended as the rule of its chain names, and no attempt begins after it: it is of the
--- attempt that the last of them is of
+-- among `records` is one (`one`) of a command that ended as the rule of its chain names; and no attempt begins after it
+-- (`same`), so it is of the same attempt as the last record
 pub record HasListed (reads : Asked → List ℕ → Reading) (commands : List Task) (records : List Record) : Type 0 where
   pub front : List Record
   pub one : Record
@@ -61,21 +64,24 @@ pub record HasListed (reads : Asked → List ℕ → Reading) (commands : List T
 abbrev pub IsFurtherAttempt : Plan → List Task → Model → Type 0
 IsFurtherAttempt plan commands s = (plan.setup < place_next commands s.progress) × (0 < others_in (drop (place_next commands s.progress) commands))
 
--- a further attempt is sent only if all commands that were sent are settled, and one of the attempt before ended as its rule
--- names. Only further attempts are left out, if all commands that were sent are settled, and none of the attempt before ended
--- as its rule names; or if the cycle is missed, or the command is chained, which the first of an attempt never is
-pub record GoesOutAgainForACause : Type 0 where
+-- why further attempts are sent or left out
+pub record FurtherAttemptsHaveACause : Type 0 where
+  -- if a further attempt is begun, all commands that were sent are settled, and one of the attempt before ended as its rule
+  -- names
   pub goes : (plan : Plan) (commands : List Task) (scope : Scope) (acts : List Act) → Runs plan commands (opening plan scope) acts
       → action_at plan (state_after plan commands scope acts) ≡ Send → IsFurtherAttempt plan commands (state_after plan commands scope acts)
       → (commands_in (state_after plan commands scope acts).marks ≡ 0) × HasListed scope.reads commands (state_after plan commands scope acts).records
+  -- only further attempts are left out, once all commands that were sent are settled: if none of the attempt before ended as
+  -- its rule names, or the cycle is missed, or the next command is chained, which the first of an attempt never is
   pub passes : (plan : Plan) (commands : List Task) (scope : Scope) (acts : List Act) → Runs plan commands (opening plan scope) acts
       → action_at plan (state_after plan commands scope acts) ≡ Pass
       → let s = state_after plan commands scope acts in
       IsFurtherAttempt plan commands s × (commands_in s.marks ≡ 0)
       × ((HasListed scope.reads commands s.records → ⊥) ⊎ ((s.progress.missed ≡ true) ⊎ (is_chained (drop (place_next commands s.progress) commands) ≡ true)))
 
--- each record has the turn of the command at its place of its cycle; one of the setup has the attempt of the setup in it
-abbrev pub TurnsAreTheTexts : Type 0
-TurnsAreTheTexts =
+-- after any acts, each record has the turn of the command at its cycle and place (`turn_at`); one of the setup has the attempt
+-- of the setup in it
+abbrev pub EachRecordHasItsTurn : Type 0
+EachRecordHasItsTurn =
     (plan : Plan) (commands : List Task) (scope : Scope) (acts : List Act)
     → AllByRecursion (λ r. r.turn ≡ turn_at commands r.cycle r.turn.attempt r.place) (state_after plan commands scope acts).records

@@ -9,8 +9,8 @@ use Rattle.gc_station.specs.Runs.{state_after}
 use Rattle.gc_station.specs.Scopes.{Scope}
 use Rattle.gc_station.specs.Model.{action_at}
 
--- if a request is sent next that isn't a synchronization's, fewer are in flight than the plan's width, or none is; and fewer
--- than seven are outstanding in all
+-- if a request of the client is sent next (`IsAsking`), fewer requests that haven't timed out are in flight than the plan's
+-- width, or none is; and fewer than seven are outstanding in all
 abbrev pub RequestsHaveRoom : Type 0
 RequestsHaveRoom =
     (plan : Plan) (commands : List Task) (scope : Scope) (acts : List Act) → IsAsking (action_at plan (state_after plan commands scope acts))

@@ -14,14 +14,15 @@ use Rattle.gc_links.specs.Acts.{Act, Closed, Tells}
 use Rattle.gc_station.specs.Records.{Record, texts_of, WritesPart}
 use Rattle.gc_station.specs.Model.{Model, opening, action_at, after_all, Runs}
 use Rattle.gc_station.specs.Tallies.{tally_of}
-use Rattle.gc_station.specs.Scopes.{Scope}
+use Rattle.gc_station.specs.Scopes.{Scope, scoped, ForEachReadings, ForReadings}
 
--- the model of a station after these acts, from the start on
+-- the model of a station after `acts`, which begin a run
 abbrev pub state_after : Plan → List Task → Scope → List Act → Model
 state_after plan commands scope acts = after_all plan commands (opening plan scope) acts
 
--- a link recorded these acts, each the one that was to be made next; then none was, for this cause; the book took the records
--- of the acts, and the tally counts them
+-- a run ended for `cause` with `tally`. From `told` to `told'` the link recorded `acts`, each the one that was to be made next;
+-- after them none was. From `taken` to `taken'` the book took the texts of the records of these acts, and `tally` counts these
+-- records
 pub record RanTo (plan : Plan) (commands : List Task) (scope : Scope) (text : Record → List ℕ) (told told' : Option (List Act))
     (taken taken' : Option (List ℕ)) (cause : Cause) (tally : Tally) : Type 0 where
   pub acts : List Act
@@ -31,48 +32,65 @@ pub record RanTo (plan : Plan) (commands : List Task) (scope : Scope) (text : Re
   pub took : Appends taken taken' (texts_of text (state_after plan commands scope acts).records)
   pub counts : tally ≡ tally_of (state_after plan commands scope acts).records
 
--- a link recorded these acts, each the one that was to be made next, and after the last one that the connection was closed, and
--- nothing else; the book took the records of the acts before the last one whole, and of those that this one records a part,
--- from the front
-pub record BrokeAt (plan : Plan) (commands : List Task) (scope : Scope) (text : Record → List ℕ) (told told' : Option (List Act)) (taken taken' : Option (List ℕ)) : Type 0 where
+-- a run in which the book failed at a record. From `told` to `told'` the link recorded `acts` and `last`, each the one that was
+-- to be made next, and after them a close. From `taken` to `taken'` the book took the texts of all records of `acts`, and of
+-- the records that `last` adds a part
+pub record FailedAtRecord (plan : Plan) (commands : List Task) (scope : Scope) (text : Record → List ℕ) (told told' : Option (List Act)) (taken taken' : Option (List ℕ)) : Type 0 where
   pub acts : List Act
   pub last : Act
   pub tells : Tells told told' (acts ++ last ∷ (Closed ∷ []))
   pub runs : Runs plan commands (opening plan scope) (acts ++ last ∷ [])
   pub took : WritesPart text (state_after plan commands scope acts).records (state_after plan commands scope (acts ++ last ∷ [])).records taken taken'
 
--- a link recorded these acts, each the one that was to be made next, and after them that the connection was closed, and nothing
--- else; the book took the records of all of them, and couldn't make them last
-pub record LeftAt (plan : Plan) (commands : List Task) (scope : Scope) (text : Record → List ℕ) (told told' : Option (List Act)) (taken taken' : Option (List ℕ)) : Type 0 where
+-- a run in which the book couldn't make its records last. From `told` to `told'` the link recorded `acts`, each the one that
+-- was to be made next, and after them a close. From `taken` to `taken'` the book took the texts of all records of these acts
+pub record FailedAtSync (plan : Plan) (commands : List Task) (scope : Scope) (text : Record → List ℕ) (told told' : Option (List Act)) (taken taken' : Option (List ℕ)) : Type 0 where
   pub acts : List Act
   pub tells : Tells told told' (acts ++ Closed ∷ [])
   pub runs : Runs plan commands (opening plan scope) acts
   pub took : Appends taken taken' (texts_of text (state_after plan commands scope acts).records)
 
--- a run stopped for this cause, with this tally; or the book failed
+-- a run in which the book failed: at a record (`FailedAtRecord`), or when its records were to be made durable (`FailedAtSync`)
+abbrev pub BookFailed : Plan → List Task → Scope → (Record → List ℕ) → Option (List Act) → Option (List Act) → Option (List ℕ) → Option (List ℕ) → Type 0
+BookFailed plan commands scope text told told' taken taken' =
+    FailedAtRecord plan commands scope text told told' taken taken' ⊎ FailedAtSync plan commands scope text told told' taken taken'
+
+-- a run with this result: it ended for the cause of the result, with its tally (`Ok`); or the book failed (`Err`)
 abbrev pub EndsAs : {E : Type 0} → Plan → List Task → Scope → (Record → List ℕ) → Option (List Act) → Option (List Act) → Option (List ℕ) → Option (List ℕ)
     → Result (Cause × Tally) E → Type 0
 EndsAs plan commands scope text told told' taken taken' (Ok end) = RanTo plan commands scope text told told' taken taken' end.0 end.1
-EndsAs plan commands scope text told told' taken taken' (Err _) =
-    BrokeAt plan commands scope text told told' taken taken' ⊎ LeftAt plan commands scope text told told' taken taken'
+EndsAs plan commands scope text told told' taken taken' (Err _) = BookFailed plan commands scope text told told' taken taken'
 
--- a run came to this result: it stopped for a cause without a fault, because it is done or its end was asked for, or for a cause with
--- this fault, or the book failed
+-- a run with this result. `Ok`: it ended for a cause without a fault, because it is done or its end was asked for. `Err
+-- Output`: the book failed. Any other fault: it ended for a cause with that fault
 abbrev pub Ran : Plan → List Task → Scope → (Record → List ℕ) → Option (List Act) → Option (List Act) → Option (List ℕ) → Option (List ℕ) → Result Tally RunFault → Type 0
 Ran plan commands scope text told told' taken taken' (Ok tally) =
     (cause : Cause) × RanTo plan commands scope text told told' taken taken' cause tally × (fault_of cause ≡ None)
-Ran plan commands scope text told told' taken taken' (Err Output) =
-    BrokeAt plan commands scope text told told' taken taken' ⊎ LeftAt plan commands scope text told told' taken taken'
+Ran plan commands scope text told told' taken taken' (Err Output) = BookFailed plan commands scope text told told' taken taken'
 Ran plan commands scope text told told' taken taken' (Err fault) =
     (cause : Cause) × (tally : Tally) × RanTo plan commands scope text told told' taken taken' cause tally × (fault_of cause ≡ Some fault)
 
--- after a run with the fault `Output` its book has failed (`new`); after any other run whether the book has failed is as before (`old`)
+-- a run with this result and at most `turns` acts ended as `EndsAs` says, for each function that gives each line's reading for a
+-- call. From `told` to `told'` its link recorded the acts, and from `taken` to `taken'` its book took the records by `text`
+abbrev pub EndsForReadings : {E : Type 0} → Plan → List Task → (turns : ℕ) → (Record → List ℕ) → (told told' : Option (List Act)) → (taken taken' : Option (List ℕ)) → Result (Cause × Tally) E → Type 0
+EndsForReadings plan commands turns text told told' taken taken' result =
+    ForEachReadings (λ reads. EndsAs plan commands (scoped turns reads) text told told' taken taken' result)
+
+-- a run with this result and at most `turns` acts is as `Ran` says, for each function that gives each line's reading for a call;
+-- and there is such a function. From `told` to `told'` its link recorded the acts, and from `taken` to `taken'` its book took the
+-- records by `text`
+abbrev pub RanForReadings : Plan → List Task → (turns : ℕ) → (Record → List ℕ) → (told told' : Option (List Act)) → (taken taken' : Option (List ℕ)) → Result Tally RunFault → Type 0
+RanForReadings plan commands turns text told told' taken taken' result =
+    ForReadings (λ reads. Ran plan commands (scoped turns reads) text told told' taken taken' result)
+
+-- after a run with the fault `Output` its book has failed (`new`); after any other run the book has failed only if it had
+-- before (`old`)
 abbrev pub FailsAtOutput : {X : Type 0} → Bool → Bool → Result X RunFault → Type 0
 FailsAtOutput old new (Ok _) = new ≡ old
 FailsAtOutput old new (Err Output) = new ≡ true
 FailsAtOutput old new (Err fault) = new ≡ old
 
--- all records are durable, unless the book failed
+-- after a run with this result all records are durable; nothing is said if the book failed (`Output`)
 abbrev pub LastsBut : {X : Type 0} → Bool → Result X RunFault → Type 0
 LastsBut is_durable (Ok _) = is_durable ≡ true
 LastsBut is_durable (Err Output) = Unit {0}

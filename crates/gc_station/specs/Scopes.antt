@@ -6,12 +6,14 @@ use Rattle.gc_catalogue.specs.declared.asked.Asked.{Asked}
 use Rattle.gc_catalogue.specs.Asked.{IsAskedReading}
 use Rattle.gc_client.specs.Settlements.{ReadsBy}
 
--- how many acts a run makes at most, and what each reply says of its call
+-- what a run is given besides its plan and commands
 pub record Scope : Type 0 where
+  -- how many acts it makes at most
   pub turns : ℕ
+  -- what the line of a reply says of a call
   pub reads : Asked → List ℕ → Reading
 
--- this function gives each line's reading for a call, wherever there is one
+-- `reads` gives the reading of each line for each call, wherever the line has one
 abbrev pub AreReadings : (Asked → List ℕ → Reading) → Type 0
 AreReadings reads = (call : Asked) (line : List ℕ) (reading : Reading) → ReadsBy IsAskedReading call line reading → reads call line ≡ reading
 
@@ -23,6 +25,14 @@ OneReadingForALine = (call : Asked) (line : List ℕ) (x y : Reading) → ReadsB
 abbrev pub SomeReadings : Type 0
 SomeReadings = (reads : Asked → List ℕ → Reading) × AreReadings reads
 
--- the claim `Holds` is true of every function that gives each reply's reading for its call, and there is such a function
+-- the scope of a run with at most `turns` acts, in which `reads` gives what the line of a reply says of a call
+abbrev pub scoped : ℕ → (Asked → List ℕ → Reading) → Scope
+scoped turns reads = record { turns = turns; reads = reads }
+
+-- `Holds` is true of every function that gives each line's reading for a call
+abbrev pub ForEachReadings : ((Asked → List ℕ → Reading) → Type 0) → Type 0
+ForEachReadings Holds = (reads : Asked → List ℕ → Reading) → AreReadings reads → Holds reads
+
+-- `Holds` is true of every function that gives each line's reading for a call, and there is such a function
 abbrev pub ForReadings : ((Asked → List ℕ → Reading) → Type 0) → Type 0
-ForReadings Holds = ((reads : Asked → List ℕ → Reading) → AreReadings reads → Holds reads) × ((reads : Asked → List ℕ → Reading) × AreReadings reads × Holds reads)
+ForReadings Holds = ForEachReadings Holds × ((reads : Asked → List ℕ → Reading) × AreReadings reads × Holds reads)

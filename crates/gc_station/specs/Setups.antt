@@ -19,11 +19,15 @@ use Rattle.gc_station.specs.Scopes.{Scope}
 
 -- Which commands of the setup were sent.
 
--- of a command: its cycle, its place, its attempt, and the moment read last before it was sent; `sent` is none if it wasn't
+-- a command that was sent, or left out
 pub record Dispatch : Type 0 where
+  -- its cycle, counted from 1; 0 for a command of the setup
   pub cycle : ℕ
+  -- its place in the station's list, counted from 0
   pub place : ℕ
+  -- its attempt: of its chain, or for a command of the setup, of the setup
   pub attempt : ℕ
+  -- the moment read last before it was sent, by the clock of time stamps; `None` if it wasn't sent
   pub sent : Option ℕ
 
 -- the dispatch of the command that a record is of
@@ -40,7 +44,7 @@ dispatches_of [] = []
 dispatches_of (None ∷ marks) = dispatches_of marks
 dispatches_of (Some mark ∷ marks) = dispatch_of_mark mark ∷ dispatches_of marks
 
--- these commands, with this one first if it is of the setup (`true`)
+-- `xs`, with `x` before them if it is of the setup (`true`)
 abbrev pub setup_with : Bool → Dispatch → List Dispatch → List Dispatch
 setup_with true x xs = x ∷ xs
 setup_with false x xs = xs
@@ -50,23 +54,24 @@ abbrev pub of_setup : List Dispatch → List Dispatch
 of_setup [] = []
 of_setup (x ∷ xs) = setup_with (nat_eq x.cycle 0) x (of_setup xs)
 
--- the dispatch of the first of these commands, with this mark; none if there is no command
+-- the first of these commands, as it is sent with `mark`; none if there is no command
 abbrev pub sent_first : Mark → List Task → List Dispatch
 sent_first mark [] = []
 sent_first mark (task ∷ others) = dispatch_of_mark mark ∷ []
 
--- the command of the setup that an act of this action sends, if it sends one
+-- the command of the setup that an act of this action sends, if the station has the model `s` before it; none if the action is
+-- another one
 abbrev pub sent_as : Action → List Task → Model → List Dispatch
 sent_as Prepare commands s = sent_first (mark_setup commands s.progress) (drop s.progress.prepared commands)
 sent_as _ commands s = []
 
--- the commands of the setup that these acts send, from this model on, in order
+-- the commands of the setup that these acts send, in order, from the model `s` on
 abbrev pub setup_sent_by : Plan → List Task → Model → List Act → List Dispatch
 setup_sent_by plan commands s [] = []
 setup_sent_by plan commands s (act ∷ acts) = sent_as (action_at plan s) commands s ++ setup_sent_by plan commands (after plan commands s act) acts
 
--- each command of the setup that was sent, in order, has one record of cycle 0 or, after the records, is outstanding; and if
--- the run stopped, none is outstanding
+-- after `acts`, which begin a run: each command of the setup that was sent, in order, has one record or, after the records, is
+-- outstanding (`each`); and if the run stopped, none is outstanding (`settled`)
 pub record EachSetUpOnce (plan : Plan) (commands : List Task) (scope : Scope) (acts : List Act) : Type 0 where
   pub each :
       of_setup (map dispatch_of_record (state_after plan commands scope acts).records ++ dispatches_of (state_after plan commands scope acts).marks)
@@ -76,37 +81,38 @@ pub record EachSetUpOnce (plan : Plan) (commands : List Task) (scope : Scope) (a
 
 -- Attempts.
 
--- of two commands of the setup, y is the one after x: the next one in the same attempt, or the first one in the next attempt.
+-- `y` is the command of the setup that follows `x`: the next one in the same attempt, or the first one in the next attempt.
 -- Attempts count up to 2^64 - 1
 abbrev pub IsNextAfter : Dispatch → Dispatch → Type 0
 IsNextAfter x y = ((y.attempt ≡ x.attempt) × (y.place ≡ x.place + 1)) ⊎ ((y.attempt ≡ later x.attempt 1) × (y.place ≡ 0))
 
--- each of these commands is the next after the one before it (`IsNextAfter`); the first is the next after x
+-- each of these commands of the setup follows the one before it (`IsNextAfter`), and the first one follows `x`
 abbrev pub GoOn : Dispatch → List Dispatch → Type 0
 GoOn x [] = Unit {0}
 GoOn x (y ∷ ys) = IsNextAfter x y × GoOn y ys
 
--- the first of these commands is the first one of attempt 1, and each further one is the next after the one before it
+-- the first of these commands of the setup is the first one of attempt 1, and each further one follows the one before it
+-- (`IsNextAfter`)
 abbrev pub AreInOrder : List Dispatch → Type 0
 AreInOrder [] = Unit {0}
 AreInOrder (x ∷ xs) = (x.attempt ≡ 1) × (x.place ≡ 0) × GoOn x xs
 
--- attempts of the setup count over the run, from 1, and each goes from the first command on, one by one, if the setup is the
--- front of the list
+-- the commands of the setup that a run sends are in order, as `AreInOrder` says, if the list has at least `plan.setup` commands
 abbrev pub SetUpsGoOn : Type 0
 SetUpsGoOn =
     (plan : Plan) (commands : List Task) (scope : Scope) (acts : List Act) → plan.setup ≤ length commands → AreInOrder (setup_sent_by plan commands (opening plan scope) acts)
 
 -- Before a command is sent.
 
--- at none of these acts a connection was closed, and the station has synchronized after each
+-- none of these acts closes the connection, and the station has synchronized after each; the station has the model `s` before
+-- them
 abbrev pub StaysUp : Plan → List Task → Model → List Act → Type 0
 StaysUp plan commands s [] = Unit {0}
 StaysUp plan commands s (act ∷ acts) = KeepsOpen act × (has_begun (after plan commands s act).progress ≡ true) × StaysUp plan commands (after plan commands s act) acts
 
--- among these acts the command of the setup at this place was sent, and was answered well; and since it was sent no connection
--- was closed, and the station didn't resynchronize. Its record, which was written since, has cycle 0, its place, the attempt of
--- the setup, and the moment of sending
+-- among `acts` the act `request` sent the command of the setup at `place`, and it was answered well. Since then no connection
+-- was closed, and the station didn't resynchronize (`stays`). Its record `answer`, which was written since, has its cycle,
+-- place and attempt, and the moment at which it was sent
 pub record IsPrepared (plan : Plan) (commands : List Task) (scope : Scope) (acts : List Act) (place : ℕ) : Type 0 where
   pub before : List Act
   pub request : Act

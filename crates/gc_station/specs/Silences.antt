@@ -10,7 +10,7 @@ use Rattle.gc_station.specs.Runs.{state_after}
 use Rattle.gc_station.specs.Model.{Model, is_reply, lines_completed, after}
 use Rattle.gc_station.specs.Scopes.{Scope}
 
--- the moment that these acts read last; if they read none, `now`
+-- the moment that these acts read last; `now` if they read none
 abbrev pub latest : ℕ → List Act → ℕ
 latest now [] = now
 latest now (Told m ∷ acts) = latest m.elapsed acts
@@ -18,21 +18,22 @@ latest now (Gave bytes m ∷ acts) = latest m.elapsed acts
 latest now (Silent m ∷ acts) = latest m.elapsed acts
 latest now (act ∷ acts) = latest now acts
 
--- a line doesn't read as a reply
+-- `line` doesn't read as a reply
 abbrev pub IsNoReply : List ℕ → Type 0
 IsNoReply line = is_reply line ≡ false
 
--- an act brings no line that reads as a reply, where `rest` are the bytes since the last line feed
+-- the act completes no line that reads as a reply, if `rest` are the bytes before it since the last line feed
 abbrev pub BringsNoReply : List ℕ → Act → Type 0
 BringsNoReply rest (Gave piece m) = AllByRecursion IsNoReply (lines_completed rest piece)
 BringsNoReply rest act = Unit {0}
 
--- none of these acts brings a line that reads as a reply, from this model on
+-- none of these acts completes a line that reads as a reply, from the model `s` on
 abbrev pub IsMute : Plan → List Task → Model → List Act → Type 0
 IsMute plan commands s [] = Unit {0}
 IsMute plan commands s (act ∷ acts) = BringsNoReply s.rest act × IsMute plan commands (after plan commands s act) acts
 
--- after these acts the clock goes back to the moment `from`: the moment that they read last is later
+-- after `acts` the clock goes back to the moment `from`: one of them read a moment (`told`), and the last one read is later
+-- than `from`
 pub record WentBack (from : ℕ) (acts : List Act) : Type 0 where
   pub earlier : List Act
   pub act : Act
@@ -42,9 +43,9 @@ pub record WentBack (from : ℕ) (acts : List Act) : Type 0 where
   pub tells : TellsMoment told act
   pub later : from < latest told others
 
--- after an act that read a moment, `start`, no line that reads as a reply came on the same connection, and the moment that was
--- read last is at least `wait` milliseconds later. After `start` no request was sent, or one was sent at once, so that its
--- reply had all that time; or the clock went back at `start`
+-- among `acts` the act `start` read the moment `from`. After it, on the same connection, no line came that reads as a reply,
+-- and the moment that was read last is at least `wait` milliseconds later. After `start` no request was sent, or one was sent
+-- at once, so that its reply had all that time; or the clock went back at `start`
 pub record IsMuteFor (wait : ℕ) (plan : Plan) (commands : List Task) (scope : Scope) (acts : List Act) : Type 0 where
   pub before : List Act
   pub start : Act

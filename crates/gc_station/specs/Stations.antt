@@ -1,11 +1,16 @@
 -- No part of a promise: what the functions of a station do to it, in terms of its model. An act is one call on the link, with
 -- its result.
-use Rattle.std.specs.Prelude.{◌≡◌, ℕ, ◌<◌, false, List, [], ◌∷◌, length, Option, Some, None, Result, Ok, Err}
+use Rattle.std.specs.Prelude.{◌≡◌, ℕ, ◌<◌, false, List, [], ◌∷◌, ◌++◌, length, drop, Option, Some, None, Result, Ok, Err}
 use Rattle.std.specs.Io.KnownBytes.{Appends}
+use Rattle.std.specs.Option.{option_to_list}
 use Rattle.gc_lines.specs.Assembler.{StandsFor}
+use Rattle.gc_lines.specs.Frames.{line_in}
+use Rattle.gc_lines.specs.Lent.{lent_seen}
+use Rattle.gc_lines.specs.declared.frame.Lent.{Lent}
 use Rattle.gc_client.specs.Rule.{deadlines}
 use Rattle.gc_client.specs.declared.window.TheConstants.{WINDOW}
 use Rattle.gc_texts.specs.declared.tasks.Task.{Task}
+use Rattle.gc_texts.specs.declared.wish.Wish.{Wish}
 use Rattle.gc_station.specs.declared.plan.Plan.{Plan}
 use Rattle.gc_station.specs.declared.cause.Cause.TheVariants as cause
 use Rattle.gc_station.specs.declared.progress.Action.{Action}
@@ -17,18 +22,20 @@ use Rattle.gc_station.specs.declared.station.sending.Asking.{Asking}
 use Rattle.gc_station.specs.declared.mark.Mark.{Mark}
 use Rattle.gc_catalogue.specs.declared.asked.Asked.TheVariants.{Table}
 use Rattle.gc_catalogue.specs.declared.call.Call.TheVariants.{NullProc}
-use Rattle.gc_links.specs.Acts.{Act, Tells}
+use Rattle.gc_links.specs.Acts.{Act, Told, Tells}
+use Rattle.gc_links.specs.declared.link.Moment.{Moment}
 use Rattle.gc_station.specs.Deciding.{has_begun}
 use Rattle.gc_station.specs.Marks.{commands_in, last_well}
 use Rattle.gc_station.specs.Scopes.{AreReadings}
 use Rattle.gc_station.specs.Progressing.{turned, failing}
 use Rattle.gc_station.specs.Records.{Record, texts_of, WritesPart}
 use Rattle.gc_station.specs.Requests.{command_at}
-use Rattle.gc_station.specs.Model.{Model, Performs, moved, ended, with_progress}
+use Rattle.gc_station.specs.Model.{Model, Performs, moved, ended, with_progress, is_heard, lines_came, after_piece, sent_to, skips, listed_unsent}
 use Rattle.gc_station.specs.Tallies.{nothing_yet, tallied}
 
--- how many requests of a station are outstanding, whether the command recorded last was answered well, and when one was
--- answered well last
+-- what a decision looks at besides the progress, of a station: how many requests are outstanding in all, of those that haven't
+-- timed out, and of commands; whether the command recorded last was answered well, and whether one of its attempt ended as its
+-- rule names; and when one was answered well last
 abbrev pub waiting_in : Station → Waiting
 waiting_in station =
     record {
@@ -40,82 +47,117 @@ waiting_in station =
       fresh = station.fresh;
     }
 
--- each outstanding request has a mark
+-- a station has one mark for each outstanding request
 abbrev pub IsPaired : Station → Type 0
 IsPaired station = length station.marks.items ≡ length station.client.ids.waiting
 
--- a station is as this model says; so are its tally, whether the last command was answered well, and when one was last, if the
--- model's `reads` gives each reply's reading for its call
+-- the model `s` describes `station`. Its tally and what it notes of its last records are as the records of `s` give them, if
+-- `s.reads` gives each reply's reading for its call
 pub record Refines (station : Station) (s : Model) : Type 0 where
+  -- the progress is the model's
   pub progress : station.progress ≡ s.progress
+  -- the client's ids and outstanding requests are the model's
   pub ids : station.client.ids ≡ s.client
+  -- the client's window is the widest: seven requests may be outstanding
   pub width : station.client.width ≡ WINDOW
+  -- the marks are the model's, one for each outstanding request
   pub marks : station.marks.items ≡ s.marks
   pub paired : length s.marks ≡ length s.client.waiting
+  -- the assembler stores the model's bytes since the last line feed
   pub assembles : StandsFor station.assembler s.rest
+  -- the tally counts the model's records
   pub tally : AreReadings s.reads → station.tally ≡ tallied nothing_yet s.records
+  -- whether the last of the model's records is of a command that was answered well
   pub well : AreReadings s.reads → station.well ≡ last_well false s.records
+  -- whether a command of the last record's attempt ended as its rule names
   pub listed : AreReadings s.reads → station.listed ≡ s.listed
+  -- when a command that was answered well was recorded last
   pub fresh : AreReadings s.reads → station.fresh ≡ s.fresh
 
--- a book took the records of a model, if the model's `reads` gives each reply's reading for its call
+-- from `start`, what it had taken before the run, to `taken` a book took the texts of the records of the model `s`, each
+-- written by `text`; if `s.reads` gives each reply's reading for its call
 abbrev pub Took : (Record → List ℕ) → Option (List ℕ) → Option (List ℕ) → Model → Type 0
 Took text start taken s = AreReadings s.reads → Appends start taken (texts_of text s.records)
 
--- a book took those records of a model that were there before, and a part of the others, if the model's `reads` gives each
--- reply's reading for its call
+-- from `start`, what it had taken before the run, to `taken` a book took the records `before`, which the model `s` had earlier,
+-- and a part of the further records of `s`; if `s.reads` gives each reply's reading for its call
 abbrev pub TookPart : (Record → List ℕ) → List Record → Option (List ℕ) → Option (List ℕ) → Model → Type 0
 TookPart text before start taken s = AreReadings s.reads → WritesPart text before s.records start taken
 
--- what is seen of a run at a moment: what its link recorded, how its book writes a record and which bytes that took, and the
--- station
+-- what contracts see of a run at a moment
 pub record Seen : Type 0 where
+  -- the acts that the link has recorded, if they are known
   pub acts : Option (List Act)
+  -- the bytes of a record, as the book writes them
   pub text : Record → List ℕ
+  -- the bytes that the book has taken, if they are known
   pub taken : Option (List ℕ)
+  -- the station
   pub station : Station
 
 -- what is seen of a run, from its four parts
 abbrev pub seen : Option (List Act) → (Record → List ℕ) → Option (List ℕ) → Station → Seen
 seen acts text taken station = record { acts = acts; text = text; taken = taken; station = station }
 
--- a link recorded one act, which performs this action. If the station was as the model s says and the book had taken its
--- records, the station is then as `next s act` says, and the book has taken the records of that
+-- between `old` and `new` the link recorded one act, and it performs `action`. If the model `s` describes the station before
+-- it, and the book had taken the records of `s`, then `next s act` describes the station after it, and the book has taken the
+-- records of that model
 pub record Makes (commands : List Task) (action : Action) (next : Model → Act → Model) (old new : Seen) : Type 0 where
   pub act : Act
   pub tells : Tells old.acts new.acts (act ∷ [])
   pub goes : (s : Model) (start : Option (List ℕ)) → Refines old.station s → Took old.text start old.taken s
       → Performs commands s action act × Refines new.station (next s act) × Took new.text start new.taken (next s act)
 
--- a link recorded one act, which performs this action; and a book failed at one of the records that the model `next s act` has
--- beyond those of the model s
+-- the link recorded one act after those of `old`, up to `told`, and it performs `action`. If the model `s` describes the
+-- station before it, and the book had taken the records of `s`, the book has taken `taken` by now: it failed at one of the
+-- records that the model `next s act` has beyond those of `s`
 pub record Breaks (commands : List Task) (action : Action) (next : Model → Act → Model) (old : Seen) (told : Option (List Act)) (taken : Option (List ℕ)) : Type 0 where
   pub act : Act
   pub tells : Tells old.acts told (act ∷ [])
   pub goes : (s : Model) (start : Option (List ℕ)) → Refines old.station s → Took old.text start old.taken s
       → Performs commands s action act × TookPart old.text s.records start taken (next s act)
 
--- an act of this action was made, and its records are in the book; or the book failed at one of them
+-- the link recorded one act that performs `action`. If the result is `Ok`, the model changed by `next`, and the book has the
+-- new records (`Makes`); if it is `Err`, the book failed at one of them (`Breaks`)
 abbrev pub Made : {X E : Type 0} → List Task → Action → (Model → Act → Model) → Seen → Seen → Result X E → Type 0
 Made commands action next old new (Ok _) = Makes commands action next old new
 Made commands action next old new (Err _) = Breaks commands action next old new.acts new.taken
 
--- the station did what an act that performs this action does, apart from the turn
+-- the station made an act that performs `action`, and its model changed as `moved` says
 abbrev pub Does : Plan → List Task → Action → Seen → Seen → Type 0
 Does plan commands action old new = Makes commands action (moved plan commands action) old new
 
--- the model after an act that performs this action, with the turn that is taken and what is lost then
+-- the station `old`, which became `new`, made an act that performs `action` (`Does`), whatever a book is like and has taken.
+-- `told` and `told'` are what the link had recorded before the act and after it
+abbrev pub DoesAlone : Plan → List Task → Action → (told told' : Option (List Act)) → (old new : Station) → Type 0
+DoesAlone plan commands action told told' old new =
+    (text : Record → List ℕ) (known : Option (List ℕ)) → Does plan commands action (seen told text known old) (seen told' text known new)
+
+-- the station `old`, which became `new`, made an act that performs `action` (`Made`), and its model changed as `moved` says. From
+-- `told` to `told'` the link recorded the act; from `taken` to `taken'` a book took its records, each written by `text`
+abbrev pub Moves : {X E : Type 0} → Plan → List Task → Action → (Record → List ℕ) → (told told' : Option (List Act)) → (taken taken' : Option (List ℕ)) → (old new : Station) → Result X E → Type 0
+Moves plan commands action text told told' taken taken' old new result =
+    Made commands action (moved plan commands action) (seen told text taken old) (seen told' text taken' new) result
+
+-- the model `s` after an act that performs `action`: a turn is taken, then `moved`, and then all outstanding requests are lost
+-- if `ended` says so
 abbrev pub stepped : Plan → List Task → Action → Model → Act → Model
 stepped plan commands action s act = ended (moved plan commands action (with_progress turned s) act)
 
--- the progress after a write with this result: as it was or, if the write was cut (`Err`), failing for a cause that names this
--- number of requests
+-- the station `old`, which became `new`, took a turn with an act that performs `action` (`Made`), and its model changed as `stepped`
+-- says. From `told` to `told'` the link recorded the act; from `taken` to `taken'` a book took its records, each written by `text`
+abbrev pub Steps : {X E : Type 0} → Plan → List Task → Action → (Record → List ℕ) → (told told' : Option (List Act)) → (taken taken' : Option (List ℕ)) → (old new : Station) → Result X E → Type 0
+Steps plan commands action text told told' taken taken' old new result =
+    Made commands action (stepped plan commands action) (seen told text taken old) (seen told' text taken' new) result
+
+-- the progress after a write with this result: `p` itself or, if the write was cut after `n` bytes (`Err n`), failing for a
+-- cause that has `n` and the number `requests`
 abbrev pub cut_progress : Result (Unit {0}) ℕ → ℕ → Progress → Progress
 cut_progress (Ok _) requests p = p
 cut_progress (Err n) requests p = failing (cause.Write requests n) p
 
--- what an action needs: the window has room for a request, a command is left to be sent or skipped, and for a null procedure of
--- a synchronization the station hasn't synchronized
+-- what an action needs, at the progress `p` with `waiting` outstanding requests: room in the window for a request, a command
+-- that is left to be sent or skipped, and for a null procedure of a synchronization that the station hasn't synchronized
 abbrev pub IsFitting : Progress → ℕ → Action → Type 0
 IsFitting p waiting Send = (0 < p.unsent) × (waiting < WINDOW)
 IsFitting p waiting Prepare = waiting < WINDOW
@@ -124,17 +166,63 @@ IsFitting p waiting Ask = has_begun p ≡ false
 IsFitting p waiting Flush = waiting < WINDOW
 IsFitting p waiting _ = Unit {0}
 
--- a station is as this model says, and a book took its records; or the book failed at one that isn't among those of `before`
+-- after a call with this result: the model `s` describes the station, and the book, which had taken `start` before the run, has
+-- taken the records of `s` (`Ok`); or the book failed at one of the records of `s` that come after `before` (`Err`)
 abbrev pub ComesTo : {X E : Type 0} → (Record → List ℕ) → List Record → Station → Option (List ℕ) → Option (List ℕ) → Model → Result X E → Type 0
 ComesTo text before station start taken s (Ok _) = Refines station s × Took text start taken s
 ComesTo text before station start taken s (Err _) = TookPart text before start taken s
 
--- the request for the first of these commands of the setup, with this mark; for a null procedure if there is none
+-- if the model `s` describes the station `old`, and a book that has taken `taken` has taken the records of `s`, then after a call
+-- with this result, which left the station `new` and the book with `taken'`, they are as `ComesTo` says of the model `next s`
+abbrev pub Becomes : {X E : Type 0} → (next : Model → Model) → (Record → List ℕ) → (taken taken' : Option (List ℕ)) → (old new : Station) → Result X E → Type 0
+Becomes next text taken taken' old new result =
+    (s : Model) (start : Option (List ℕ)) → Refines old s → Took text start taken s → ComesTo text s.records new start taken' (next s) result
+
+-- the line of a lent frame, if it is a line; otherwise no line
+abbrev pub lines_of_frame : Lent → List (List ℕ)
+lines_of_frame frame = option_to_list (line_in (lent_seen frame))
+
+-- the model `s` after the client heard the line of this frame, if it is a line
+abbrev pub frame_came : Lent → Model → Model
+frame_came frame s = lines_came s (lines_of_frame frame)
+
+-- the model `s` after `piece`, which is heard as `after_piece` says in the phase of `s` and with the ids that aren't answered
+abbrev pub piece_taken : List ℕ → Model → Model
+piece_taken piece s = after_piece (is_heard s.progress.phase) s.progress.word piece s
+
+-- the station once it sent the request for `command` with `mark`, which waits for `wait` milliseconds
+abbrev pub station_asking : Wish → ℕ → Option Mark → Station → Station
+station_asking command wait mark station = record station {
+  client = record station.client { ids = sent_to station.client.width station.client.ids command station.progress.moment.elapsed wait };
+  marks = record { items = station.marks.items ++ mark ∷ [] };
+}
+
+-- the station once the record of its next command, which isn't sent, is written at the moment `moment`, counted and noted
+abbrev pub station_skipping : Plan → List Task → Moment → Station → Station
+station_skipping plan commands moment station = record station {
+  tally = tallied station.tally (skips plan commands station.progress (Told moment));
+  well = false;
+  listed = listed_unsent plan commands station.progress station.listed;
+}
+
+-- from `old` to `new` a station dropped the marks of the requests that it settled; its tally and what it notes of its last records
+-- may have changed, and the rest didn't
+abbrev pub DropsSettledMarks : (old new : Station) → Type 0
+DropsSettledMarks old new = new ≡ record old {
+  marks = record { items = drop (length old.settled.items) old.marks.items };
+  tally = new.tally;
+  well = new.well;
+  listed = new.listed;
+  fresh = new.fresh;
+}
+
+-- what `next_setup` of a station returns: the request for the first of these commands of the setup, with `mark`; if there is no
+-- command, the request for a null procedure
 abbrev pub setup_asked : Plan → Mark → List Task → Asking
 setup_asked plan mark [] = record { command = record { target = 0; call = Table NullProc }; wait = plan.deadline; mark = None }
 setup_asked plan mark (task ∷ others) = record { command = command_at mark.sent task; wait = task.deadline; mark = Some mark }
 
--- a fact that holds of each action but `Stop`
+-- the claim, for an action that makes a call of the link; nothing for `Stop`, which makes none
 abbrev pub OnCall : Action → Type 0 → Type 0
 OnCall (Stop cause) claim = Unit {0}
 OnCall _ claim = claim

@@ -18,16 +18,16 @@ use Rattle.gc_station.specs.Records.{Record}
 use Rattle.gc_station.specs.Runs.{state_after}
 use Rattle.gc_station.specs.Scopes.{Scope}
 
--- the least of a number and the moments that these acts read, by the clock for deadlines: if that clock doesn't go back, and
--- the number was read before them, it is the number
-abbrev pub least_told : ℕ → List Act → ℕ
-least_told n [] = n
-least_told n (Told m ∷ acts) = least_told (min n m.elapsed) acts
-least_told n (Gave bytes m ∷ acts) = least_told (min n m.elapsed) acts
-least_told n (Silent m ∷ acts) = least_told (min n m.elapsed) acts
-least_told n (act ∷ acts) = least_told n acts
+-- the least of `n` and the moments that these acts read, by the clock for deadlines. If that clock doesn't go back, and `n` was
+-- read before them, it is `n`
+abbrev pub least_moment : ℕ → List Act → ℕ
+least_moment n [] = n
+least_moment n (Told m ∷ acts) = least_moment (min n m.elapsed) acts
+least_moment n (Gave bytes m ∷ acts) = least_moment (min n m.elapsed) acts
+least_moment n (Silent m ∷ acts) = least_moment (min n m.elapsed) acts
+least_moment n (act ∷ acts) = least_moment n acts
 
--- whether `asked`, or one of the moments that these acts read says that the end of the run was asked for
+-- whether the end of the run was asked for by one of the moments that these acts read, or before (`asked`)
 abbrev pub asked_after : Bool → List Act → Bool
 asked_after asked [] = asked
 asked_after asked (Told m ∷ acts) = asked_after (asked || m.stops) acts
@@ -35,11 +35,11 @@ asked_after asked (Gave bytes m ∷ acts) = asked_after (asked || m.stops) acts
 asked_after asked (Silent m ∷ acts) = asked_after (asked || m.stops) acts
 asked_after asked (act ∷ acts) = asked_after asked acts
 
--- a record is of a command that wasn't answered well
+-- the record `r` is of a command that wasn't answered well
 abbrev pub IsNotWell : Record → Type 0
 IsNotWell r = is_well r.end ≡ false
 
--- the last of these acts is a read at this moment, and recorded a command that was answered well
+-- the last of `acts` is a read at the moment `now`, which recorded a command that was answered well (`answer`)
 pub record EndsWell (plan : Plan) (commands : List Task) (scope : Scope) (acts : List Act) (now : ℕ) : Type 0 where
   pub earlier : List Act
   pub piece : List ℕ
@@ -52,8 +52,9 @@ pub record EndsWell (plan : Plan) (commands : List Task) (scope : Scope) (acts :
   pub written : (state_after plan commands scope acts).records ≡ (state_after plan commands scope earlier).records ++ (front ++ answer ∷ later)
   pub well : is_well answer.end ≡ true
 
--- the acts after the last one that recorded a command that was answered well, or all acts if none did: from which moment on the
--- run may become stale (`from`, 0 at the start), and the records of these acts, none of which is of such a command
+-- `behind` are the acts after the last one of `acts` that recorded a command that was answered well, or all acts if none did.
+-- `from` is the moment of that one, 0 if there was none. None of the records of `behind` is of such a command, and `fresh` is
+-- the least of `from` and the moments that `behind` read
 pub record NoneWellSince (plan : Plan) (commands : List Task) (scope : Scope) (acts : List Act) : Type 0 where
   pub before : List Act
   pub behind : List Act
@@ -63,14 +64,14 @@ pub record NoneWellSince (plan : Plan) (commands : List Task) (scope : Scope) (a
   pub records : List Record
   pub written : (state_after plan commands scope acts).records ≡ (state_after plan commands scope before).records ++ records
   pub unwell : AllByRecursion IsNotWell records
-  pub fresh : (state_after plan commands scope acts).fresh ≡ least_told from behind
+  pub fresh : (state_after plan commands scope acts).fresh ≡ least_moment from behind
 
--- after these acts the moment read last lies `stale` milliseconds or more after the start, or after the last act that recorded
+-- after `acts` the moment read last lies `plan.stale` milliseconds or more after the start, or after the last act that recorded
 -- a command that was answered well; if the clock went back since, after the least moment that was read since
 pub record IsStaleAt (plan : Plan) (commands : List Task) (scope : Scope) (acts : List Act) : Type 0 where
   pub since : NoneWellSince plan commands scope acts
   pub wanted : 0 < plan.stale
-  pub long : plan.stale ≤ (state_after plan commands scope acts).progress.moment.elapsed - least_told since.from since.behind
+  pub long : plan.stale ≤ (state_after plan commands scope acts).progress.moment.elapsed - least_moment since.from since.behind
 
 -- if a connection is closed, or a run ends, because it is stale, it is (`IsStaleAt`)
 abbrev pub ClosesStale : Type 0

@@ -7,15 +7,15 @@ use Rattle.gc_station.specs.Records.{Record}
 use Rattle.gc_station.specs.declared.tally.Counts.{Counts}
 use Rattle.gc_station.specs.declared.tally.Tally.{Tally}
 
--- the tally of no command
+-- the tally in which no command is counted
 abbrev pub none_yet : Tally
 none_yet = record { answered = 0; late = 0; lost = 0; skipped = 0; unreadable = 0; missed = 0; elsewhere = 0; again = 0 }
 
--- one more, or 2^64 - 1 if the count is that already (`later` adds up to that)
+-- the count `n` and one more, up to 2^64 - 1; `later` adds two numbers up to that
 abbrev pub one_more : ℕ → ℕ
 one_more n = later n 1
 
--- a tally in which a command with this ending is counted
+-- the tally `t` after one more command, with this ending
 abbrev pub counted : End → Tally → Tally
 counted (Answered quality answer line) t = record t { answered = one_more t.answered }
 counted Late t = record t { late = one_more t.late }
@@ -25,7 +25,7 @@ counted (Unreadable line fault) t = record t { unreadable = one_more t.unreadabl
 counted (Elsewhere line) t = record t { elsewhere = one_more t.elsewhere }
 counted Missed t = record t { missed = one_more t.missed }
 
--- the sum of both tallies, count by count
+-- the sum of the tallies `a` and `b`, count by count, each up to 2^64 - 1
 abbrev pub sum : Tally → Tally → Tally
 sum a b = record {
   answered = later a.answered b.answered;
@@ -38,35 +38,36 @@ sum a b = record {
   again = later a.again b.again;
 }
 
--- the counts of no command: of the chains that are over, and of the current attempt
+-- the counts in which no command is counted, of the chains that are over and of the current attempt
 abbrev pub nothing_yet : Counts
 nothing_yet = record { settled = none_yet; attempt = none_yet }
 
--- the counts if an attempt begins, in this turn: those of the attempt before are discarded if it is a further one, and else
--- kept
+-- the counts `c` once an attempt begins, in this turn. If it is a further attempt, the counts of the attempt before are
+-- discarded, and one chain more was sent again; otherwise they are added to those of the chains that are over
 abbrev pub started : Turn → Counts → Counts
 started turn c =
     if nat_lt 1 turn.attempt then record { settled = record c.settled { again = one_more c.settled.again }; attempt = none_yet }
     else record { settled = sum c.settled c.attempt; attempt = none_yet }
 
--- the counts if a command has this turn
+-- the counts `c` before a command with this turn is counted: an attempt begins (`started`) if the command is the first one of
+-- it
 abbrev pub turned_to : Turn → Counts → Counts
 turned_to turn c = if nat_eq turn.link 0 then started turn c else c
 
--- the counts in which a command of this cycle and turn, with this ending, is counted. A command of the setup, whose cycle is 0,
--- isn't
+-- the counts `c` after one more command of this cycle and turn, with this ending. A command of the setup, whose cycle is 0,
+-- isn't counted
 abbrev pub counted_in : ℕ → Turn → End → Counts → Counts
 counted_in cycle turn end c = if nat_eq cycle 0 then c else (let d = turned_to turn c in record d { attempt = counted end d.attempt })
 
--- the counts in which the commands of these records are counted
+-- the counts `c` after the commands of these records, in order
 abbrev pub tallied : Counts → List Record → Counts
 tallied c [] = c
 tallied c (r ∷ others) = tallied (counted_in r.cycle r.turn r.end c) others
 
--- the tally of these counts
+-- the tally of all commands counted in `c`: of the chains that are over, and of the current attempt
 abbrev pub total : Counts → Tally
 total c = sum c.settled c.attempt
 
--- the tally of these records
+-- the tally of the commands of `records`
 abbrev pub tally_of : List Record → Tally
 tally_of records = total (tallied nothing_yet records)

@@ -21,38 +21,38 @@ IsTried cause.Stale = ⊥
 IsTried cause.Stopped = ⊥
 IsTried _ = Unit {0}
 
--- an act ends a connection, or fails to make one
+-- the act closes a connection, or fails to make one
 abbrev pub IsEnding : Act → Type 0
 IsEnding Closed = Unit {0}
 IsEnding Unopened = Unit {0}
 IsEnding _ = ⊥
 
--- how often a connection ended, or none could be made, among these acts
+-- how many of these acts close a connection or fail to make one
 abbrev pub endings_in : List Act → ℕ
 endings_in [] = 0
 endings_in (Closed ∷ acts) = suc (endings_in acts)
 endings_in (Unopened ∷ acts) = suc (endings_in acts)
 endings_in (act ∷ acts) = endings_in acts
 
--- how often a connection was asked for among these acts
+-- how many of these acts make a connection, or fail to
 abbrev pub openings_in : List Act → ℕ
 openings_in [] = 0
 openings_in (Opened ∷ acts) = suc (openings_in acts)
 openings_in (Unopened ∷ acts) = suc (openings_in acts)
 openings_in (act ∷ acts) = openings_in acts
 
--- a read that gave bytes settled no command: it wrote no record between these models; or since the setup no command of a cycle
--- had its turn. Of other acts nothing is said
+-- the act, from the model `s` to the model `t`, isn't a read that settles a command once the setup is done: if it gave bytes,
+-- it wrote no record, or no command of a cycle had its turn since the setup (`preparing`)
 abbrev pub SettlesNone : Model → Act → Model → Type 0
 SettlesNone s (Gave bytes m) t = (t.records ≡ s.records) ⊎ (t.progress.preparing ≡ true)
 SettlesNone s act t = Unit {0}
 
--- no read among these acts settled a command, from this model on
+-- none of these acts, from the model `s` on, is a read that settles a command once the setup is done (`SettlesNone`)
 abbrev pub NoneSettled : Plan → List Task → Model → List Act → Type 0
 NoneSettled plan commands s [] = Unit {0}
 NoneSettled plan commands s (act ∷ acts) = SettlesNone s act (after plan commands s act) × NoneSettled plan commands (after plan commands s act) acts
 
--- these acts end with a read that settled a command, and since the setup a command of a cycle had its turn
+-- the last of `acts` is a read that settled a command, and a command of a cycle had its turn since the setup
 pub record EndsSettled (plan : Plan) (commands : List Task) (scope : Scope) (acts : List Act) : Type 0 where
   pub earlier : List Act
   pub piece : List ℕ
@@ -61,9 +61,9 @@ pub record EndsSettled (plan : Plan) (commands : List Task) (scope : Scope) (act
   pub settled : (state_after plan commands scope acts).records ≢ (state_after plan commands scope earlier).records
   pub prepared : (state_after plan commands scope acts).progress.preparing ≡ false
 
--- since the last read that settled a command, or from the start if none did, more connections ended or couldn't be made than
--- the plan has tries. At least as many connections as the plan has tries were asked for meanwhile, and more if that is from the
--- start
+-- `behind` are the acts after the last one of `acts` that settled a command, or all acts if none did. Among them more
+-- connections ended or couldn't be made than the plan has tries (`ended`). At least as many connections as the plan has tries
+-- were asked for meanwhile (`opened`), and more if `behind` are all acts (`first`)
 pub record AllTried (plan : Plan) (commands : List Task) (scope : Scope) (acts : List Act) : Type 0 where
   pub before : List Act
   pub behind : List Act
@@ -74,9 +74,9 @@ pub record AllTried (plan : Plan) (commands : List Task) (scope : Scope) (acts :
   pub opened : plan.retries ≤ openings_in behind
   pub first : before ≡ [] → plan.retries < openings_in behind
 
--- if a run stops for a cause that is one of `IsTried`, at an act that ends a connection or fails to make one, all tries are used
--- up, as `AllTried` says
-abbrev pub StopsBehindAllTries : Type 0
-StopsBehindAllTries =
+-- if a run stops for a cause after which it would reconnect (`IsTried`), at an act that closes a connection or fails to make
+-- one, all tries are used up, as `AllTried` says
+abbrev pub StopsOnlyAfterAllTries : Type 0
+StopsOnlyAfterAllTries =
     (plan : Plan) (commands : List Task) (scope : Scope) (acts : List Act) (last : Act) (why : Cause) → Runs plan commands (opening plan scope) (acts ++ last ∷ [])
     → action_at plan (state_after plan commands scope (acts ++ last ∷ [])) ≡ Stop why → IsTried why → IsEnding last → AllTried plan commands scope (acts ++ last ∷ [])

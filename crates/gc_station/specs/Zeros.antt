@@ -9,7 +9,7 @@ use Rattle.gc_client.specs.declared.settlement.Outcome.{Outcome}
 use Rattle.gc_client.specs.declared.settlement.Outcome.TheVariants.{Answered, Late, Lost}
 use Rattle.gc_texts.specs.Zeroed.{as_zero}
 
--- this is what the line of a refused reply says of its call with return code 0; of any other outcome nothing is said
+-- `zeroed` is what the line of a refused reply to `call` would say with return code 0; of any other outcome nothing is said
 abbrev pub IsZeroOf : Asked → Outcome → Reading → Type 0
 IsZeroOf call (Answered (reading.Refused code) line) zeroed = (r : ReplyFields) → IsReply line.items r → ReadsBy IsAskedReading call (as_zero line.items) zeroed
 IsZeroOf call (Answered (reading.Value answer) line) zeroed = Unit {0}

@@ -17,8 +17,8 @@ pub enum Cause {
     Read,
     /// The other end closed the connection.
     End,
-    /// A write failed: only its first `bytes` bytes were sent. `requests` is the number of commands before it in the station's
-    /// list, those of the setup included; 0 before the first cycle.
+    /// A write failed: only its first `bytes` bytes were sent. `requests` is the number of commands before the cycle's next one
+    /// in the station's list, those of the setup included; 0 before the first cycle.
     Write { requests: usize, bytes: usize },
     /// The clock can't be read.
     Clock,

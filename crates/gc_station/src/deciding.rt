@@ -42,13 +42,17 @@
 //! | the station waits | the line is dead | `Close(Dead)` | closes the connection | as below |
 //! | | all outstanding requests have timed out | `Renew` | reads the clock, and resynchronizes: all outstanding requests are lost | the same |
 //! | | else | `Read(Limit)` | hears what comes | the same |
-//! | `Closing` | | `Close` for its cause | closes the connection | for `Done`, `Clock`, `Turns`, `Stale` and `Stopped`: `Over` for that cause. Else `Over(Done)` if nothing is left to be sent and no command is outstanding, `Pausing` if a try is left or none is needed, and else `Over` for that cause |
+//! | `Closing` | | `Close` for its cause | closes the connection | as below |
 //! | `Over` | | `Stop` for its cause | does nothing: the run is over | |
+//!
+//! The phase after `Close`: for `Done`, `Clock`, `Turns`, `Stale` and `Stopped` it is `Over` for that cause. For any other
+//! cause it is `Over(Done)` if nothing is left to be sent and no command is outstanding; `Pausing` if a try is left or none is
+//! needed; and else `Over` for that cause.
 //!
 //! If a call of the link fails, or a write is cut, `Closing` for that cause follows, and without a connection `Over`.
 
 ghost use Rattle.std.specs.Prelude.{◌≡◌};
-ghost use Rattle.gc_station.specs.Deciding.{is_dead, is_due, goes_on, is_finished, has_room, may_go, waits_for_all, action_again, action_of, action_on, action_ready, action_begun, action_beginning, action_next, action_room, action_sent, action_settled, action_done, action_waiting, is_stale, is_between, is_resting, is_stopping, is_held_back, action_cycle, action_prepare, action_turn, action_preparing, is_preparing};
+ghost use Rattle.gc_station.specs.Deciding.{is_dead, is_due, goes_on, is_finished, has_room, may_go, waits_for_all, action_again, action_of, action_on, action_ready, action_begun, action_beginning, action_next, action_room, action_sent, action_settled, action_done, action_waiting, is_stale, is_between, is_resting, is_stopping, is_held_back, action_cycle, action_turn, action_preparing, is_preparing};
 
 use crate::cause::Cause;
 use crate::plan::Plan;
@@ -88,15 +92,15 @@ impl Progress {
         !self.phase.is_up() || !self.has_begun() || (waiting.current == 0 && self.is_between())
     }
 
-    // Whether the run ends now because that was asked for.
+    // Whether the run ends now because its end was asked for: it was asked for, and the run may end here.
     fn is_stopping(&self, waiting: Waiting) -> bool
         ensures { result ≡ is_stopping self.now waiting }
     {
         self.stops && self.is_resting(waiting)
     }
 
-    // Whether no further chain begins, because the end of the run was asked for, though something is in flight that hasn't
-    // timed out.
+    // Whether the end of the run was asked for, and the station is between two chains, but something is in flight that hasn't
+    // timed out: then nothing more is sent, until that is settled or has timed out.
     fn is_held_back(&self, waiting: Waiting) -> bool
         ensures { result ≡ is_held_back self.now waiting }
     {
@@ -120,7 +124,8 @@ impl Progress {
         self.unsent > 0 || self.is_due(plan)
     }
 
-    // The next action, where `waiting` counts the outstanding requests.
+    // The next action: to stop if the run is over, to close the connection if that is to be closed, and else that of
+    // `action_on`. `waiting` says what is outstanding, and how the last commands ended.
     pub(crate) fn action(&self, plan: &Plan, waiting: Waiting) -> Action
         ensures { result ≡ action_of plan.now self.now waiting }
     {
@@ -131,7 +136,7 @@ impl Progress {
         }
     }
 
-    // The next action if the connection isn't to be closed and the run isn't over.
+    // The next action if the run isn't over and the connection isn't to be closed for a cause already.
     fn action_on(&self, plan: &Plan, waiting: Waiting) -> Action
         ensures { result ≡ action_on plan.now self.now waiting }
     {
@@ -200,15 +205,15 @@ impl Progress {
         }
     }
 
-    // The next action when the next command may be sent: `Send`, if there is room and one of the seven requests before it is a
-    // call of the table that a reply ended. Else a null procedure is sent first (`Flush`), once no request is in flight that
-    // hasn't timed out: an instrument that retains the reply to its last call of the table may still send that reply for the
-    // next id.
-    fn action_next(&self, plan: &Plan, waiting: Waiting) -> Action
-        ensures { result ≡ action_next plan.now self.now waiting }
+    // The next action when the next command may be sent, of a cycle (`action` is `Send`) or of the setup (`Prepare`): `action`, if
+    // there is room and one of the seven requests before it is a call of the table that a reply ended. Else a null procedure is
+    // sent first (`Flush`), once no request is in flight that hasn't timed out: an instrument that retains the reply to its last
+    // call of the table may still send that reply for the next id.
+    fn action_next(&self, plan: &Plan, waiting: Waiting, action: Action) -> Action
+        ensures { result ≡ action_next plan.now self.now waiting action }
     {
         if self.behind < WINDOW {
-            self.action_room(plan, waiting, Action::Send)
+            self.action_room(plan, waiting, action)
         } else if waiting.current == 0 {
             self.action_room(plan, waiting, Action::Flush)
         } else {
@@ -216,8 +221,8 @@ impl Progress {
         }
     }
 
-    // The next action once the station has synchronized: that of a station that waits, if the end of the run was asked for and
-    // only requests in flight are left; that of the setup until it is done; and then that of the cycle.
+    // The next action once the station has synchronized: that of a station that waits, if it only waits for what is in flight
+    // before the run ends (`is_held_back`); that of the setup until it is done; and then that of the cycle.
     fn action_begun(&self, plan: &Plan, waiting: Waiting) -> Action
         ensures { result ≡ action_begun plan.now self.now waiting }
     {
@@ -238,26 +243,13 @@ impl Progress {
         self.preparing && !(plan.setup <= self.prepared && waiting.commands == 0 && waiting.well)
     }
 
-    // The next action if the next command of the setup may be sent: as for a command of the cycle.
-    fn action_prepare(&self, plan: &Plan, waiting: Waiting) -> Action
-        ensures { result ≡ action_prepare plan.now self.now waiting }
-    {
-        if WINDOW > self.behind {
-            self.action_room(plan, waiting, Action::Prepare)
-        } else if waiting.current == 0 {
-            self.action_room(plan, waiting, Action::Flush)
-        } else {
-            self.action_waiting(plan, waiting)
-        }
-    }
-
-    // The next action when the setup's next command has its turn. There always is one, since the setup is done once the last
-    // one was answered well.
+    // The next action when the setup's next command has its turn: that of `action_next`. There always is such a command, since
+    // the setup is done once its last one was answered well; without one the action would be to read.
     fn action_turn(&self, plan: &Plan, waiting: Waiting) -> Action
         ensures { result ≡ action_turn plan.now self.now waiting }
     {
         if self.prepared < plan.setup {
-            self.action_prepare(plan, waiting)
+            self.action_next(plan, waiting, Action::Prepare)
         } else {
             Action::Read(Until::Limit)
         }
@@ -295,7 +287,7 @@ impl Progress {
         ensures { result ≡ action_cycle plan.now self.now waiting }
     {
         if self.unsent > 0 && !self.waits_for_all() {
-            self.action_next(plan, waiting)
+            self.action_next(plan, waiting, Action::Send)
         } else {
             self.action_sent(plan, waiting)
         }
@@ -316,7 +308,8 @@ impl Progress {
         }
     }
 
-    // The next action if each command that was sent is settled.
+    // The next action if each command that was sent is settled: that of a done cycle if no command is left; that of a further
+    // attempt if the next command begins one; to send the next command if it may be sent; and else to skip it.
     fn action_settled(&self, plan: &Plan, waiting: Waiting) -> Action
         ensures { result ≡ action_settled plan.now self.now waiting }
     {
@@ -325,7 +318,7 @@ impl Progress {
         } else if self.next_others > 0 {
             self.action_again(plan, waiting)
         } else if self.may_go(waiting) {
-            self.action_next(plan, waiting)
+            self.action_next(plan, waiting, Action::Send)
         } else {
             Action::Skip
         }
@@ -345,7 +338,7 @@ impl Progress {
         ensures { result ≡ action_again plan.now self.now waiting }
     {
         if waiting.listed && !self.next_is_chained {
-            self.action_next(plan, waiting)
+            self.action_next(plan, waiting, Action::Send)
         } else {
             Action::Pass
         }
@@ -370,7 +363,8 @@ impl Progress {
         }
     }
 
-    // The next action if each command of the cycle is settled.
+    // The next action if each command of the cycle is settled: to close the connection if no cycle is left, to begin the next
+    // cycle if it is due, and else to read until it is.
     fn action_done(&self, plan: &Plan) -> Action
         ensures { result ≡ action_done plan.now self.now }
     {
@@ -383,7 +377,8 @@ impl Progress {
         }
     }
 
-    // The next action if nothing may be sent.
+    // The next action if nothing may be sent: to close a dead line; to resynchronize if all outstanding requests have timed
+    // out; and else to read, as a reply may still come.
     fn action_waiting(&self, plan: &Plan, waiting: Waiting) -> Action
         ensures { result ≡ action_waiting plan.now self.now waiting }
     {

@@ -20,14 +20,15 @@ impl Model for Kept {
 }
 
 impl Kept {
-    /// Nothing was seen yet.
+    /// The value before the first act of a run: nothing was seen yet.
     pub fn new() -> Kept
         ensures { result.turns ≡ [] }
     {
         Kept {}
     }
 
-    // What was seen so far, with `turn` added at the end. The turns are ghost, so there is nothing to copy.
+    // What was seen so far, with `turn` added at the end. The turns are ghost, so there is nothing to copy. No code reads `_link`
+    // and `_book`: the value of `turn`, which is ghost, is made from them.
     fn then<L, B>(&self, _link: &L, _book: &B) -> Kept
         ghost turn: { Snapshot }
         ensures { result.turns ≡ self.now.turns ++ turn ∷ [] }

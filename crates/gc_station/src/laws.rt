@@ -15,15 +15,15 @@ ghost use Rattle.gc_station.specs.declared.progress.Action.TheVariants.{Send, Cl
 ghost use Rattle.gc_station.specs.declared.plan.Plan.{Plan};
 ghost use Rattle.gc_links.specs.Acts.{Act, Closed};
 ghost use Rattle.gc_station.specs.Answers.{AnswerIsJustified};
-ghost use Rattle.gc_station.specs.Behind.{CommandsGoOutBehindTheTable, TheTableIsNeverHeldUp};
+ghost use Rattle.gc_station.specs.Behind.{CommandsAreSentNearTheTable, TheTableIsNeverHeldUp};
 ghost use Rattle.gc_station.specs.Beginnings.{NoneBeforeTheLastAnswer, SynchronizesInOrder, IsClearedAndQuiet};
-ghost use Rattle.gc_station.specs.Closing.{IsReasoned, ClosesForACause, EndsForTurnsBehindAsManyActs, StopsForACause};
+ghost use Rattle.gc_station.specs.Closing.{IsReasoned, ClosesForACause, EndsForTurnsOnlyAfterAsManyActs, StopsForACause};
 ghost use Rattle.gc_station.specs.Deciding.{dead_after};
 ghost use Rattle.gc_station.specs.Codes.{WellIsAnAcceptedCode};
 ghost use Rattle.gc_station.specs.Counting.{TalliesCountRecords};
 ghost use Rattle.gc_station.specs.Cycles.{CyclesBeginWhenDue, SentOnlyInTime, UnsentForACause};
 ghost use Rattle.gc_station.specs.Pauses.{TriesAndPausesAreCounted};
-ghost use Rattle.gc_station.specs.Retries.{GoesOutAgainForACause, TurnsAreTheTexts};
+ghost use Rattle.gc_station.specs.Retries.{FurtherAttemptsHaveACause, EachRecordHasItsTurn};
 ghost use Rattle.gc_station.specs.Room.{RequestsHaveRoom};
 ghost use Rattle.gc_station.specs.Chains.{IsChained, IsLinked};
 ghost use Rattle.gc_station.specs.EachOnce.{EachOnce, IsFurther};
@@ -38,13 +38,13 @@ ghost use Rattle.gc_station.specs.Scopes.{Scope, OneReadingForALine, SomeReading
 ghost use Rattle.gc_station.specs.Setups.{EachSetUpOnce, SetUpsGoOn, NoneBeforeTheSetUp, SetUpInOrder};
 ghost use Rattle.gc_station.specs.Silences.{IsMuteFor};
 ghost use Rattle.gc_station.specs.Stopping.{ClosesStale, StopsAtItsClose, EndsOnceStale, GoesOnInItsChain, ClosesBetweenChains};
-ghost use Rattle.gc_station.specs.Tasked.{CommandsAreTheirTasks};
+ghost use Rattle.gc_station.specs.Tasked.{EachRecordIsOfItsTask};
 ghost use Rattle.gc_station.specs.Model.{opening, action_at, Runs};
-ghost use Rattle.gc_station.specs.Tries.{StopsBehindAllTries};
+ghost use Rattle.gc_station.specs.Tries.{StopsOnlyAfterAllTries};
 
 /// The commands of cycles that had their turn, sent or not, cycle by cycle and in order, are the records of cycles followed by
-/// the outstanding commands of cycles, each once, except those of further attempts that weren't needed, which are skipped in
-/// order. If the run stopped, none is outstanding; and if it is done, records and skipped attempts are all commands of all
+/// the outstanding commands of cycles, each once, except those of further attempts that weren't needed, which are left out, in
+/// order. If the run stopped, none is outstanding; and if it is done, records and commands left out are all commands of all
 /// cycles. Records and commands of the setup, which have cycle 0, are left out. Commands that set the clock are compared
 /// without their times, which `each_record_is_of_its_task` gives.
 pub fn each_command_once()
@@ -105,7 +105,7 @@ pub fn closes_for_a_cause()
 /// If a connection is closed for a dead line, a time was read on it, and twice the longest deadline has passed by the clock
 /// since then without a line that reads as a reply. After that time no request was sent, or one was sent at once, so that its
 /// reply had all that time; or the clock went back to that time.
-pub fn closes_a_dead_line_behind_no_reply()
+pub fn closes_a_dead_line_only_after_silence()
     ensures { (plan : Plan) (commands : List Task) (scope : Scope) (acts : List Act) → Runs plan commands (opening plan scope) acts
         → action_at plan (state_after plan commands scope acts) ≡ Close cause.Dead → IsMuteFor (dead_after plan) plan commands scope acts }
 {}
@@ -164,16 +164,16 @@ pub fn stops_for_a_cause()
 {}
 
 /// If a run stops at a connection that ended or couldn't be made, and not because it is done or stale, for the clock, for its
-/// turns, or because its end was asked for, its tries are used up. Take the acts after the last read that settled a command, or all acts if none did. Among them more
-/// than the plan's `retries` connections ended or couldn't be made, and at least `retries` attempts were made to connect; more
-/// than `retries`, if no read settled a command.
-pub fn stops_behind_all_tries()
-    ensures { StopsBehindAllTries }
+/// turns, or because its end was asked for, its tries are used up. Take the acts after the last read that settled a command
+/// once the setup was done, or all acts if none did. Among them more than the plan's `retries` connections ended or couldn't be
+/// made, and at least `retries` attempts were made to connect; more than `retries`, if there was no such read.
+pub fn stops_only_after_all_tries()
+    ensures { StopsOnlyAfterAllTries }
 {}
 
 /// If a connection is closed or a run stops because its turns are used up, the run made at least as many acts as it had turns.
-pub fn ends_for_turns_behind_as_many_acts()
-    ensures { EndsForTurnsBehindAsManyActs }
+pub fn ends_for_turns_only_after_as_many_acts()
+    ensures { EndsForTurnsOnlyAfterAsManyActs }
 {}
 
 /// When a request is sent, its connection was cleared: as soon as it was made, a line feed was sent, alone and complete. Unless
@@ -232,7 +232,7 @@ pub fn answered_well_is_an_accepted_code()
     ensures { WellIsAnAcceptedCode }
 {}
 
-/// Whatever the line, the instrument or a hand at it did: if a record is answered, its answer has a direction, and the text
+/// Whatever the line, the instrument or its operator did: if a record is answered, its answer has a direction, and the text
 /// says where the command's target is, that direction is near it. The reply of a record that is `elsewhere` has both codes 0 or
 /// an accepted return code, and a direction that isn't near the target.
 pub fn answers_are_at_their_targets()
@@ -253,33 +253,33 @@ pub fn good_without_accept_is_an_answer()
 {}
 
 /// A further attempt of a chain is sent only once all commands sent are settled, and one of the attempt before ended as its
-/// rule names. Further attempts are skipped only if none of the attempt before did, or the cycle is missed. A command of the
+/// rule names. Further attempts are left out only if none of the attempt before did, or the cycle is missed. A command of the
 /// setup that is sent between two attempts belongs to neither.
 pub fn each_further_attempt_has_a_cause()
-    ensures { GoesOutAgainForACause }
+    ensures { FurtherAttemptsHaveACause }
 {}
 
 /// Each record says which command of the text it is of, and in which attempt, as the task at its place does; a record of the
 /// setup has the attempt of the setup.
 pub fn each_record_has_its_turn()
-    ensures { TurnsAreTheTexts }
+    ensures { EachRecordHasItsTurn }
 {}
 
 /// Each record is of the task at its place, and has a time of sending exactly if its request was sent. Its command is what the
 /// task asks at that time: if the task sets the clock, the time cut to seconds, UTC, and otherwise what the text says. The
 /// command of a record that was never sent is as in the text.
 pub fn each_record_is_of_its_task()
-    ensures { CommandsAreTheirTasks }
+    ensures { EachRecordIsOfItsTask }
 {}
 
-/// Each count of a tally is the number of the records that ended in its way, of those of the last attempt of their chain, up to
-/// 2^64 - 1; and one more is how many times a chain was sent again.
+/// A tally counts the records of the last attempt of each chain: each count but `again` is how many of them have its ending.
+/// `again` is how many times a chain was sent again. Records of the setup (cycle 0) aren't counted. A count stops at 2^64 - 1.
 pub fn tallies_count_the_records()
     ensures { TalliesCountRecords }
 {}
 
-/// When a command is sent, or a null procedure after commands that have all timed out, fewer requests are in flight than the
-/// plan's width, not counting those timed out, or none is; and fewer than seven are outstanding in all.
+/// When a command is sent, or a null procedure that isn't of a synchronization, fewer requests are in flight than the plan's
+/// width, not counting those timed out, or none is; and fewer than seven are outstanding in all.
 pub fn each_request_has_room()
     ensures { RequestsHaveRoom }
 {}
@@ -306,9 +306,9 @@ pub fn unsent_ones_are_so_for_a_cause()
 
 /// How consecutive failures are counted. Each takes one try, and one without a try left ends the run. The pause after the first
 /// is the quiet time, and after each further one twice the pause before it, up to a minute and never below the quiet time. A
-/// read that settles a command restores all tries and makes the pause 0; bytes that settle none change neither. A close while
-/// no connection is wanted takes no try, and makes a pause of 0 the quiet time. No act but an opening, a read or a close
-/// changes the tries or the pause.
+/// read that settles a command once a command of a cycle had its turn after the setup restores all tries and makes the pause 0;
+/// other bytes change neither. A close while no connection is wanted takes no try, and makes a pause of 0 the quiet time. No
+/// act but an opening, a read or a close changes the tries or the pause.
 pub fn tries_and_pauses_are_counted()
     ensures { TriesAndPausesAreCounted }
 {}
@@ -316,8 +316,8 @@ pub fn tries_and_pauses_are_counted()
 /// Whenever a command is sent, one of the seven requests before it is a call of the table that a reply ended, answered or late;
 /// or fewer than seven were sent since the synchronization, whose last null procedure was answered. So an instrument that
 /// retains its reply to the last call of the table, and looks at the id first, retains none with the id of the command.
-pub fn commands_go_out_behind_the_table()
-    ensures { CommandsGoOutBehindTheTable }
+pub fn each_command_is_sent_near_the_table()
+    ensures { CommandsAreSentNearTheTable }
 {}
 
 /// A text without raw commands is never held up: if all commands are calls of the table, one that may be sent is sent as soon

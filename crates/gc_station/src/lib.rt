@@ -22,3 +22,4 @@ pub use kept::Kept;
 pub use plan::Plan;
 pub use run::run_station;
 pub use tally::Tally;
+pub use writing::is_well;

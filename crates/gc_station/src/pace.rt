@@ -25,7 +25,7 @@ fn stale_at(plan: &Plan, fresh: u64) -> u64
     }
 }
 
-// How long a read waits at most: a second if somebody may ask for the end of the run, else a minute.
+// How many milliseconds a read waits at most: a second if somebody may ask for the end of the run, else a minute.
 fn longest(plan: &Plan) -> u64
     ensures { result ≡ longest plan.now }
 {
@@ -106,17 +106,17 @@ impl Progress {
         plan.cycles.saturating_sub(self.left)
     }
 
-    // The number of the cycle that began last, if it has overrun and that wasn't reported yet: it isn't missed, and it wasn't done
-    // when the next one was due. `told` is the last cycle that was reported.
-    fn overrun(&self, plan: &Plan, told: u64) -> Option<u64>
-        ensures { result ≡ overrun plan.now self.now told }
+    // The number of the cycle that began last, if it has overrun and that wasn't reported yet: it isn't missed, and it wasn't
+    // done when the next one was due. `reported` is the last cycle that was reported as overrun, 0 if none was.
+    fn overrun(&self, plan: &Plan, reported: u64) -> Option<u64>
+        ensures { result ≡ overrun plan.now self.now reported }
     {
         let late = !self.early
             && !self.missed
             && self.is_due(plan)
             && self.left > 0
             && plan.every > 0;
-        if late && told < self.cycle(plan) {
+        if late && reported < self.cycle(plan) {
             Some(self.cycle(plan))
         } else {
             None
@@ -140,7 +140,7 @@ impl Station {
             .min(longest(plan))
     }
 
-    // The health of the link, which a book takes note of before each act.
+    // The health of the link before the next act, as `LinkHealth` explains it.
     fn health(&self, plan: &Plan) -> LinkHealth {
         match self.progress.phase {
             Phase::Down | Phase::Pausing if self.progress.is_idle(plan) => LinkHealth::Idle,
@@ -157,23 +157,29 @@ impl Station {
         self.progress.unsent == 0 && self.commands() == 0
     }
 
-    // Reports to a book the health of the link and, once for each cycle, that the cycle wasn't done when the next was due. `told` is
-    // the last cycle that was reported before; the result is the last one that is reported now.
-    pub(crate) fn tell_overrun<B: Book>(&self, book: &mut B, plan: &Plan, told: u64) -> u64
-        ensures told { result ≡ reported_then told (overrun plan.now self.now.progress told) }
-        ensures tells { Appends (B.overruns book.old) (B.overruns book.new) (option_to_list (overrun plan.now self.now.progress told)) }
+    // Reports to a book the health of the link before the next act, and, once for each cycle, that the cycle wasn't done when the
+    // next was due. `reported` is the last cycle reported so before, 0 if there was none; the result is the last one reported so
+    // after the call.
+    pub(crate) fn report_health_and_overrun<B: Book>(
+        &self,
+        book: &mut B,
+        plan: &Plan,
+        reported: u64,
+    ) -> u64
+        ensures reported { result ≡ reported_then reported (overrun plan.now self.now.progress reported) }
+        ensures reports { Appends (B.overruns book.old) (B.overruns book.new) (option_to_list (overrun plan.now self.now.progress reported)) }
         ensures taken { B.taken book.new ≡ B.taken book.old }
         ensures failed { B.failed book.new ≡ B.failed book.old }
         ensures is_durable { B.is_durable book.new ≡ B.is_durable book.old }
         ensures form { B.text book.new ≡ B.text book.old }
     {
         book.sees(self.health(plan), self.progress.moment);
-        match self.progress.overrun(plan, told) {
+        match self.progress.overrun(plan, reported) {
             Some(cycle) => {
                 book.overran(cycle);
                 cycle
             }
-            None => told,
+            None => reported,
         }
     }
 }

@@ -5,9 +5,8 @@
 pub struct Plan {
     /// How many requests that haven't timed out may be in flight: 1 to 7. A number outside counts as the nearest of these.
     pub width: u8,
-    /// The longest time that a request is outstanding before it has timed out. A null procedure waits so long, and a command as
-    /// long as its task says. A null procedure of a synchronization is sent again after it. A line is dead after twice as long
-    /// without a reply line.
+    /// The longest deadline: after this time a null procedure times out; a command does after the time of its task. A null
+    /// procedure of a synchronization is sent again after this time. A line is dead after twice this time without a reply line.
     pub deadline: u64,
     /// How far apart the cycles are due, counted from when the first one begins. 0: each begins when the one before it is done.
     /// A cycle that can't begin before the next is due is missed.
@@ -15,19 +14,19 @@ pub struct Plan {
     /// How many cycles are measured or missed.
     pub cycles: u64,
     /// How long the station pauses before it connects again, twice as long at each further failure, up to a minute; and how
-    /// long nothing may come on a new connection before a command is sent on it. A synchronization doesn't wait for such a
-    /// quiet connection.
+    /// long nothing may come on a new connection before a command is sent on it. A synchronization doesn't wait for that quiet
+    /// time.
     pub quiet: u64,
-    /// How many tries the station has to reconnect before the run ends. A reply that settles a command gives all of them back,
-    /// but a command of the setup only if the setup is done with it. A connection that ends once a cycle is done and before the
-    /// next is due takes no try, and the next connection is made when that cycle is due. An attempt that failed always takes
-    /// one.
+    /// How many tries the station has to reconnect before the run ends. A reply that settles a command gives all of them back;
+    /// if there is a setup, only once a command of a cycle had its turn after it. A connection that ends once a cycle is done
+    /// and before the next is due takes no try, and the next connection is made when that cycle is due. An attempt that failed
+    /// always takes one.
     pub retries: u32,
     /// How many commands at the front of the station's list are the setup: at most as many as there are. The others are those of
     /// a cycle. The setup is sent on each connection, and after each synchronization, before any of them.
     pub setup: usize,
-    /// How long the run goes on without an answer of a good quality, counted from the start or the last one that was recorded.
-    /// 0: for as long as it takes.
+    /// How long the run goes on without an answer of a good quality, counted from the start, or from when the last one was
+    /// recorded. 0: without a limit.
     pub stale: u64,
     /// Whether somebody may ask for the end of the run. Then no read waits longer than a second, so that the station sees it.
     pub watched: bool,

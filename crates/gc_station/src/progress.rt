@@ -81,11 +81,12 @@ pub(crate) struct Waiting {
     pub all: usize,
     /// Those of them that haven't timed out.
     pub current: usize,
-    /// Those of them that are commands of the cycle. The others are null procedures.
+    /// Those of them that are commands, of the cycle or of the setup. The others are null procedures.
     pub commands: usize,
     /// Whether the command that was recorded last was answered well, as `is_well` says.
     pub well: bool,
-    /// Whether it, or a command before it of the same attempt, ended as its rule names.
+    /// Whether the command that was recorded last, or one before it in the same attempt, ended in a way after which the text
+    /// sends its chain again.
     pub listed: bool,
     /// The moment at which a command that was answered well was recorded last, by the clock for deadlines; 0 if none was; an
     /// earlier one if the clock went back since.
@@ -107,8 +108,8 @@ pub(crate) struct Progress {
     pub clock_due: bool,
     /// The last moment read on the link.
     pub moment: Moment,
-    /// From when a pause and the quiet time count: the last moment that was read otherwise than after a read that gave nothing,
-    /// or an earlier one if the clock went back since.
+    /// From when a pause and the quiet time count: the last moment that was read, leaving out reads that gave nothing; or an
+    /// earlier one if the clock went back since.
     pub since: u64,
     /// From when a dead line counts: the latest of the moments at which the last reply line came, the first request after it or
     /// on this connection was sent, and a connection was last drained; an earlier one if the clock went back since.
@@ -128,7 +129,8 @@ pub(crate) struct Progress {
     pub left: u64,
     /// How many commands of the cycle were neither sent nor left out.
     pub unsent: usize,
-    /// Whether the next of them is sent only once the command before it was answered well.
+    /// Whether the next of them is sent only once the command before it was answered well. In a missed cycle, in which none is
+    /// sent, always `true`.
     pub next_is_chained: bool,
     /// If it begins a further attempt of its chain: how many commands this attempt and those after it have. Else 0.
     pub next_others: usize,

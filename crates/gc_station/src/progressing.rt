@@ -175,7 +175,7 @@ impl Progress {
         };
     }
 
-    // Notes that a connection was made.
+    // Notes that a connection was made: the line feed that clears it is sent next.
     pub(crate) fn note_open(&mut self)
         ensures { self.new ≡ opened self.old }
     {
@@ -415,7 +415,9 @@ impl Progress {
     }
 
     // Notes the moment after a read that gave nothing: the quiet time goes on. If the clock went back, the quiet time and the
-    // cycle are taken to have begun now at the latest, and the line to have been alive now at the latest.
+    // cycle are taken to have begun now at the latest, and the line to have been alive now at the latest. `until` is what the read
+    // waited for: only a cycle that is done has a read until the next cycle is due, and so after `Until::Due` the cycle counts as
+    // done early.
     fn pass_time(&mut self, until: Until, moment: Moment)
         ensures { self.new ≡ time_passed until moment self.old }
     {
@@ -465,7 +467,7 @@ impl Progress {
         self.chain_unbroken = false;
     }
 
-    // Whether no act follows.
+    // Whether no act follows: the run is over, or there is no connection and no turn is left.
     fn is_over(&self) -> bool
         ensures { result ≡ is_over self.now }
     {

@@ -1,12 +1,10 @@
 //! A whole run of a station: what is next is done, until nothing is.
 
-ghost use Rattle.std.specs.Prelude.{◌≡◌, true, ℕ, List, OnOk};
-ghost use Rattle.gc_catalogue.specs.declared.answer.Reading.{Reading};
-ghost use Rattle.gc_catalogue.specs.declared.asked.Asked.{Asked};
+ghost use Rattle.std.specs.Prelude.{◌≡◌, true, OnOk};
 ghost use Rattle.gc_lines.specs.Ports.{FailsWith};
 ghost use Rattle.gc_station.specs.Keeping.{KeepsUp, closing, closing_at};
-ghost use Rattle.gc_station.specs.Runs.{EndsAs, Ran, FailsAtOutput, LastsBut};
-ghost use Rattle.gc_station.specs.Scopes.{AreReadings, ForReadings};
+ghost use Rattle.gc_station.specs.Runs.{EndsForReadings, RanForReadings, FailsAtOutput, LastsBut};
+ghost use Rattle.gc_station.specs.Scopes.{scoped, ForEachReadings, ForReadings};
 
 use crate::book::Book;
 use crate::cause::Cause;
@@ -29,17 +27,16 @@ pub(crate) fn run<L: Link, B: Book>(
     max_turns: u64,
     kept: &mut Kept,
 ) -> Result<(Cause, Tally), PortFailed>
-    ensures ran { (reads : Asked → List ℕ → Reading) → AreReadings reads
-        → EndsAs plan.now commands.now (record { turns = max_turns; reads = reads }) (B.text book.old) (L.acts link.old) (L.acts link.new) (B.taken book.old) (B.taken book.new) result }
-    ensures keeps { (reads : Asked → List ℕ → Reading) → AreReadings reads
-        → KeepsUp plan.now commands.now (record { turns = max_turns; reads = reads }) (B.text book.old) (L.acts link.old) (L.acts link.new) (B.taken book.old) kept.old.turns kept.new.turns (closing result) }
+    ensures ran { EndsForReadings plan.now commands.now max_turns (B.text book.old) (L.acts link.old) (L.acts link.new) (B.taken book.old) (B.taken book.new) result }
+    ensures keeps { ForEachReadings (λ reads. KeepsUp plan.now commands.now (scoped max_turns reads) (B.text book.old)
+        (L.acts link.old) (L.acts link.new) (B.taken book.old) kept.old.turns kept.new.turns (closing result)) }
     ensures is_durable { OnOk result (B.is_durable book.new ≡ true) }
     ensures fails { FailsWith result (B.failed book.old) (B.failed book.new) }
     ensures form { B.text book.new ≡ B.text book.old }
 {
     let mut station = Station::new(plan, max_turns);
     // The last cycle whose overrun was reported to the book; 0 if none was.
-    let mut told = 0;
+    let mut reported = 0;
     loop {
         // No act is made before all records last: through a crash of the program, or of the machine, as far as the book is meant
         // for that.
@@ -51,7 +48,7 @@ pub(crate) fn run<L: Link, B: Book>(
         if let Action::Stop(cause) = action {
             return Ok((cause, station.tally.total()));
         }
-        told = station.tell_overrun(book, plan, told);
+        reported = station.report_health_and_overrun(book, plan, reported);
         *kept = kept.and(link, book);
         if let Err(failed) = station.step(link, book, plan, commands, action) {
             link.close();
@@ -88,14 +85,14 @@ pub(crate) fn run<L: Link, B: Book>(
 /// that was sent is settled or lost. Between two chains nothing more is sent then: what is in flight is waited for until it is
 /// settled or timed out, the connection is closed, and commands that had no turn aren't written. The run fails with `Clock` as
 /// soon as the clock can't be read; and, once no try is left, with `Read` if a read failed, `Mute` if the line was dead,
-/// `Write` if a write was cut (with the number of commands before it in the list, 0 before the first cycle), `LinkClosed` if
-/// the other end closed the connection, and `Socket` if no connection could be made. It fails with `Stale` at the first moment
-/// at or past `stale` since the start or the last answer of a good quality, and with `TooManyReads` where `max_turns` acts were
-/// made; a connection that is open then is closed by one act more. In all of these cases the connection is closed, and the
-/// outstanding commands are written as lost. The run fails with `Output` if the book failed. If it failed at a record of the
-/// last act, it has all records of the acts before, those of the last act before that record, and a first part of that record.
-/// If the records couldn't be made to last, it has all of them. Then nothing more is sent: the link is closed, and the
-/// outstanding commands aren't written.
+/// `Write` if a write was cut (with the number of commands before the cycle's next one in the list, 0 before the first cycle),
+/// `LinkClosed` if the other end closed the connection, and `Socket` if no connection could be made. It fails with `Stale` at
+/// the first moment at or past `stale` since the start or the last answer of a good quality, and with `TooManyReads` where
+/// `max_turns` acts were made; a connection that is open then is closed by one act more. In all of these cases the connection
+/// is closed, and the outstanding commands are written as lost. The run fails with `Output` if the book failed. If it failed at
+/// a record of the last act, it has all records of the acts before, those of the last act before that record, and a first part
+/// of that record. If the records couldn't be made to last, it has all of them. Then nothing more is sent: the link is closed,
+/// and the outstanding commands aren't written.
 ///
 /// Before each act all records of the acts before outlast what the book is meant to outlast. What is seen of the link and the
 /// book then is noted in `kept`.
@@ -109,13 +106,13 @@ pub fn run_station<L: Link, B: Book>(
 ) -> Result<Tally, RunFault>
     // What the link recorded, what the book took and how the run ended are as the model has them, for whatever function says
     // what each reply says of its call; and there is such a function.
-    ensures ran { ForReadings (λ reads.
-        Ran plan.now commands.now (record { turns = max_turns; reads = reads }) (B.text book.old) (L.acts link.old) (L.acts link.new) (B.taken book.old) (B.taken book.new) result) }
+    ensures ran { RanForReadings plan.now commands.now max_turns (B.text book.old) (L.acts link.old) (L.acts link.new) (B.taken book.old) (B.taken book.new) result }
 
     // At each act what the acts before it settled is in the book, and lasts. If the book failed one act is made all the same:
     // the connection is closed.
     ensures keeps { ForReadings (λ reads.
-        KeepsUp plan.now commands.now (record { turns = max_turns; reads = reads }) (B.text book.old) (L.acts link.old) (L.acts link.new) (B.taken book.old) kept.old.turns kept.new.turns (closing_at result)) }
+        KeepsUp plan.now commands.now (scoped max_turns reads) (B.text book.old)
+        (L.acts link.old) (L.acts link.new) (B.taken book.old) kept.old.turns kept.new.turns (closing_at result)) }
 
     // Unless the book failed, all records last at the end.
     ensures is_durable { LastsBut (B.is_durable book.new) result }

@@ -1,19 +1,16 @@
 //! A station's steps: each makes the one call of the link that is next, and does by the client what came of it.
 
-ghost use Rattle.std.specs.Prelude.{◌≡◌, ℕ, ◌≤◌, List, length, drop, map, Option, OnOk, All, true};
+ghost use Rattle.std.specs.Prelude.{◌≡◌, ℕ, ◌≤◌, List, length, drop, Option, OnOk, true};
 ghost use Rattle.gc_lines.specs.Ports.{FailsWith};
 ghost use Rattle.gc_catalogue.specs.declared.answer.Reading.{Reading};
 ghost use Rattle.gc_catalogue.specs.declared.asked.Asked.{Asked};
-ghost use Rattle.gc_catalogue.specs.Asked.{IsAskedReading};
-ghost use Rattle.gc_client.specs.Settlements.{settlement_seen, IsReadBy};
 ghost use Rattle.gc_station.specs.Deciding.{action_of};
-ghost use Rattle.gc_station.specs.Attempts.{listed_by};
-ghost use Rattle.gc_station.specs.Marks.{commands_in, records_of, last_well, fresh_after};
-ghost use Rattle.gc_station.specs.Scopes.{AreReadings};
-ghost use Rattle.gc_station.specs.Records.{Record, WritesNews};
-ghost use Rattle.gc_station.specs.Model.{Model, opening, action_at, place_next, expected_first, mark_next, requests_out, is_chained, others_in, is_chained_after, others_after, moved, ended, mark_setup};
-ghost use Rattle.gc_station.specs.Stations.{waiting_in, IsPaired, Refines, Took, Does, Made, stepped, OnCall, ComesTo, IsFitting, seen};
-ghost use Rattle.gc_station.specs.Tallies.{tallied};
+ghost use Rattle.gc_station.specs.Marks.{commands_in};
+ghost use Rattle.gc_station.specs.Scopes.{AreReadings, scoped};
+ghost use Rattle.gc_station.specs.Records.{WritesNews};
+ghost use Rattle.gc_station.specs.Model.{Model, opening, action_at, place_next, expected_first, mark_next, commands_before, is_chained, others_in, is_chained_after, others_after, ended, mark_setup};
+ghost use Rattle.gc_station.specs.Stations.{waiting_in, IsPaired, Refines, DoesAlone, Moves, Steps, OnCall, Becomes, DropsSettledMarks, IsFitting};
+ghost use Rattle.gc_station.specs.Writing.{AreRead, news_settled, CountsSettled, NotesSettledWell, NotesSettledListed, NotesSettledFresh};
 ghost use Rattle.gc_station.specs.declared.progress.Action.TheVariants.{ReadClock, Renew, Begin, Open, Close};
 ghost use Rattle.gc_texts.specs.declared.tasks.Task.{Task};
 
@@ -45,7 +42,8 @@ fn is_chained(commands: &[Task], place: usize) -> bool
     }
 }
 
-// What is expected of the answer of the command at this place.
+// What is expected of the answer of the command at this place. If there is none, nothing is: no place of a target, no accepted
+// codes, no endings that send it again.
 fn expected_at(commands: &[Task], place: usize) -> Expected
     ensures { result ≡ expected_first (drop place commands.now) }
 {
@@ -69,8 +67,8 @@ fn expected_at(commands: &[Task], place: usize) -> Expected
     }
 }
 
-// Of a command at this place that begins a further attempt of its chain: how many commands this attempt and those after it
-// have. 0 of any other.
+// If the command at this place begins a further attempt of its chain: how many commands this and the chain's later attempts have
+// together. Else 0, also if there is no such command.
 fn others_at(commands: &[Task], place: usize) -> usize
     ensures { result ≡ others_in (drop place commands.now) }
 {
@@ -83,27 +81,31 @@ fn others_at(commands: &[Task], place: usize) -> usize
 /// What a station keeps from one act to the next.
 #[derive(Drop)]
 pub(crate) struct Station {
+    // The outstanding requests, and the next id.
     pub(crate) client: Client<SlotsOf<Asked>>,
     // One for each outstanding request, in order: which command it is, or none for a null procedure.
     pub(crate) marks: ArrayVec<Option<Mark>, WINDOW>,
+    // The first part of a line that came on this connection and hasn't ended.
     pub(crate) assembler: Assembler,
     pub(crate) progress: Progress,
+    // How the commands that were recorded ended.
     pub(crate) tally: Counts,
     // Whether the command that was recorded last was answered well.
     pub(crate) well: bool,
-    // Whether it, or a command before it of the same attempt, ended as its rule names.
+    // Whether the command that was recorded last, or one before it in the same attempt, ended in a way after which the text
+    // sends its chain again.
     pub(crate) listed: bool,
     // When a command that was answered well was recorded last, by the clock for deadlines; 0 if none was; an earlier moment if
     // the clock went back since.
     pub(crate) fresh: u64,
-    // The settlements of the last line or restart, which `write` records.
+    // What the last line or restart of the client settled, which `write` records.
     pub(crate) settled: ArrayVec<Settlement<Asked>, WINDOW>,
 }
 
 impl Station {
     // A station that has done nothing.
     pub(crate) fn new(plan: &Plan, max_turns: u64) -> Station
-        ensures { (reads : Asked → List ℕ → Reading) → Refines result (opening plan.now (record { turns = max_turns; reads = reads })) }
+        ensures { (reads : Asked → List ℕ → Reading) → Refines result (opening plan.now (scoped max_turns reads)) }
     {
         Station {
             client: Client::new(SlotsOf::new()),
@@ -118,8 +120,8 @@ impl Station {
         }
     }
 
-    // How many requests are outstanding, whether the command recorded last was answered well, and when one was answered well
-    // last.
+    // What a decision looks at besides the progress: how many requests are outstanding, whether the command recorded last was
+    // answered well, whether one of its attempt ended as its rule names, and when one was answered well last.
     fn waiting(&self) -> Waiting
         ensures { result ≡ waiting_in self.now }
     {
@@ -157,7 +159,7 @@ impl Station {
         commands.len().saturating_sub(self.progress.unsent)
     }
 
-    // The mark of the next command.
+    // The mark of the cycle's next command: its cycle, its place, the moment read last, and what is expected of its answer.
     fn mark(&self, plan: &Plan, commands: &[Task]) -> Mark
         ensures { result ≡ mark_next plan.now commands.now self.now.progress }
     {
@@ -203,8 +205,8 @@ impl Station {
 
     // How many commands are before the cycle's next one in the list, those of the setup included; 0 before the first cycle. The
     // fault of a cut write has this number.
-    fn requests_out(&self, plan: &Plan, commands: &[Task]) -> usize
-        ensures { result ≡ requests_out plan.now commands.now self.now.progress }
+    fn commands_before(&self, plan: &Plan, commands: &[Task]) -> usize
+        ensures { result ≡ commands_before plan.now commands.now self.now.progress }
     {
         if self.progress.left == plan.cycles {
             return 0;
@@ -215,8 +217,7 @@ impl Station {
     // Reads the clock, and times out the requests whose deadline has come. If the clock can't be read, that is noted as the
     // cause to close for.
     fn read_clock<L: Link>(&mut self, link: &mut L, plan: &Plan)
-        ensures { (commands : List Task) (text : Record → List ℕ) (known : Option (List ℕ))
-            → Does plan.now commands ReadClock (seen (L.acts link.old) text known self.old) (seen (L.acts link.new) text known self.new) }
+        ensures { (commands : List Task) → DoesAlone plan.now commands ReadClock (L.acts link.old) (L.acts link.new) self.old self.new }
     {
         match link.now() {
             Ok(moment) => {
@@ -233,8 +234,7 @@ impl Station {
     // Reads the clock, and resynchronizes: `end` records as lost what is outstanding. A clock that can't be read is noted, as
     // by `read_clock`.
     fn renew<L: Link>(&mut self, link: &mut L, plan: &Plan)
-        ensures { (commands : List Task) (text : Record → List ℕ) (known : Option (List ℕ))
-            → Does plan.now commands Renew (seen (L.acts link.old) text known self.old) (seen (L.acts link.new) text known self.new) }
+        ensures { (commands : List Task) → DoesAlone plan.now commands Renew (L.acts link.old) (L.acts link.new) self.old self.new }
     {
         match link.now() {
             Ok(moment) => {
@@ -249,8 +249,7 @@ impl Station {
 
     // Reads the clock, and begins a cycle. A clock that can't be read is noted, as by `read_clock`.
     fn begin<L: Link>(&mut self, link: &mut L, plan: &Plan, commands: &[Task])
-        ensures { (text : Record → List ℕ) (known : Option (List ℕ))
-            → Does plan.now commands.now Begin (seen (L.acts link.old) text known self.old) (seen (L.acts link.new) text known self.new) }
+        ensures { DoesAlone plan.now commands.now Begin (L.acts link.old) (L.acts link.new) self.old self.new }
     {
         match link.now() {
             Ok(moment) => {
@@ -265,8 +264,7 @@ impl Station {
 
     // Makes a connection, or notes that none could be made.
     fn open<L: Link>(&mut self, link: &mut L, plan: &Plan)
-        ensures { (commands : List Task) (text : Record → List ℕ) (known : Option (List ℕ))
-            → Does plan.now commands Open (seen (L.acts link.old) text known self.old) (seen (L.acts link.new) text known self.new) }
+        ensures { (commands : List Task) → DoesAlone plan.now commands Open (L.acts link.old) (L.acts link.new) self.old self.new }
     {
         let commands = self.commands();
         match link.open() {
@@ -275,25 +273,16 @@ impl Station {
         }
     }
 
-    // Writes the records of `settled`, and removes the marks of the requests that were settled, the oldest first.
+    // Writes the records of `settled`, and removes the marks of the requests that were settled, the oldest first. `Err`: the book
+    // failed at a record.
     fn write<B: Book>(&mut self, book: &mut B) -> Result<(), PortFailed>
-        requires { All (λ s. IsReadBy IsAskedReading s.call s.outcome) self.old.settled.items }
-        ensures wrote { WritesNews (B.text book.old) (B.taken book.old) (B.taken book.new) (λ reads. records_of reads self.old.progress.moment.utc self.old.marks.items (map settlement_seen self.old.settled.items)) result }
-        ensures after { OnOk result (self.new ≡ record self.old {
-          marks = record { items = drop (length self.old.settled.items) self.old.marks.items };
-          tally = self.new.tally;
-          well = self.new.well;
-          listed = self.new.listed;
-          fresh = self.new.fresh;
-        }) }
-        ensures tally { OnOk result ((reads : Asked → List ℕ → Reading) → AreReadings reads
-            → self.new.tally ≡ tallied self.old.tally (records_of reads self.old.progress.moment.utc self.old.marks.items (map settlement_seen self.old.settled.items))) }
-        ensures well { OnOk result ((reads : Asked → List ℕ → Reading) → AreReadings reads
-            → self.new.well ≡ last_well self.old.well (records_of reads self.old.progress.moment.utc self.old.marks.items (map settlement_seen self.old.settled.items))) }
-        ensures listed { OnOk result ((reads : Asked → List ℕ → Reading) → AreReadings reads
-            → self.new.listed ≡ listed_by reads self.old.listed self.old.marks.items (map settlement_seen self.old.settled.items)) }
-        ensures fresh { OnOk result ((reads : Asked → List ℕ → Reading) → AreReadings reads
-            → self.new.fresh ≡ fresh_after self.old.progress.moment.elapsed self.old.fresh (records_of reads self.old.progress.moment.utc self.old.marks.items (map settlement_seen self.old.settled.items))) }
+        requires { AreRead self.old.settled.items }
+        ensures wrote { WritesNews (B.text book.old) (B.taken book.old) (B.taken book.new) (news_settled self.old) result }
+        ensures after { OnOk result (DropsSettledMarks self.old self.new) }
+        ensures tally { CountsSettled self.old self.new result }
+        ensures well { NotesSettledWell self.old self.new result }
+        ensures listed { NotesSettledListed self.old self.new result }
+        ensures fresh { NotesSettledFresh self.old self.new result }
         ensures fails { FailsWith result (B.failed book.old) (B.failed book.new) }
         ensures form { B.text book.new ≡ B.text book.old }
     {
@@ -313,8 +302,7 @@ impl Station {
     // Closes the connection, and discards half a line that came on it. Outstanding requests stay outstanding on the next
     // connection.
     fn close<L: Link>(&mut self, link: &mut L, plan: &Plan, cause: Cause)
-        ensures { (commands : List Task) (text : Record → List ℕ) (known : Option (List ℕ))
-            → Does plan.now commands (Close cause) (seen (L.acts link.old) text known self.old) (seen (L.acts link.new) text known self.new) }
+        ensures { (commands : List Task) → DoesAlone plan.now commands (Close cause) (L.acts link.old) (L.acts link.new) self.old self.new }
     {
         link.close();
         let waiting = self.waiting();
@@ -336,7 +324,8 @@ impl Station {
         requires paired { IsPaired self.old }
         requires within { self.old.progress.unsent ≤ length commands.now }
         requires room { IsFitting self.old.progress (length self.old.client.ids.waiting) action }
-        ensures does { OnCall action (Made commands.now action (moved plan.now commands.now action) (seen (L.acts link.old) (B.text book.old) (B.taken book.old) self.old) (seen (L.acts link.new) (B.text book.old) (B.taken book.new) self.new) result) }
+        ensures does { OnCall action (Moves plan.now commands.now action (B.text book.old)
+            (L.acts link.old) (L.acts link.new) (B.taken book.old) (B.taken book.new) self.old self.new result) }
         ensures fails { FailsWith result (B.failed book.old) (B.failed book.new) }
         ensures form { B.text book.new ≡ B.text book.old }
     {
@@ -391,10 +380,10 @@ impl Station {
         }
     }
 
-    // Records all outstanding commands as lost, if the station resynchronizes or no act follows; otherwise does nothing.
+    // Records all outstanding commands as lost, if the station resynchronizes or no act follows; otherwise does nothing. `Err`:
+    // the book failed at a record.
     fn end<B: Book>(&mut self, book: &mut B) -> Result<(), PortFailed>
-        ensures ends { (s : Model) (start : Option (List ℕ)) → Refines self.old s → Took (B.text book.old) start (B.taken book.old) s
-            → ComesTo (B.text book.old) s.records self.new start (B.taken book.new) (ended s) result }
+        ensures ends { Becomes ended (B.text book.old) (B.taken book.old) (B.taken book.new) self.old self.new result }
         ensures fails { FailsWith result (B.failed book.old) (B.failed book.new) }
         ensures form { B.text book.new ≡ B.text book.old }
     {
@@ -405,8 +394,8 @@ impl Station {
         self.write(book)
     }
 
-    // Takes a turn: performs an action, and records as lost what is lost then. When it is called, all records so far must be
-    // durable.
+    // Takes a turn: performs an action, and then records as lost what `end` says. When it is called, all records so far must be
+    // durable. `Err`: the book failed at a record.
     pub(crate) fn step<L: Link, B: Book>(
         &mut self,
         link: &mut L,
@@ -420,7 +409,8 @@ impl Station {
         requires paired { IsPaired self.old }
         requires within { self.old.progress.unsent ≤ length commands.now }
         requires room { IsFitting self.old.progress (length self.old.client.ids.waiting) action }
-        ensures does { OnCall action (Made commands.now action (stepped plan.now commands.now action) (seen (L.acts link.old) (B.text book.old) (B.taken book.old) self.old) (seen (L.acts link.new) (B.text book.old) (B.taken book.new) self.new) result) }
+        ensures does { OnCall action (Steps plan.now commands.now action (B.text book.old)
+            (L.acts link.old) (L.acts link.new) (B.taken book.old) (B.taken book.new) self.old self.new result) }
         ensures fails { FailsWith result (B.failed book.old) (B.failed book.new) }
         ensures form { B.text book.new ≡ B.text book.old }
     {

@@ -16,7 +16,8 @@ pub struct Tally {
     pub late: u64,
     /// No reply came, or none will be taken.
     pub lost: u64,
-    /// The command wasn't sent: the one before it in its chain wasn't answered well, or the connection was lost since.
+    /// The command wasn't sent: the one before it in its chain wasn't answered well, or since that was sent a connection was
+    /// closed or the station resynchronized.
     pub skipped: u64,
     /// A reply came in time, with both codes 0, whose values don't read.
     pub unreadable: u64,
@@ -60,7 +61,7 @@ impl Tally {
         }
     }
 
-    // The sum of both tallies, count by count.
+    // The sum of both tallies, count by count, each up to 2^64 - 1 (`later` adds up to that).
     fn sum(&self, other: &Tally) -> Tally
         ensures { result ≡ sum self.now other.now }
     {
@@ -97,7 +98,8 @@ impl Counts {
         }
     }
 
-    // Begins an attempt of a chain: a further one replaces the counts of the attempt before.
+    // Begins an attempt of a chain. A further one discards the counts of the attempt before, and the chain counts as sent
+    // again; a first one adds them to those of the chains that are over.
     fn start(&mut self, turn: Turn)
         ensures { self.new ≡ started turn self.old }
     {
@@ -129,7 +131,7 @@ impl Counts {
         self.attempt.count(ending);
     }
 
-    // The tally of all commands that ended, of the last attempts so far.
+    // The tally of all commands counted so far, of the last attempt of each chain.
     pub(crate) fn total(&self) -> Tally
         ensures { result ≡ total self.now }
     {

@@ -1,23 +1,21 @@
 //! Writing settlements into a book, and counting them.
 
-ghost use Rattle.std.specs.Prelude.{◌≡◌, ◌++◌, ℕ, Bool, List, [], ◌∷◌, length, drop, map, Option, OnOk, All};
-ghost use Rattle.std.specs.Io.KnownBytes.{Appends};
+ghost use Rattle.std.specs.Prelude.{◌≡◌, ℕ, List, [], ◌∷◌, length, drop, map, Option, OnOk};
 ghost use Rattle.gc_lines.specs.Ports.{FailsWith};
-ghost use Rattle.gc_client.specs.Rule;
 ghost use Rattle.gc_catalogue.specs.declared.answer.Reading.{Reading};
 ghost use Rattle.gc_catalogue.specs.declared.asked.Asked.{Asked};
 ghost use Rattle.gc_catalogue.specs.Asked.{IsAskedReading};
 ghost use Rattle.gc_client.specs.Settlements.{settlement_seen, outcome_seen, IsReadBy};
-ghost use Rattle.gc_station.specs.Attempts.{code_in, code_of, listed_after, listed_by};
-ghost use Rattle.gc_station.specs.Marks.{records_of, value_as, refused_as, end_of, last_well, is_well, fresh_after};
+ghost use Rattle.gc_station.specs.Attempts.{code_of, listed_after};
+ghost use Rattle.gc_station.specs.Marks.{value_as, refused_as, end_of, is_well};
 ghost use Rattle.gc_station.specs.Model.{ends_with_table};
 ghost use Rattle.gc_station.specs.Zeros.{IsZeroOf};
 ghost use Rattle.gc_station.specs.Scopes.{AreReadings};
-ghost use Rattle.gc_texts.specs.Codes.{are_accepted};
+ghost use Rattle.gc_texts.specs.Codes.{lists_code};
 ghost use Rattle.gc_texts.specs.Endings.{ending_seen};
 ghost use Rattle.gc_texts.specs.Nears.{is_elsewhere};
 ghost use Rattle.gc_station.specs.Records.{WritesNews};
-ghost use Rattle.gc_station.specs.Tallies.{tallied};
+ghost use Rattle.gc_station.specs.Writing.{AreRead, GiveSameRecord, ListAlike, news_of, CountsNews, NotesWell, NotesListed, NotesFresh};
 
 use crate::book::Book;
 use crate::mark::Mark;
@@ -32,10 +30,8 @@ use gc_texts::{Ending, Expected, Near, Quality, Stamp, Wish, is_elsewhere, readi
 // Removes the mark of the oldest outstanding request. `None`: that request is a null procedure, or none is outstanding.
 fn take_mark(marks: &mut ArrayVec<Option<Mark>, WINDOW>) -> Option<Mark>
     ensures goes { marks.new.items ≡ drop 1 marks.old.items }
-    ensures listed { (reads : Asked → List ℕ → Reading) (listed : Bool) (settlement : Rule.Settlement Asked)
-        → listed_by reads listed marks.old.items (settlement ∷ []) ≡ listed_by reads listed (result ∷ []) (settlement ∷ []) }
-    ensures records { (reads : Asked → List ℕ → Reading) (utc : ℕ) (settlement : Rule.Settlement Asked)
-        → records_of reads utc marks.old.items (settlement ∷ []) ≡ records_of reads utc (result ∷ []) (settlement ∷ []) }
+    ensures listed { ListAlike marks.old.items (result ∷ []) }
+    ensures records { GiveSameRecord marks.old.items (result ∷ []) }
 {
     match marks.pop_at(0) {
         Some(mark) => mark,
@@ -69,7 +65,7 @@ fn refused_ending<'a>(
     zero: &'a Reading,
     line: &'a Line,
 ) -> Ending<'a>
-    ensures { ending_seen result ≡ refused_as (are_accepted expected.now.accepted code) expected.now.near zero.now line.now.items }
+    ensures { ending_seen result ≡ refused_as (lists_code expected.now.accepted code) expected.now.near zero.now line.now.items }
 {
     if !expected.accepted.has(code) {
         return Ending::Answered(Quality::Refused, None, line);
@@ -82,8 +78,8 @@ fn refused_ending<'a>(
     }
 }
 
-// What the line of a reply with a return code other than 0 would say with return code 0. For any other outcome: a refusal,
-// which nothing reads.
+// What the line of a reply with a return code other than 0 would say with return code 0. For any other outcome: a refusal, which
+// isn't used.
 fn zero_of(call: &Asked, outcome: &Outcome) -> Reading
     ensures { IsZeroOf call.now outcome.now result }
 {
@@ -93,8 +89,8 @@ fn zero_of(call: &Asked, outcome: &Outcome) -> Reading
     }
 }
 
-// The ending of a command whose request had this outcome, if this is expected of its answer, and its line would say `zero` with
-// return code 0.
+// The ending of a command whose request had this outcome. `expected` is what the text says of its answer, and `zero` what the line
+// of its reply would say with return code 0, as `zero_of` returns it.
 fn ending_of<'a>(expected: &Expected, zero: &'a Reading, outcome: &'a Outcome) -> Ending<'a>
     ensures { (reads : Asked → List ℕ → Reading) (call : Asked) → AreReadings reads → IsReadBy IsAskedReading call outcome.now → IsZeroOf call outcome.now zero.now
         → ending_seen result ≡ end_of reads expected.now call (outcome_seen outcome.now) }
@@ -115,9 +111,9 @@ fn ending_of<'a>(expected: &Expected, zero: &'a Reading, outcome: &'a Outcome) -
     }
 }
 
-// Whether a command that ended so was answered well: with both codes 0 and values that read, or with an accepted return code,
-// and not elsewhere.
-fn is_well(ending: Ending<'_>) -> bool
+/// Whether a command with this ending was answered well: with both codes 0 and values that read, or with an accepted return code,
+/// and not elsewhere.
+pub fn is_well(ending: Ending<'_>) -> bool
     ensures { result ≡ is_well (ending_seen ending.entry) }
 {
     match ending {
@@ -126,7 +122,8 @@ fn is_well(ending: Ending<'_>) -> bool
     }
 }
 
-// The return code other than 0 of the reply that a request had, if it had one, with communication code 0.
+// The return code other than 0 of the reply that ended a request in time. `None`: no such reply came, or its return code is 0, or
+// its communication code isn't.
 fn code_of(outcome: &Outcome) -> Option<u16>
     ensures { (reads : Asked → List ℕ → Reading) (call : Asked) → AreReadings reads → IsReadBy IsAskedReading call outcome.now → result ≡ code_of reads call (outcome_seen outcome.now) }
 {
@@ -138,8 +135,8 @@ fn code_of(outcome: &Outcome) -> Option<u16>
     }
 }
 
-// Whether a command of the current attempt has ended as its rule names, after one more has ended: this one, whose reply has this
-// return code other than 0, if any; or, unless the attempt begins with it, one before it (`listed`).
+// Whether a command of the current attempt has ended as its rule names, once this command has ended. `listed`: whether one before
+// it had, which doesn't count if the attempt begins with this command. `code`: the return code of its reply, if that isn't 0.
 pub(crate) fn is_listed(
     listed: bool,
     expected: &Expected,
@@ -165,15 +162,11 @@ fn write_one<B: Book>(
     settlement: &Settlement<Asked>,
 ) -> Result<(), PortFailed>
     requires { IsReadBy IsAskedReading settlement.now.call settlement.now.outcome }
-    ensures wrote { WritesNews (B.text book.old) (B.taken book.old) (B.taken book.new) (λ reads. records_of reads now.utc (mark ∷ []) (settlement_seen settlement.now ∷ [])) result }
-    ensures tally { OnOk result ((reads : Asked → List ℕ → Reading) → AreReadings reads
-        → tally.new ≡ tallied tally.old (records_of reads now.utc (mark ∷ []) (settlement_seen settlement.now ∷ []))) }
-    ensures well { OnOk result ((reads : Asked → List ℕ → Reading) → AreReadings reads
-        → well.new ≡ last_well well.old (records_of reads now.utc (mark ∷ []) (settlement_seen settlement.now ∷ []))) }
-    ensures listed { OnOk result ((reads : Asked → List ℕ → Reading) → AreReadings reads
-        → listed.new ≡ listed_by reads listed.old (mark ∷ []) (settlement_seen settlement.now ∷ [])) }
-    ensures fresh { OnOk result ((reads : Asked → List ℕ → Reading) → AreReadings reads
-        → fresh.new ≡ fresh_after now.elapsed fresh.old (records_of reads now.utc (mark ∷ []) (settlement_seen settlement.now ∷ []))) }
+    ensures wrote { WritesNews (B.text book.old) (B.taken book.old) (B.taken book.new) (news_of now.utc (mark ∷ []) (settlement.now ∷ [])) result }
+    ensures tally { CountsNews tally.old tally.new now (mark ∷ []) (settlement.now ∷ []) result }
+    ensures well { NotesWell well.old well.new now (mark ∷ []) (settlement.now ∷ []) result }
+    ensures listed { NotesListed listed.old listed.new (mark ∷ []) (settlement.now ∷ []) result }
+    ensures fresh { NotesFresh fresh.old fresh.new now (mark ∷ []) (settlement.now ∷ []) result }
     ensures fails { FailsWith result (B.failed book.old) (B.failed book.new) }
     ensures form { B.text book.new ≡ B.text book.old }
 {
@@ -228,16 +221,12 @@ pub(crate) fn write_settlements<B: Book>(
     now: Moment,
     settlements: &[Settlement<Asked>],
 ) -> Result<(), PortFailed>
-    requires { All (λ s. IsReadBy IsAskedReading s.call s.outcome) settlements.now }
-    ensures wrote { WritesNews (B.text book.old) (B.taken book.old) (B.taken book.new) (λ reads. records_of reads now.utc marks.old.items (map settlement_seen settlements.now)) result }
-    ensures tally { OnOk result ((reads : Asked → List ℕ → Reading) → AreReadings reads
-        → tally.new ≡ tallied tally.old (records_of reads now.utc marks.old.items (map settlement_seen settlements.now))) }
-    ensures well { OnOk result ((reads : Asked → List ℕ → Reading) → AreReadings reads
-        → well.new ≡ last_well well.old (records_of reads now.utc marks.old.items (map settlement_seen settlements.now))) }
-    ensures listed { OnOk result ((reads : Asked → List ℕ → Reading) → AreReadings reads
-        → listed.new ≡ listed_by reads listed.old marks.old.items (map settlement_seen settlements.now)) }
-    ensures fresh { OnOk result ((reads : Asked → List ℕ → Reading) → AreReadings reads
-        → fresh.new ≡ fresh_after now.elapsed fresh.old (records_of reads now.utc marks.old.items (map settlement_seen settlements.now))) }
+    requires { AreRead settlements.now }
+    ensures wrote { WritesNews (B.text book.old) (B.taken book.old) (B.taken book.new) (news_of now.utc marks.old.items settlements.now) result }
+    ensures tally { CountsNews tally.old tally.new now marks.old.items settlements.now result }
+    ensures well { NotesWell well.old well.new now marks.old.items settlements.now result }
+    ensures listed { NotesListed listed.old listed.new marks.old.items settlements.now result }
+    ensures fresh { NotesFresh fresh.old fresh.new now marks.old.items settlements.now result }
     ensures marks { OnOk result (marks.new.items ≡ drop (length settlements.now) marks.old.items) }
     ensures fails { FailsWith result (B.failed book.old) (B.failed book.new) }
     ensures form { B.text book.new ≡ B.text book.old }

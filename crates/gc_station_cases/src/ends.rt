@@ -1,4 +1,4 @@
-//! A book that keeps a letter for each outcome.
+//! A book that stores a word for each record, as a case has it.
 
 use crate::setting::Setting;
 use arrayvec::ArrayVec;
@@ -7,12 +7,12 @@ use gc_links::Moment;
 use gc_station::{Book, LinkHealth};
 use gc_texts::{Ending, Quality, Stamp, Wish};
 
-/// A book that keeps a word for each record: the last digits of its cycle and its place, a letter for its outcome, and after
+/// A book that stores a word for each record: the last digits of its cycle and its place, a letter for its outcome, and after
 /// the letter the values of a reply; if a case is stamped, last the moment at which the request was sent. A case may have it
 /// fail at one write, or at each sync after the first few.
 #[derive(Drop)]
-pub struct Ends {
-    /// The words of the records, and `N!` for each cycle N that was reported as overrun, each with a blank after it.
+pub struct WordBook {
+    /// The words of the records, and for each cycle that was reported as overrun its last digit and `!`, each with a blank after it.
     pub text: ArrayVec<u8, 256>,
     // How many writes there were.
     writes: u64,
@@ -20,15 +20,15 @@ pub struct Ends {
     fails: u64,
     // How many syncs still succeed.
     keeps: u64,
-    // Whether the moment at which a record's request was sent is kept.
+    // Whether a record's word has the moment at which its request was sent.
     stamped: bool,
 }
 
-impl Ends {
-    /// A book that fails at the write with the number that the setting has as `fails`, counted from 1 (0: at none), and at each sync
-    /// after the first `keeps`.
-    pub fn new(setting: &Setting) -> Ends {
-        Ends {
+impl WordBook {
+    /// A book that fails at the write with the number that the setting has as `fails`, counted from 1 (0: at none), and at each
+    /// sync after the first `keeps`.
+    pub fn new(setting: &Setting) -> WordBook {
+        WordBook {
             text: ArrayVec::new(),
             writes: 0,
             fails: setting.fails,
@@ -37,12 +37,13 @@ impl Ends {
         }
     }
 
-    // Keeps a text, if there is room for it.
+    // Appends these bytes to `text`, if there is room for all of them; otherwise none.
     fn note(&mut self, text: &[u8]) {
         let _ = self.text.try_extend_from_slice(text);
     }
 
-    // Keeps a letter, and after it the values of a reply's line, whose header has eleven bytes.
+    // Appends a letter, and after it the values of a reply's line: all after its header of eleven bytes, `%R1P,0,0:0,`. A line that is
+    // no longer has no values.
     fn note_values(&mut self, letter: &[u8], line: &[u8]) {
         self.note(letter);
         if line.len() > 11 {
@@ -50,7 +51,8 @@ impl Ends {
         }
     }
 
-    // Keeps the moment at which a record's request was sent, in milliseconds since 1970, if it was sent and the case is stamped.
+    // Appends `@` and the moment at which a record's request was sent, in milliseconds since 1970, if it was sent and the case is
+    // stamped.
     fn note_sent(&mut self, sent: Option<u64>) {
         let Some(sent) = sent else { return };
         if self.stamped {
@@ -60,14 +62,14 @@ impl Ends {
         }
     }
 
-    // Keeps the last digit of a number.
+    // Appends the last digit of a number, if there is room for it.
     fn note_digit(&mut self, n: u64) {
         let _ = self.text.try_push(b'0'.wrapping_add((n % 10) as u8));
     }
 }
 
 // Contracts say nothing of what this book takes: a case compares `text`.
-impl Book for Ends {
+impl Book for WordBook {
     ghost use Rattle.std.specs.Prelude.{None, [], ◌∷◌, true};
 
     ghost text = { λ _ _. 0 ∷ [] };
@@ -78,8 +80,9 @@ impl Book for Ends {
 
     ghost is_durable = { λ _. true };
 
-    // Keeps the word of a record: the digits of its cycle and place, the letter of its ending, after which a reply's values
-    // stand, and if the case is stamped the moment at which its request was sent.
+    // Appends the word of a record: the last digits of its cycle and place; the letter of its ending (at the head of stations.rt), and the
+    // values of a reply after it; and if the case is stamped, the moment at which its request was sent. `Err`: this is the write that
+    // fails.
     fn write(
         &mut self,
         stamp: Stamp,
@@ -107,7 +110,7 @@ impl Book for Ends {
         Ok(())
     }
 
-    // Uses up one of the syncs that succeed; if none is left, fails.
+    // Uses up one of the syncs that succeed. `Err`: none is left.
     fn sync(&mut self) -> Result<(), PortFailed> {
         if self.keeps == 0 {
             return Err(PortFailed);
@@ -117,9 +120,9 @@ impl Book for Ends {
     }
 
     // Does nothing: no case looks at the health of the link.
-    fn sees(&mut self, _sight: LinkHealth, _moment: Moment) {}
+    fn sees(&mut self, _health: LinkHealth, _moment: Moment) {}
 
-    // Keeps the word of a cycle that overran.
+    // Appends the word of a cycle that overran: its last digit, and `!`.
     fn overran(&mut self, cycle: u64) {
         self.note_digit(cycle);
         self.note(b"! ");

@@ -1,6 +1,6 @@
 //! A case's run over a link with a log; and, for a case without tasks, the log of a link that is only read, without a station.
 
-use crate::ends::Ends;
+use crate::ends::WordBook;
 use crate::running::Outcome;
 use crate::script::{Script, Step};
 use crate::setting::Setting;
@@ -11,9 +11,9 @@ use gc_logs::Logged;
 use gc_texts::Task;
 use std::alloc::Global;
 
-// A sink that keeps what is written, and fails once no write is left, or memory runs out.
+// A sink that stores what is written in memory. It fails once no write is left, or memory runs out.
 #[derive(Drop)]
-struct Kept {
+struct StoringSink {
     // What was written.
     bytes: Vec<u8>,
     // How many writes still succeed.
@@ -22,14 +22,14 @@ struct Kept {
     broken: bool,
 }
 
-impl Sink for Kept {
+impl Sink for StoringSink {
     ghost use Rattle.std.specs.Prelude.{None};
 
     ghost taken = { λ _. None };
 
     ghost failed = { λ k. k.broken };
 
-    // Keeps these bytes, and uses up one write; if none is left or memory runs out, fails for good.
+    // Stores these bytes, and uses up one write. `Err`: no write is left, or memory ran out, now or at an earlier write.
     fn write(&mut self, bytes: &[u8]) -> Result<usize, PortFailed> {
         if self.broken || self.left == 0 || self.bytes.extend_from_slice(bytes).is_err() {
             self.broken = true;
@@ -47,22 +47,22 @@ impl Sink for Kept {
 
 // The link of a case, with a log whose sink fails after `writes` writes. Until the link reads a moment, the log's lines have
 // the moment 1000, at which the link's clock starts.
-fn logged<'a>(
+fn logged_link<'a>(
     alloc: Global,
     steps: &'a [Step<'a>],
     setting: &Setting,
     writes: u64,
-) -> Logged<Script<'a>, Kept> {
-    let kept = Kept {
+) -> Logged<Script<'a>, StoringSink> {
+    let sink = StoringSink {
         bytes: Vec::new(alloc),
         left: writes,
         broken: false,
     };
-    Logged::new(Script::new(steps, setting), kept, 1000)
+    Logged::new(Script::new(steps, setting), sink, 1000)
 }
 
-/// Runs a station over a link with a log. A log whose sink failed is reported as `lost`, provided that it is the first part of the
-/// log of the same run over a sink that never fails.
+/// Runs a station over a link with a log, and takes what came of it into `outcome`. A log whose sink failed is reported as `lost`,
+/// provided that it is the first part of the log of the same run over a sink that never fails.
 pub fn play_logged(
     alloc: Global,
     tasks: &[Task],
@@ -72,12 +72,13 @@ pub fn play_logged(
 ) {
     play_once(alloc, tasks, steps, setting, setting.writes, outcome);
     if outcome.is_log_lost() {
-        compare_logs(alloc, tasks, steps, setting, outcome);
+        compare_with_whole_log(alloc, tasks, steps, setting, outcome);
     }
 }
 
-// Compares a log whose sink failed with the log of the same run over a sink that takes all.
-fn compare_logs(
+// Runs the station once more, over a sink that takes all, and has `outcome` report its own log as `lost`, if that is the first part of
+// the log of this run.
+fn compare_with_whole_log(
     alloc: Global,
     tasks: &[Task],
     steps: &[Step<'_>],
@@ -89,7 +90,7 @@ fn compare_logs(
     outcome.lose_log(&whole);
 }
 
-// Runs the station once, with a log whose sink fails after `writes` writes.
+// Runs the station once, with a log whose sink fails after `writes` writes, and takes what came of it into `outcome`.
 fn play_once(
     alloc: Global,
     tasks: &[Task],
@@ -98,8 +99,8 @@ fn play_once(
     writes: u64,
     outcome: &mut Outcome,
 ) {
-    let mut link = Telling::new(logged(alloc, steps, setting, writes));
-    let mut book = Ends::new(setting);
+    let mut link = Telling::new(logged_link(alloc, steps, setting, writes));
+    let mut book = WordBook::new(setting);
     let result = run_telling(&mut link, &mut book, tasks, &setting.plan, setting.turns);
     outcome.take(&link.link.link, &book, result.err());
     outcome.take_log(
@@ -108,9 +109,10 @@ fn play_once(
     );
 }
 
-/// Reads what the steps bring over a link with a log, closes the link, and takes the log.
-pub fn hear(alloc: Global, steps: &[Step<'_>], setting: &Setting, outcome: &mut Outcome) {
-    let mut link = logged(alloc, steps, setting, setting.writes);
+/// Without a station: reads once for each of `steps` over a link with a log, closes the link, and takes the log into `outcome`.
+pub fn read_logged(alloc: Global, steps: &[Step<'_>], setting: &Setting, outcome: &mut Outcome) {
+    let mut link = logged_link(alloc, steps, setting, setting.writes);
+    // Room for more than the longest line: 512 bytes, CR and LF.
     let mut buf = [0u8; 600];
     for _ in steps {
         let _ = link.read(&mut buf, 1);

@@ -1,7 +1,7 @@
 //! One run of a case.
 
-use crate::ends::Ends;
-use crate::logs::{hear, play_logged};
+use crate::ends::WordBook;
+use crate::logs::{play_logged, read_logged};
 use crate::script::{Script, Step};
 use crate::setting::Setting;
 use crate::telling::run_telling;
@@ -23,7 +23,7 @@ pub struct Run<'a> {
     pub then: &'a [u8],
     /// How the runs are set.
     pub setting: Setting,
-    /// Whether the words that set them are known.
+    /// Whether the setting words of the case are all known.
     pub is_known: bool,
     /// Whether the link has a log.
     pub is_logged: bool,
@@ -40,8 +40,9 @@ pub struct Outcome {
     end: Told,
     // The log, if there is one.
     log: Told,
-    // How many commands ended how, if the case asks for that.
+    // How many commands ended how, if the case asks for that, over a link without a log.
     counts: Told,
+    // Whether the log couldn't be written.
     is_log_lost: bool,
 }
 
@@ -58,8 +59,8 @@ impl Outcome {
         }
     }
 
-    /// Takes what was put and written, and the fault.
-    pub fn take(&mut self, script: &Script<'_>, book: &Ends, fault: Option<RunFault>) {
+    /// Takes what a run put on its link, `script`, what it wrote into its book, and its fault, if it ended with one.
+    pub fn take(&mut self, script: &Script<'_>, book: &WordBook, fault: Option<RunFault>) {
         tell_words(script.text.as_slice(), &mut self.put);
         tell_words(book.text.as_slice(), &mut self.ends);
         tell_end(fault, script.gone, &mut self.end);
@@ -75,7 +76,7 @@ impl Outcome {
         self.counts.titled(" again ", &tally.again);
     }
 
-    /// Takes the log, and whether it couldn't be written.
+    /// Takes the bytes of the log; `is_lost`: they aren't all of it, because a write of the log failed.
     pub fn take_log(&mut self, log: &[u8], is_lost: bool) {
         self.is_log_lost = is_lost;
         tell_words(log, &mut self.log);
@@ -86,7 +87,7 @@ impl Outcome {
         self.is_log_lost
     }
 
-    /// Reports a log whose sink failed as `lost`, if the log of `whole`, whose sink took all, begins with it.
+    /// Reports a log whose sink failed as `lost`, if the log of `whole`, whose sink took all, begins with it; else leaves it as it is.
     pub fn lose_log(&mut self, whole: &Outcome) {
         if whole.log.as_bytes().starts_with(self.log.as_bytes()) {
             self.log.clear();
@@ -94,8 +95,8 @@ impl Outcome {
         }
     }
 
-    // Tells, in place of what was put on the link, that the case's entry of this name (`with`, `steps` or `tasks`) has a word
-    // that can't be read. The word itself isn't told.
+    // Reports, in place of what was put on the link, that the case's entry of this name (`with`, `steps` or `tasks`) has a word
+    // that can't be read. The word itself isn't reported.
     fn tell_unknown(&mut self, what: &str) {
         self.put.text("a word isn't known: ");
         self.put.text(what);
@@ -119,7 +120,8 @@ impl Outcome {
 }
 
 impl<'a> Run<'a> {
-    /// Runs the station as the case sets it, with one setting word more.
+    /// Runs the station as the case sets it, with the setting words of `word` more, which may be empty. If a word isn't known, nothing is
+    /// run, and the outcome says so.
     pub fn play(&self, alloc: Global, word: &str, outcome: &mut Outcome) {
         let mut setting = self.setting;
         if setting.set_all(word) && self.is_known {
@@ -129,7 +131,7 @@ impl<'a> Run<'a> {
         }
     }
 
-    // Runs the station with this setting.
+    // Runs the station with this setting. If a word of the steps isn't known, nothing is run, and the outcome says so.
     fn play_set(&self, alloc: Global, setting: &Setting, outcome: &mut Outcome) {
         let mut steps = Vec::new(alloc);
         if self.push_steps(&mut steps, setting) {
@@ -139,15 +141,16 @@ impl<'a> Run<'a> {
         }
     }
 
-    // Adds the first `setting.first` of the steps, and those of `then` after them. Returns whether each word is known, and each step
-    // has room.
+    // Adds the first `setting.first` of the steps, and those of `then` after them. Returns whether each word is known, and each
+    // step has room.
     fn push_steps(&self, steps: &mut Vec<Step<'a>>, setting: &Setting) -> bool {
         let are_known = push_words(steps, text_of(self.steps), setting.split);
         steps.truncate(usize::try_from(setting.first).unwrap_or(usize::MAX));
         push_words(steps, text_of(self.then), setting.split) && are_known
     }
 
-    // Reads the station's text, and runs the station with its tasks over these steps.
+    // Reads the station's text, and runs the station with its tasks over these steps. If the text can't be read, nothing is run, and
+    // the outcome says so.
     fn play_steps(
         &self,
         alloc: Global,
@@ -161,7 +164,8 @@ impl<'a> Run<'a> {
         }
     }
 
-    // Runs a station with these tasks. Without a task, a link with a log is only read, so that its log has what comes.
+    // Runs a station with these tasks, over a link with a log if the case has one. Without a task, a link with a log is only read,
+    // so that its log has what comes.
     fn play_tasks(
         &self,
         alloc: Global,
@@ -171,10 +175,10 @@ impl<'a> Run<'a> {
         outcome: &mut Outcome,
     ) {
         if !self.is_logged {
-            return play_told(tasks, steps, setting, outcome);
+            return play_unlogged(tasks, steps, setting, outcome);
         }
         if tasks.is_empty() {
-            return hear(alloc, steps, setting, outcome);
+            return read_logged(alloc, steps, setting, outcome);
         }
         play_logged(alloc, tasks, steps, setting, outcome)
     }
@@ -185,31 +189,31 @@ fn text_of(bytes: &[u8]) -> &str {
     str::from_utf8(bytes).unwrap_or("?")
 }
 
-// Runs a station over a link that records its acts.
-fn play_told(tasks: &[Task], steps: &[Step<'_>], setting: &Setting, outcome: &mut Outcome) {
+// Runs a station over a link without a log, and takes what came of it into `outcome`.
+fn play_unlogged(tasks: &[Task], steps: &[Step<'_>], setting: &Setting, outcome: &mut Outcome) {
     let mut link = Telling::new(Script::new(steps, setting));
-    let mut book = Ends::new(setting);
+    let mut book = WordBook::new(setting);
     let result = run_telling(&mut link, &mut book, tasks, &setting.plan, setting.turns);
     if setting.counted {
-        tell_counts(&result, outcome);
+        take_counts_of(&result, outcome);
     }
     outcome.take(&link.link, &book, result.err());
 }
 
-// Reports the counts of a run that is done.
-fn tell_counts(end: &Result<Tally, RunFault>, outcome: &mut Outcome) {
+// Takes the counts of a run into `outcome`, unless the run ended with a fault.
+fn take_counts_of(end: &Result<Tally, RunFault>, outcome: &mut Outcome) {
     if let Ok(tally) = end {
         outcome.take_counts(tally);
     }
 }
 
-// Reports words without the blank after the last one.
+// Appends `words` to `told`, without the blank after the last one.
 fn tell_words(words: &[u8], told: &mut Told) {
     told.bytes(words.strip_suffix(b" ").unwrap_or(words));
 }
 
-// Reports the fault, if there is one. A cut write whose fault names the right number of bytes (`gone`) is reported with the word `kept`
-// for that number, so that a row holds for each number.
+// Reports the fault, if there is one. A cut write whose fault names the right number of bytes (`gone`) is reported with the
+// word `kept` for that number, so that what a case has holds for each number.
 fn tell_end(fault: Option<RunFault>, gone: usize, end: &mut Told) {
     match fault {
         None => {}

@@ -1,4 +1,4 @@
-//! A link that plays steps, and keeps what is put as text.
+//! A link that plays steps, and stores the calls that open, close or write as text.
 
 ghost use Rattle.gc_links.specs.Acts.{IsWithin};
 
@@ -18,7 +18,7 @@ pub enum Step<'a> {
     Silence(u64),
     /// The reply to the last request that was sent comes. Its value is the last digit of the request's number, counted from 0.
     Reply(u64),
-    /// The clock goes back.
+    /// Nothing comes, and the clock goes back by this many milliseconds.
     Back(u64),
     /// Nothing comes any more, until the connection is closed.
     Dead,
@@ -37,28 +37,31 @@ pub enum Step<'a> {
 // The moment at which the clock of a link starts, in milliseconds.
 const START: u64 = 1000;
 
-// The ids of a synchronization's null procedures.
-const WORD: [u8; 8] = *b"65432107";
+// The ids of a synchronization's null procedures, in the order in which they are sent.
+const NULL_IDS: [u8; 8] = *b"65432107";
 
-/// A link that plays steps, and then is silent for as long as it is asked to wait. What is put is kept as text.
+/// A link that plays steps: each read makes the next one, and once none is left nothing comes for as long as the read waits. The
+/// calls that open, close or write are stored as text.
 #[derive(Drop)]
 pub struct Script<'a> {
+    // The steps that are played.
     steps: &'a [Step<'a>],
     // The place of the next step.
     at: usize,
     // How many of the next attempts to connect fail.
     shut: u64,
-    // The call of `put` that is cut, counted from 1, and how many bytes of it are sent.
+    // The call of `put` that is cut, counted from 1; how many bytes of it are sent; and how many calls of `put` there were.
     cut: u64,
     kept: usize,
     puts: u64,
-    // How many requests were sent, the id of the last one, and how many had gone out when one was answered last.
+    // How many requests were sent, the digit of the last one's id, and how many were sent when one was answered last.
     requests: u8,
     id: u8,
     answered: u8,
-    // The call that fails, counted from 0; `close` isn't counted.
+    // The call that fails, counted from 0, and how many calls there were; `close` isn't counted.
     failing: u64,
     calls: u64,
+    // The moment now, in milliseconds.
     clock: u64,
     // Whether there is a connection.
     up: bool,
@@ -68,7 +71,7 @@ pub struct Script<'a> {
     ahead: u64,
     // Whether the clock can't be read.
     blind: bool,
-    // Whether each call is kept with its time since the start, and of a request its id alone.
+    // Whether each call is stored with its time since the start, and of a request its id alone.
     timed: bool,
     // How many null procedures of a synchronization were put in a row so far; where the text of the first begins, and when it
     // was put.
@@ -111,12 +114,13 @@ impl<'a> Script<'a> {
         }
     }
 
-    // Keeps a text, if there is room for it.
+    // Appends these bytes to `text`, if there is room for all of them; otherwise none.
     fn note(&mut self, text: &[u8]) {
         let _ = self.text.try_extend_from_slice(text);
     }
 
-    // Keeps a word; if the link is timed, with the time `clock` after it, in milliseconds since the start.
+    // Appends a word and a blank. If the link is timed, the word has `@` and the moment `clock` after it, in milliseconds since the
+    // start.
     fn note_at(&mut self, word: &[u8], clock: u64) {
         self.note(word);
         if self.timed {
@@ -128,13 +132,13 @@ impl<'a> Script<'a> {
         self.note(b" ");
     }
 
-    // Keeps the word of a call that is made now. The call is no null procedure, so it ends a row of these.
+    // Appends the word of a call that is made now. The call is no null procedure, so it ends a row of these.
     fn note_now(&mut self, word: &[u8]) {
         self.nulls = 0;
         self.note_at(word, self.clock);
     }
 
-    // Keeps what is put: `lf` for a lone line feed, else a request, without its line end. If that is the eighth null procedure
+    // Appends what is put: `lf` for a lone line feed, else a request, without its line end. If that is the eighth null procedure
     // of a synchronization in a row, the word `begin` takes the place of all eight.
     fn note_put(&mut self, bytes: &[u8]) {
         if bytes == b"\n".as_slice() {
@@ -149,14 +153,14 @@ impl<'a> Script<'a> {
         } else {
             self.note_at(request, self.clock);
         }
-        if self.nulls == WORD.len() {
+        if self.nulls == NULL_IDS.len() {
             self.text.truncate(self.first);
             self.note_at(b"begin", self.first_at);
             self.nulls = 0;
         }
     }
 
-    // Counts the null procedures of a synchronization that are put one after the other, with the ids of `WORD` in order. Any
+    // Counts the null procedures of a synchronization that are put one after the other, with the ids of `NULL_IDS` in order. Any
     // other request starts the count again.
     fn count_null(&mut self, request: &[u8]) {
         let id = if request.starts_with(b"%R1Q,0,") {
@@ -164,27 +168,27 @@ impl<'a> Script<'a> {
         } else {
             None
         };
-        if id != WORD.get(self.nulls).copied() {
+        if id != NULL_IDS.get(self.nulls).copied() {
             self.nulls = 0;
         }
         if self.nulls == 0 {
             self.first = self.text.len();
             self.first_at = self.clock;
         }
-        if id == WORD.get(self.nulls).copied() {
+        if id == NULL_IDS.get(self.nulls).copied() {
             self.nulls = self.nulls.saturating_add(1);
         }
     }
 
-    // Counts a call, and returns whether it fails.
-    fn is_failing(&mut self) -> bool {
+    // Counts a call of the link, and returns whether it is the one that fails.
+    fn next_call_fails(&mut self) -> bool {
         let call = self.calls;
         self.calls = self.calls.saturating_add(1);
         call == self.failing
     }
 
-    // Lets this many milliseconds pass, and gives the moment then.
-    fn moment(&mut self, later: u64) -> Moment {
+    // Lets `later` milliseconds pass, and returns the moment then.
+    fn moment_after(&mut self, later: u64) -> Moment {
         self.clock = self.clock.saturating_add(later);
         Moment {
             elapsed: self.clock,
@@ -193,11 +197,12 @@ impl<'a> Script<'a> {
         }
     }
 
-    // As many of these bytes come as `buf` has room for; nothing comes if that is none.
+    // Lets `later` milliseconds pass, and returns what a read gives then: as many bytes of `line` as `buf` has room for, which are written
+    // there, or silence if that is none.
     fn bring(&mut self, buf: &mut [u8], line: &[u8], later: u64) -> Came
         ensures { IsWithin result buf.new }
     {
-        let moment = self.moment(later);
+        let moment = self.moment_after(later);
         let mut n: usize = 0;
         for (place, byte) in buf.iter_mut().zip(line) {
             *place = *byte;
@@ -209,7 +214,7 @@ impl<'a> Script<'a> {
         Came::Bytes(n, moment)
     }
 
-    // The reply to a null procedure with this id comes.
+    // Lets `later` milliseconds pass, and returns what a read gives then: the reply to a null procedure. `id` is the digit of its id.
     fn bring_id(&mut self, buf: &mut [u8], id: u8, later: u64) -> Came
         ensures { IsWithin result buf.new }
     {
@@ -218,8 +223,8 @@ impl<'a> Script<'a> {
         self.bring(buf, &line, later)
     }
 
-    // The reply to the last request comes. Its one value is the request's number among all requests, counted from 0: its last
-    // digit.
+    // Counts the last request as answered, lets `later` milliseconds pass, and returns what a read gives then: the reply to that request.
+    // Its one value is the last digit of the request's number among all requests, counted from 0.
     fn reply(&mut self, buf: &mut [u8], later: u64) -> Came
         ensures { IsWithin result buf.new }
     {
@@ -230,12 +235,13 @@ impl<'a> Script<'a> {
         self.bring(buf, &line, later)
     }
 
-    // The last request is answered, if it isn't yet.
+    // What a read of `Answers` gives that waits for at most `millis` milliseconds: after 5 milliseconds, or `millis` if that is less, the
+    // reply to the last request, if that isn't answered yet and there is a connection; otherwise silence for all that time.
     fn answer(&mut self, buf: &mut [u8], millis: u64) -> Came
         ensures { IsWithin result buf.new }
     {
         if self.answered == self.requests || !self.up {
-            return Came::Silence(self.moment(millis));
+            return Came::Silence(self.moment_after(millis));
         }
         self.reply(buf, millis.min(5))
     }
@@ -251,7 +257,7 @@ impl<'a> Script<'a> {
     }
 }
 
-// The digit of a request's id: the byte before the colon.
+// The digit of a request's id: the byte before the colon. `None`: there is no colon, or nothing before it.
 fn id_of(request: &[u8]) -> Option<u8> {
     let end = request.iter().position(|byte| *byte == b':')?;
     request.get(end.checked_sub(1)?).copied()
@@ -262,33 +268,33 @@ impl<'a> Link for Script<'a> {
 
     ghost acts = { λ _. None };
 
-    // Reads the clock, unless this is the failing call or the clock can't be read.
+    // The moment now. `Err`: this is the failing call, or the clock can't be read.
     fn now(&mut self) -> Result<Moment, PortFailed> {
-        if self.is_failing() || self.blind {
+        if self.next_call_fails() || self.blind {
             return Err(PortFailed);
         }
-        Ok(self.moment(0))
+        Ok(self.moment_after(0))
     }
 
-    // Plays the next step. If none is left, nothing comes for `millis` milliseconds.
+    // Plays the next step, or fails if this is the failing call. If no step is left, nothing comes for `millis` milliseconds.
     fn read(&mut self, buf: &mut [u8], millis: u64) -> Came {
-        if self.is_failing() {
+        if self.next_call_fails() {
             return Came::Failure;
         }
         let Some(step) = self.next() else {
-            return Came::Silence(self.moment(millis));
+            return Came::Silence(self.moment_after(millis));
         };
         match step {
             Step::Line(line, later) => self.bring(buf, line, later),
             Step::Id(id, later) => self.bring_id(buf, id, later),
             Step::Reply(later) => self.reply(buf, later),
-            Step::Silence(later) => Came::Silence(self.moment(later)),
-            Step::Dead => Came::Silence(self.moment(millis)),
+            Step::Silence(later) => Came::Silence(self.moment_after(later)),
+            Step::Dead => Came::Silence(self.moment_after(millis)),
             Step::Noise => self.bring(buf, b"noise\r\n", millis.min(5)),
             Step::Answers => self.answer(buf, millis),
             Step::Back(earlier) => {
                 self.clock = self.clock.saturating_sub(earlier);
-                Came::Silence(self.moment(0))
+                Came::Silence(self.moment_after(0))
             }
             Step::End => Came::End,
             Step::Failure => Came::Failure,
@@ -296,10 +302,12 @@ impl<'a> Link for Script<'a> {
         }
     }
 
-    // The put whose number is `cut`, or that is the failing call, is cut: its first `kept` bytes are sent, at most all but one.
+    // Stores the word of what is put. The put whose number is `cut`, or that is the failing call, is cut: its first `kept`
+    // bytes are sent, at most all but one, and `Err` has how many. Any other is sent whole, and a request counts as the last
+    // one that was sent.
     fn put(&mut self, bytes: &[u8]) -> Result<(), usize> {
         self.puts = self.puts.saturating_add(1);
-        if self.is_failing() || self.puts == self.cut {
+        if self.next_call_fails() || self.puts == self.cut {
             self.nulls = 0;
             self.note(b"cut:");
             self.note_put(bytes);
@@ -326,9 +334,9 @@ impl<'a> Link for Script<'a> {
         }
     }
 
-    // Makes a connection, unless this is the failing call or one of the first `shut` attempts.
+    // Makes a connection, and stores `open`. `Err`: this is the failing call or one of the next `shut` attempts, and `shut` is stored.
     fn open(&mut self) -> Result<(), PortFailed> {
-        if self.is_failing() {
+        if self.next_call_fails() {
             self.note_now(b"shut");
             return Err(PortFailed);
         }

@@ -6,7 +6,7 @@ use gc_station::Plan;
 /// How a run is set.
 #[derive(Clone, Copy)]
 pub struct Setting {
-    /// The plan.
+    /// The plan of the station's run.
     pub plan: Plan,
     /// How many turns the run may take.
     pub turns: u64,
@@ -43,8 +43,8 @@ pub struct Setting {
 }
 
 impl Setting {
-    /// One request at a time, timed out after 100 milliseconds, a quiet time of 10, and one new try, so that a line is dead after
-    /// 200. Nothing fails.
+    /// A setting by which nothing fails: one request at a time, a deadline of 100 milliseconds, a quiet time of 10 milliseconds, and
+    /// one retry, so that a line counts as dead after 200 milliseconds.
     pub fn new() -> Setting {
         Setting {
             plan: Plan {
@@ -77,7 +77,7 @@ impl Setting {
         }
     }
 
-    /// Sets what these words say, and returns whether each is known: `WORD=NUMBER`, or a word alone.
+    /// Sets what these words say, each `KEY=NUMBER` or a key alone, with spaces between. Returns whether each is known.
     pub fn set_all(&mut self, words: &str) -> bool {
         let mut are_known = true;
         for word in words.split(' ') {
@@ -89,7 +89,8 @@ impl Setting {
         are_known
     }
 
-    // Sets what one word says, and returns whether it is known.
+    // Sets what one word says, `KEY=NUMBER`, or a key alone, which stands for `KEY=1`. Returns whether the key is known and the number
+    // can be read.
     fn set_word(&mut self, word: &str) -> bool {
         let (key, digits) = word.split_once('=').unwrap_or((word, "1"));
         let Some(value) = number(digits) else {
@@ -115,7 +116,8 @@ impl Setting {
         true
     }
 
-    // Sets a value of the link, the book, the log or the steps, and returns whether the key is one of theirs.
+    // Sets a value of the link, the book, the log, the steps or the report, and returns whether the key is one of theirs. `stamped`,
+    // `blind`, `timed` and `counted` are set to true, whatever the value.
     fn set_link(&mut self, key: &str, value: u64) -> bool {
         match key {
             "turns" => self.turns = value,

@@ -11,7 +11,7 @@
 //!                                 the moment at which its request was sent, if it was; `!` after a cycle that overran
 //!     end fault 46                the fault, if there is one
 //!     counts answered 3 ..        how many commands ended how, where `with` says `counted`
-//!     log ..                      what the log has, over a link with one; without tasks the link only hears
+//!     log ..                      what the log has, over a link with one; without tasks the link is only read
 //!     row cut=3: PUT | ENDS | END the same once more with this word behind the others, in place of the three lines
 //!     each kept=11                once for each number below this one: all come to the same
 
@@ -22,11 +22,14 @@ use gc_cases::{Case, Player, Told, push_all};
 use std::alloc::{AllocError, Global};
 use std::io;
 
+// The most rows of a case.
+const MOST_ROWS: usize = 1000;
+
 /// The player of `.stations`.
 pub struct Stations;
 
 impl Player for Stations {
-    // Plays a case of runs of a station, and reports into `wrong` what came otherwise.
+    // Plays a case of runs of a station, and appends to `wrong` what came otherwise than the case has it.
     fn play(&self, rt: &HostRuntime, case: &Case<'_>, wrong: &mut Told) -> io::Result<()> {
         play_case(rt.alloc(), case, wrong);
         Ok(())
@@ -51,14 +54,14 @@ impl Values {
         }
     }
 
-    // Takes the values of a case. It fails if memory runs out.
+    // Stores the values that a case has under `tasks`, `steps` and `then`. `Err`: memory ran out.
     fn take(&mut self, case: &Case<'_>) -> Result<(), AllocError> {
         push_lines(&mut self.tasks, case.value("tasks"))?;
         push_all(&mut self.steps, case.value("steps"))?;
         push_all(&mut self.then, case.value("then"))
     }
 
-    // The run of the case, as the words after `with` have it.
+    // The run of the case, set as the words after `with` say. Its link has a log if the case has a line `log`.
     fn run(&self, case: &Case<'_>) -> Run<'_> {
         let mut setting = Setting::new();
         let is_known = setting.set_all(case.value("with"));
@@ -73,7 +76,7 @@ impl Values {
     }
 }
 
-// Appends a text whose lines end at `;`.
+// Appends `value` to `lines`, with a line feed for each `;`. `Err`: memory ran out.
 fn push_lines(lines: &mut Vec<u8>, value: &str) -> Result<(), AllocError> {
     for byte in value.as_bytes() {
         lines.push(if *byte == b';' { b'\n' } else { *byte })?;
@@ -81,7 +84,7 @@ fn push_lines(lines: &mut Vec<u8>, value: &str) -> Result<(), AllocError> {
     Ok(())
 }
 
-// Plays a case. If memory runs out for its texts, it is reported as wrong.
+// Plays a case. If memory runs out for its texts, `wrong` notes that it lacks a part, so the case counts as wrong.
 fn play_case(alloc: Global, case: &Case<'_>, wrong: &mut Told) {
     let mut values = Values::new(alloc);
     if values.take(case).is_err() {
@@ -90,8 +93,8 @@ fn play_case(alloc: Global, case: &Case<'_>, wrong: &mut Told) {
     play_run(alloc, case, &values.run(case), wrong);
 }
 
-// Plays the rows, or if there is none the run. A case with rows has no `put`, `ends`, `end` or `log` beside them: one that it
-// has is reported as wrong, against an outcome of nothing.
+// Plays the rows of a case, or its run if it has no rows. Beside rows a case has no value under `put`, `ends`, `end`, `log` or `counts`:
+// each that it has there is reported as wrong.
 fn play_run(alloc: Global, case: &Case<'_>, run: &Run<'_>, wrong: &mut Told) {
     if case.value("row").is_empty() {
         return play_each(alloc, case, run, wrong);
@@ -100,9 +103,9 @@ fn play_run(alloc: Global, case: &Case<'_>, run: &Run<'_>, wrong: &mut Told) {
     Outcome::new(alloc).tell(case, wrong);
 }
 
-// Plays the rows. Each that came to something else is reported, as it came.
+// Plays the rows of a case, at most `MOST_ROWS`. Each that came to something else is reported, as it came.
 fn play_rows(alloc: Global, case: &Case<'_>, run: &Run<'_>, wrong: &mut Told) {
-    for place in 0..1000 {
+    for place in 0..MOST_ROWS {
         match case.value_at("row", place) {
             Some(row) => play_row(alloc, case, row, run, wrong),
             None => break,
@@ -110,7 +113,8 @@ fn play_rows(alloc: Global, case: &Case<'_>, run: &Run<'_>, wrong: &mut Told) {
     }
 }
 
-// Plays a row: runs with its word, and reports what came if that is something else than the row has.
+// Plays a row: the run with the row's word more, which is what stands before the first `: `. Reports the row as it came, if that is
+// something else than `row`.
 fn play_row(alloc: Global, case: &Case<'_>, row: &str, run: &Run<'_>, wrong: &mut Told) {
     let mut came = Told::new(alloc);
     let word = row.split_once(": ").map_or(row, |cut| cut.0);
@@ -120,7 +124,7 @@ fn play_row(alloc: Global, case: &Case<'_>, row: &str, run: &Run<'_>, wrong: &mu
     }
 }
 
-// Reports a row as it came: its word, and what the run came to with it.
+// Appends a row as it came to `came`: its word, and what the run came to with that word more.
 fn tell_row(alloc: Global, word: &str, run: &Run<'_>, came: &mut Told) {
     let mut outcome = Outcome::new(alloc);
     run.play(alloc, word, &mut outcome);
@@ -128,7 +132,9 @@ fn tell_row(alloc: Global, word: &str, run: &Run<'_>, came: &mut Told) {
     outcome.tell_row(came);
 }
 
-// Plays the run, once for each number below the one after `each`, up to the first that comes otherwise than the case has it.
+// Plays the run. Where the case has a line `each KEY=COUNT`, it is played once for each number N below COUNT, with the setting word
+// `KEY=N` more, up to the first that comes otherwise than the case has it; a COUNT that is 0 or no number is reported as wrong. Without
+// such a line the run is played once, as it is set.
 fn play_each(alloc: Global, case: &Case<'_>, run: &Run<'_>, wrong: &mut Told) {
     let Some((key, count)) = case.value("each").split_once('=') else {
         return play_once(alloc, case, "", run, wrong);
@@ -139,15 +145,22 @@ fn play_each(alloc: Global, case: &Case<'_>, run: &Run<'_>, wrong: &mut Told) {
     }
     let before = wrong.as_bytes().len();
     for n in 0..count {
-        play_number(alloc, case, key, n, run, wrong);
+        play_with_value(alloc, case, key, n, run, wrong);
         if wrong.as_bytes().len() > before {
             break;
         }
     }
 }
 
-// Plays the run with a number after a key.
-fn play_number(alloc: Global, case: &Case<'_>, key: &str, n: u64, run: &Run<'_>, wrong: &mut Told) {
+// Plays the run with one setting word more, which sets `key` to the number `n`.
+fn play_with_value(
+    alloc: Global,
+    case: &Case<'_>,
+    key: &str,
+    n: u64,
+    run: &Run<'_>,
+    wrong: &mut Told,
+) {
     let mut word = Told::new(alloc);
     word.text(key);
     word.titled("=", &n);
@@ -155,7 +168,7 @@ fn play_number(alloc: Global, case: &Case<'_>, key: &str, n: u64, run: &Run<'_>,
     play_once(alloc, case, word, run, wrong);
 }
 
-// Plays the run with one word more, and reports what came otherwise than the case has it.
+// Plays the run once, with the setting words of `word` more, which may be empty. Reports what came otherwise than the case has it.
 fn play_once(alloc: Global, case: &Case<'_>, word: &str, run: &Run<'_>, wrong: &mut Told) {
     let mut outcome = Outcome::new(alloc);
     run.play(alloc, word, &mut outcome);

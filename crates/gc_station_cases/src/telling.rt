@@ -8,8 +8,8 @@ use gc_links::{Link, Telling};
 use gc_station::{Book, Kept, Plan, Tally, run_station};
 use gc_texts::{RunFault, Task};
 
-/// Runs a station over a link that records its acts, so that what `run_station` promises of the acts recorded holds of this
-/// run.
+/// Runs a station with these commands by `run_station`, over a link that records its acts, for at most `max_turns` turns. What
+/// `run_station` promises holds here of the acts recorded.
 pub fn run_telling<L: Link, B: Book>(
     link: &mut Telling<L>,
     book: &mut B,
@@ -18,7 +18,8 @@ pub fn run_telling<L: Link, B: Book>(
     max_turns: u64,
 ) -> Result<Tally, RunFault>
     ensures { ForReadings (λ reads.
-        Ran plan.now commands.now (record { turns = max_turns; reads = reads }) (B.text book.old) (Some link.old.history.acts) (Some link.new.history.acts) (B.taken book.old) (B.taken book.new) result) }
+        Ran plan.now commands.now (record { turns = max_turns; reads = reads }) (B.text book.old)
+        (Some link.old.history.acts) (Some link.new.history.acts) (B.taken book.old) (B.taken book.new) result) }
 {
     run_station(link, book, commands, plan, max_turns, &mut Kept::new())
 }

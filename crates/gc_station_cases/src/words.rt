@@ -42,13 +42,13 @@ pub fn push_words<'a>(steps: &mut Vec<Step<'a>>, words: &'a str, split: u64) -> 
     are_known
 }
 
-// Adds the steps of `meaning`, the words that a name stands for.
+// Adds the steps of `meaning`, the words that a name stands for, and returns whether there was room for each.
 fn push_named(steps: &mut Vec<Step<'_>>, meaning: &'static str) -> bool {
-    let mut are_known = true;
+    let mut are_pushed = true;
     for word in meaning.split(' ') {
-        are_known &= push_word(steps, word, 0);
+        are_pushed &= push_word(steps, word, 0);
     }
-    are_known
+    are_pushed
 }
 
 // Adds the step of a word, or the two of a cut line, and returns whether the word is known and there was room.
@@ -78,7 +78,8 @@ fn cut_line(line: &[u8], split: u64) -> (&[u8], &[u8]) {
     line.split_at(at)
 }
 
-// The step of what comes before `@`, with the milliseconds after it. None: no step is called so.
+// The step that `what` names, the part of a word before `@`, with the milliseconds after it. `None`: no step has that name, or an id
+// after `#` isn't one byte.
 fn step_of<'a>(what: &'a str, millis: u64) -> Option<Step<'a>> {
     if let Some(line) = what.strip_prefix('<') {
         return Some(Step::Line(line.as_bytes(), millis));
@@ -108,7 +109,7 @@ fn id_of(id: &str) -> Option<u8> {
     }
 }
 
-/// The number that digits write.
+/// The number that decimal digits write. `None`: another byte is among them, there is none, or the number is above `u64::MAX`.
 pub fn number(digits: &str) -> Option<u64> {
     number_of(digits.as_bytes(), u64::MAX)
 }

@@ -1,13 +1,11 @@
 //! What a station hears: a piece, its lines, and what they settle.
 
-ghost use Rattle.std.specs.Prelude.{◌≡◌, ℕ, List, Option};
-ghost use Rattle.std.specs.Option.{option_to_list};
-ghost use Rattle.gc_lines.specs.Frames.{line_in};
-ghost use Rattle.gc_lines.specs.Lent.{lent_seen, IsLineWithin};
+ghost use Rattle.std.specs.Prelude.{◌≡◌, List};
+ghost use Rattle.gc_lines.specs.Lent.{IsLineWithin};
 ghost use Rattle.gc_lines.specs.Ports.{FailsWith};
-ghost use Rattle.gc_station.specs.Model.{Model, is_heard, with_progress, lines_came, piece_came, piece_synchronizing, after_piece, piece_at, moved};
+ghost use Rattle.gc_station.specs.Model.{Model, piece_came, piece_synchronizing, piece_at};
 ghost use Rattle.gc_station.specs.Progressing.{lines_synchronizing};
-ghost use Rattle.gc_station.specs.Stations.{Refines, Took, Made, ComesTo, seen};
+ghost use Rattle.gc_station.specs.Stations.{Refines, Moves, Becomes, frame_came, lines_of_frame, piece_taken};
 ghost use Rattle.gc_station.specs.declared.progress.Action.TheVariants.{Read};
 ghost use Rattle.gc_texts.specs.declared.tasks.Task.{Task};
 
@@ -22,11 +20,10 @@ use gc_lines::{Lent, Line, PortFailed};
 use gc_links::{Came, Link, Moment};
 
 impl Station {
-    // Hears the line of a frame, if the frame is a line, and records what the line settles.
+    // Hears the line of a frame, if the frame is a line, and records what the line settles. `Err`: the book failed at a record.
     fn hear<B: Book>(&mut self, book: &mut B, frame: Lent<'_>) -> Result<(), PortFailed>
         requires { IsLineWithin frame }
-        ensures hears { (s : Model) (start : Option (List ℕ)) → Refines self.old s → Took (B.text book.old) start (B.taken book.old) s
-            → ComesTo (B.text book.old) s.records self.new start (B.taken book.new) (lines_came s (option_to_list (line_in (lent_seen frame.entry)))) result }
+        ensures hears { Becomes (frame_came frame.entry) (B.text book.old) (B.taken book.old) (B.taken book.new) self.old self.new result }
         ensures fails { FailsWith result (B.failed book.old) (B.failed book.new) }
         ensures form { B.text book.new ≡ B.text book.old }
     {
@@ -43,10 +40,10 @@ impl Station {
         Ok(())
     }
 
-    // Hears the lines of a piece, in order, and records what they settle.
+    // Hears the lines of a piece, in order, and records what they settle. `Err`: the book failed at a record, and the lines after
+    // it weren't heard.
     fn listen<B: Book>(&mut self, book: &mut B, piece: &[u8]) -> Result<(), PortFailed>
-        ensures listens { (s : Model) (start : Option (List ℕ)) → Refines self.old s → Took (B.text book.old) start (B.taken book.old) s
-            → ComesTo (B.text book.old) s.records self.new start (B.taken book.new) (piece_came piece.now s) result }
+        ensures listens { Becomes (piece_came piece.now) (B.text book.old) (B.taken book.old) (B.taken book.new) self.old self.new result }
         ensures fails { FailsWith result (B.failed book.old) (B.failed book.new) }
         ensures form { B.text book.new ≡ B.text book.old }
     {
@@ -66,7 +63,7 @@ impl Station {
     // null procedure.
     fn hear_null(&mut self, frame: Lent<'_>)
         requires { IsLineWithin frame }
-        ensures { self.new ≡ record self.old { progress = lines_synchronizing self.old.progress (option_to_list (line_in (lent_seen frame.entry))) } }
+        ensures { self.new ≡ record self.old { progress = lines_synchronizing self.old.progress (lines_of_frame frame.entry) } }
     {
         if let Lent::Line(line) = frame {
             self.progress.hear(line);
@@ -86,11 +83,10 @@ impl Station {
         }
     }
 
-    // Hears the lines of a piece: as those of a synchronization, or as the client's. In a phase in which nothing is heard it
-    // discards them.
+    // Hears the lines of a piece: by `listen_null` while the station synchronizes, by `listen` once it has. In a phase in which
+    // nothing is heard the piece is discarded. `Err`: the book failed at a record.
     fn take_lines<B: Book>(&mut self, book: &mut B, piece: &[u8]) -> Result<(), PortFailed>
-        ensures takes { (s : Model) (start : Option (List ℕ)) → Refines self.old s → Took (B.text book.old) start (B.taken book.old) s
-            → ComesTo (B.text book.old) s.records self.new start (B.taken book.new) (after_piece (is_heard s.progress.phase) s.progress.word piece.now s) result }
+        ensures takes { Becomes (piece_taken piece.now) (B.text book.old) (B.taken book.old) (B.taken book.new) self.old self.new result }
         ensures fails { FailsWith result (B.failed book.old) (B.failed book.new) }
         ensures form { B.text book.new ≡ B.text book.old }
     {
@@ -105,6 +101,7 @@ impl Station {
     }
 
     // Takes a piece and the moment that was read after it: requests whose deadline has come time out, then the piece is heard.
+    // `Err`: the book failed at a record.
     fn take_piece<B: Book>(
         &mut self,
         book: &mut B,
@@ -113,8 +110,7 @@ impl Station {
         piece: &[u8],
         now: Moment,
     ) -> Result<(), PortFailed>
-        ensures takes { (s : Model) (start : Option (List ℕ)) → Refines self.old s → Took (B.text book.old) start (B.taken book.old) s
-            → ComesTo (B.text book.old) s.records self.new start (B.taken book.new) (piece_at plan.now until piece.now now s) result }
+        ensures takes { Becomes (piece_at plan.now until piece.now now) (B.text book.old) (B.taken book.old) (B.taken book.new) self.old self.new result }
         ensures fails { FailsWith result (B.failed book.old) (B.failed book.new) }
         ensures form { B.text book.new ≡ B.text book.old }
     {
@@ -141,10 +137,12 @@ impl Station {
         until: Until,
     ) -> Result<(), PortFailed>
         ensures does { (commands : List Task)
-            → Made commands (Read until) (moved plan.now commands (Read until)) (seen (L.acts link.old) (B.text book.old) (B.taken book.old) self.old) (seen (L.acts link.new) (B.text book.old) (B.taken book.new) self.new) result }
+            → Moves plan.now commands (Read until) (B.text book.old)
+            (L.acts link.old) (L.acts link.new) (B.taken book.old) (B.taken book.new) self.old self.new result }
         ensures fails { FailsWith result (B.failed book.old) (B.failed book.new) }
         ensures form { B.text book.new ≡ B.text book.old }
     {
+        // One read takes at most 256 bytes.
         let mut buf = [0u8; 256];
         let millis = self.patience(plan, until);
         match link.read(&mut buf, millis) {

@@ -1,15 +1,14 @@
 //! What a station sends: the line feed that clears half a request, and requests.
 
-ghost use Rattle.std.specs.Prelude.{◌≡◌, ℕ, ◌<◌, ◌≤◌, ◌++◌, List, [], ◌∷◌, false, length, drop, Option};
+ghost use Rattle.std.specs.Prelude.{◌≡◌, ◌<◌, ◌≤◌, [], ◌∷◌, false, length, drop, Option};
 ghost use Rattle.gc_client.specs.declared.window.TheConstants.{WINDOW};
 ghost use Rattle.gc_catalogue.specs.declared.asked.Asked.TheVariants.{Table};
 ghost use Rattle.gc_catalogue.specs.declared.call.Call.TheVariants.{NullProc};
-ghost use Rattle.gc_links.specs.Acts.{Tells, put_as, IsPart};
+ghost use Rattle.gc_links.specs.Acts.{Tells, put_act, IsPart};
 ghost use Rattle.gc_station.specs.Deciding.{has_begun};
-ghost use Rattle.gc_station.specs.Records.{Record};
 ghost use Rattle.gc_station.specs.Requests.{command_at};
-ghost use Rattle.gc_station.specs.Model.{request_text, null_text, mark_setup, sent_to};
-ghost use Rattle.gc_station.specs.Stations.{IsPaired, Does, cut_progress, setup_asked, seen};
+ghost use Rattle.gc_station.specs.Model.{request_text, null_text, mark_setup};
+ghost use Rattle.gc_station.specs.Stations.{IsPaired, DoesAlone, cut_progress, setup_asked, station_asking};
 ghost use Rattle.gc_station.specs.declared.progress.Action.TheVariants.{Clear, Ask, Prepare, Send, Flush};
 
 use super::Station;
@@ -23,8 +22,7 @@ use gc_lines::{Line, append};
 use gc_links::Link;
 use gc_texts::{Task, Wish};
 
-// A request that is to be sent: for this command, with how many milliseconds it waits, and its mark, if it is of a command of
-// the text.
+// A request that is to be sent: its command; for how many milliseconds it waits; and its mark, `None` for a null procedure.
 #[derive(Clone, Copy)]
 pub(crate) struct Asking {
     pub(crate) command: Wish,
@@ -53,8 +51,9 @@ fn null_command() -> Wish
 }
 
 impl Station {
-    // Notes, if a write was cut, that the connection is to be closed. `requests`: as `requests_out` counts them.
-    fn cut(&mut self, put: Result<(), usize>, requests: usize)
+    // Notes, if a write was cut (`put` is `Err`, with the number of bytes that were sent), that the connection is to be closed for
+    // that. `requests` is the number that `commands_before` returns.
+    fn note_cut(&mut self, put: Result<(), usize>, requests: usize)
         ensures { self.new ≡ record self.old { progress = cut_progress put requests self.old.progress } }
     {
         if let Err(bytes) = put {
@@ -64,13 +63,12 @@ impl Station {
 
     // Sends the lone line feed that clears a new connection.
     pub(super) fn clear<L: Link>(&mut self, link: &mut L, plan: &Plan, commands: &[Task])
-        ensures { (text : Record → List ℕ) (known : Option (List ℕ))
-            → Does plan.now commands.now Clear (seen (L.acts link.old) text known self.old) (seen (L.acts link.new) text known self.new) }
+        ensures { DoesAlone plan.now commands.now Clear (L.acts link.old) (L.acts link.new) self.old self.new }
     {
-        let requests = self.requests_out(plan, commands);
+        let requests = self.commands_before(plan, commands);
         let put = link.put(b"\n");
         self.progress.note_cleared();
-        self.cut(put, requests);
+        self.note_cut(put, requests);
     }
 
     // Sends a request, which has this mark and waits for `wait` milliseconds. `Err`: the write was cut, with the number of
@@ -85,12 +83,9 @@ impl Station {
         requires width { self.old.client.width ≡ WINDOW }
         requires room { length self.old.client.ids.waiting < WINDOW }
         requires paired { IsPaired self.old }
-        ensures tells { Tells (L.acts link.old) (L.acts link.new) (put_as result (request_text self.old.client.ids command.now.call) ∷ []) }
+        ensures tells { Tells (L.acts link.old) (L.acts link.new) (put_act result (request_text self.old.client.ids command.now.call) ∷ []) }
         ensures part { IsPart result (request_text self.old.client.ids command.now.call) }
-        ensures asks { self.new ≡ record self.old {
-          client = record self.old.client { ids = sent_to self.old.client.width self.old.client.ids command.now self.old.progress.moment.elapsed wait };
-          marks = record { items = self.old.marks.items ++ mark ∷ [] };
-        } }
+        ensures asks { self.new ≡ station_asking command.now wait mark self.old }
     {
         let deadline = later(self.progress.moment.elapsed, wait);
         let mut line = Line::new();
@@ -101,22 +96,24 @@ impl Station {
             unreachable!()
         };
         self.marks.push(mark);
+        // A line has at most 512 bytes, and CR LF ends it.
         let mut text = ArrayVec::<u8, 514>::new();
         append(&mut text, &line);
         append(&mut text, b"\r\n");
         link.put(text.as_slice())
     }
 
-    // A station synchronizes by null procedures, one after the other, one for each id of the word. Puts the request line of the
-    // first of them that isn't answered yet. `Err`: the write was cut, with the number of bytes that were sent.
+    // Writes the request line of the first null procedure of the synchronization that isn't answered. `Err`: the write was cut,
+    // with the number of bytes that were sent.
     fn put_null<L: Link>(&self, link: &mut L) -> Result<(), usize>
         requires { has_begun self.now.progress ≡ false }
-        ensures tells { Tells (L.acts link.old) (L.acts link.new) (put_as result (null_text self.now.progress.word) ∷ []) }
+        ensures tells { Tells (L.acts link.old) (L.acts link.new) (put_act result (null_text self.now.progress.word) ∷ []) }
         ensures part { IsPart result (null_text self.now.progress.word) }
     {
         let Some(line) = self.progress.word.ask() else {
             unreachable!()
         };
+        // A line has at most 512 bytes, and CR LF ends it.
         let mut text = ArrayVec::<u8, 514>::new();
         append(&mut text, &line);
         append(&mut text, b"\r\n");
@@ -126,13 +123,12 @@ impl Station {
     // Sends the null procedure of the first id that isn't answered, and notes its deadline.
     pub(super) fn ask_null<L: Link>(&mut self, link: &mut L, plan: &Plan, commands: &[Task])
         requires { has_begun self.old.progress ≡ false }
-        ensures { (text : Record → List ℕ) (known : Option (List ℕ))
-            → Does plan.now commands.now Ask (seen (L.acts link.old) text known self.old) (seen (L.acts link.new) text known self.new) }
+        ensures { DoesAlone plan.now commands.now Ask (L.acts link.old) (L.acts link.new) self.old self.new }
     {
-        let requests = self.requests_out(plan, commands);
+        let requests = self.commands_before(plan, commands);
         let put = self.put_null(link);
         self.progress.note_null(plan);
-        self.cut(put, requests);
+        self.note_cut(put, requests);
     }
 
     // Sends the next command. One that sets the clock asks for the moment of its mark.
@@ -142,10 +138,9 @@ impl Station {
         requires paired { IsPaired self.old }
         requires unsent { 0 < self.old.progress.unsent }
         requires within { self.old.progress.unsent ≤ length commands.now }
-        ensures { (text : Record → List ℕ) (known : Option (List ℕ))
-            → Does plan.now commands.now Send (seen (L.acts link.old) text known self.old) (seen (L.acts link.new) text known self.new) }
+        ensures { DoesAlone plan.now commands.now Send (L.acts link.old) (L.acts link.new) self.old self.new }
     {
-        let requests = self.requests_out(plan, commands);
+        let requests = self.commands_before(plan, commands);
         let mark = self.mark(plan, commands);
         let task = &commands[self.place(commands)];
         let next_is_chained = self.is_chained_after(1, commands);
@@ -153,7 +148,7 @@ impl Station {
         let command = command_at(task, mark.sent);
         let put = self.ask(link, &command, task.deadline, Some(mark));
         self.progress.note_sent(next_is_chained, others);
-        self.cut(put, requests);
+        self.note_cut(put, requests);
     }
 
     // The request for the next command of the setup, if the list has one; otherwise for a null procedure.
@@ -180,27 +175,26 @@ impl Station {
         requires width { self.old.client.width ≡ WINDOW }
         requires room { length self.old.client.ids.waiting < WINDOW }
         requires paired { IsPaired self.old }
-        ensures { (text : Record → List ℕ) (known : Option (List ℕ))
-            → Does plan.now commands.now Prepare (seen (L.acts link.old) text known self.old) (seen (L.acts link.new) text known self.new) }
+        ensures { DoesAlone plan.now commands.now Prepare (L.acts link.old) (L.acts link.new) self.old self.new }
     {
-        let requests = self.requests_out(plan, commands);
+        let requests = self.commands_before(plan, commands);
         let asking = self.next_setup(plan, commands);
         let put = self.ask(link, &asking.command, asking.wait, asking.mark);
         self.progress.note_setup(plan);
-        self.cut(put, requests);
+        self.note_cut(put, requests);
     }
 
-    // Sends a null procedure after requests that have all timed out: its reply settles them.
+    // Sends a null procedure: after requests that have all timed out, since its reply settles them, or before a command, as
+    // `Action::Flush` says.
     pub(super) fn flush<L: Link>(&mut self, link: &mut L, plan: &Plan, commands: &[Task])
         requires width { self.old.client.width ≡ WINDOW }
         requires room { length self.old.client.ids.waiting < WINDOW }
         requires paired { IsPaired self.old }
-        ensures { (text : Record → List ℕ) (known : Option (List ℕ))
-            → Does plan.now commands.now Flush (seen (L.acts link.old) text known self.old) (seen (L.acts link.new) text known self.new) }
+        ensures { DoesAlone plan.now commands.now Flush (L.acts link.old) (L.acts link.new) self.old self.new }
     {
-        let requests = self.requests_out(plan, commands);
+        let requests = self.commands_before(plan, commands);
         let put = self.ask(link, &null_command(), plan.deadline, None);
         self.progress.note_request();
-        self.cut(put, requests);
+        self.note_cut(put, requests);
     }
 }

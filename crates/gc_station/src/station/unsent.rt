@@ -1,13 +1,11 @@
 //! Commands that a station doesn't send: one that is recorded as skipped or missed, and further attempts that aren't needed.
 
-ghost use Rattle.std.specs.Prelude.{◌≡◌, ℕ, ◌<◌, ◌≤◌, ◌++◌, List, length, Option, OnOk, false};
-ghost use Rattle.std.specs.Io.KnownBytes.{Appends};
+ghost use Rattle.std.specs.Prelude.{◌≡◌, ◌<◌, ◌≤◌, length, OnOk, false};
 ghost use Rattle.gc_lines.specs.Ports.{FailsWith};
 ghost use Rattle.gc_links.specs.Acts.{Told};
-ghost use Rattle.gc_station.specs.Records.{Record, texts_of, WritesAll};
-ghost use Rattle.gc_station.specs.Model.{listed_unsent, skips, moved};
-ghost use Rattle.gc_station.specs.Stations.{Does, Made, seen};
-ghost use Rattle.gc_station.specs.Tallies.{tallied};
+ghost use Rattle.gc_station.specs.Records.{WritesMore};
+ghost use Rattle.gc_station.specs.Model.{skips};
+ghost use Rattle.gc_station.specs.Stations.{DoesAlone, Moves, station_skipping};
 ghost use Rattle.gc_station.specs.declared.progress.Action.TheVariants.{Skip, Pass};
 
 use super::Station;
@@ -21,7 +19,7 @@ use gc_texts::{Ending, Stamp, Task};
 
 impl Station {
     // Reads the clock, and records the next command without sending it. A clock that can't be read is noted, as by
-    // `read_clock`, and nothing is written. `Err`: the book failed.
+    // `read_clock`, and nothing is written. `Err`: the book failed at the record.
     pub(super) fn skip<L: Link, B: Book>(
         &mut self,
         link: &mut L,
@@ -31,7 +29,8 @@ impl Station {
     ) -> Result<(), PortFailed>
         requires unsent { 0 < self.old.progress.unsent }
         requires within { self.old.progress.unsent ≤ length commands.now }
-        ensures does { Made commands.now Skip (moved plan.now commands.now Skip) (seen (L.acts link.old) (B.text book.old) (B.taken book.old) self.old) (seen (L.acts link.new) (B.text book.old) (B.taken book.new) self.new) result }
+        ensures does { Moves plan.now commands.now Skip (B.text book.old)
+            (L.acts link.old) (L.acts link.new) (B.taken book.old) (B.taken book.new) self.old self.new result }
         ensures fails { FailsWith result (B.failed book.old) (B.failed book.new) }
         ensures form { B.text book.new ≡ B.text book.old }
     {
@@ -59,8 +58,7 @@ impl Station {
     // Reads the clock, and leaves out the further attempts of a chain that the next command begins. A clock that can't be read
     // is noted, as by `read_clock`, and nothing is left out.
     pub(super) fn pass<L: Link>(&mut self, link: &mut L, plan: &Plan, commands: &[Task])
-        ensures { (text : Record → List ℕ) (known : Option (List ℕ))
-            → Does plan.now commands.now Pass (seen (L.acts link.old) text known self.old) (seen (L.acts link.new) text known self.new) }
+        ensures { DoesAlone plan.now commands.now Pass (L.acts link.old) (L.acts link.new) self.old self.new }
     {
         match link.now() {
             Ok(moment) => {
@@ -77,7 +75,8 @@ impl Station {
         }
     }
 
-    // Writes the record of the next command, which isn't sent: it is skipped, or its cycle is missed.
+    // Writes the record of the next command, which isn't sent: as missed if its cycle is missed, otherwise as skipped. `Err`: the
+    // book failed at the record.
     fn write_skipped<B: Book>(
         &mut self,
         book: &mut B,
@@ -87,13 +86,8 @@ impl Station {
     ) -> Result<(), PortFailed>
         requires unsent { 0 < self.old.progress.unsent }
         requires within { self.old.progress.unsent ≤ length commands.now }
-        ensures wrote { (start : Option (List ℕ)) (before : List Record) → Appends start (B.taken book.old) (texts_of (B.text book.old) before)
-            → WritesAll (B.text book.old) before (before ++ skips plan.now commands.now self.old.progress (Told moment)) start (B.taken book.new) result }
-        ensures after { OnOk result (self.new ≡ record self.old {
-          tally = tallied self.old.tally (skips plan.now commands.now self.old.progress (Told moment));
-          well = false;
-          listed = listed_unsent plan.now commands.now self.old.progress self.old.listed;
-        }) }
+        ensures wrote { WritesMore (B.text book.old) (B.taken book.old) (B.taken book.new) (skips plan.now commands.now self.old.progress (Told moment)) result }
+        ensures after { OnOk result (self.new ≡ station_skipping plan.now commands.now moment self.old) }
         ensures fails { FailsWith result (B.failed book.old) (B.failed book.new) }
         ensures form { B.text book.new ≡ B.text book.old }
     {

@@ -6,4 +6,4 @@ use Rattle.gc_field.proofs.Instruments.{simulator}
 use Rattle.gc_field.proofs.beginning.simulators_answers_are_their_own_once_begun.Goals as goal
 
 pub returns : goal.returns
-returns c = λ width narrow u clean ms possible. faithful ends IsFittingState kept_of simulator.is width narrow u clean ms possible
+returns c = λ width narrow u clean ms possible. faithful ends IsFittingState kept_of simulator.instrument width narrow u clean ms possible

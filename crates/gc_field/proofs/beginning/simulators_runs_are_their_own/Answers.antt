@@ -6,4 +6,4 @@ use Rattle.gc_field.proofs.Instruments.{simulator}
 use Rattle.gc_field.proofs.beginning.simulators_runs_are_their_own.Goals as goal
 
 pub returns : goal.returns
-returns c = λ width narrow u lines row rs runs few. runs_are_their_own ends IsFittingState kept_of simulator.is width narrow u lines row rs runs few
+returns c = λ width narrow u lines row rs runs few. runs_are_their_own ends IsFittingState kept_of simulator.instrument width narrow u lines row rs runs few

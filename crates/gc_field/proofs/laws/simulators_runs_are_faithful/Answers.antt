@@ -6,4 +6,4 @@ use Rattle.gc_field.proofs.Joining.{run_faithful}
 use Rattle.gc_field.proofs.laws.simulators_runs_are_faithful.Goals as goal
 
 pub returns : goal.returns
-returns c = λ plan commands scope acts u rs field. run_faithful ends IsFittingState kept_of simulator.is plan commands scope acts u rs field
+returns c = λ plan commands scope acts u rs field. run_faithful ends IsFittingState kept_of simulator.instrument plan commands scope acts u rs field

@@ -11,4 +11,4 @@ use Rattle.gc_field.proofs.laws.simulators_stations_answers_are_their_own.Goals 
 
 pub returns : goal.returns
 returns c = λ u rest acts ms carried.
-    let f = law ends IsFittingState kept_of simulator.is u carried.clean ms carried.possible in record { faithful = f; client = client_is (seen ms) begun ∙ f.stands }
+    let f = law ends IsFittingState kept_of simulator.instrument u carried.clean ms carried.possible in record { faithful = f; client = client_is (seen ms) begun ∙ f.stands }

@@ -6,4 +6,4 @@ use Rattle.gc_field.proofs.Instruments.{simulator}
 use Rattle.gc_field.proofs.laws.simulators_stations_in_a_row_are_faithful.Goals as goal
 
 pub returns : goal.returns
-returns c = λ u lines row xs h. in_a_row ends IsFittingState kept_of simulator.is u lines row xs h
+returns c = λ u lines row xs h. in_a_row ends IsFittingState kept_of simulator.instrument u lines row xs h

@@ -7,8 +7,8 @@ use Rattle.gc_station.specs.declared.progress.Progress.{Progress}
 use Rattle.gc_station.specs.Runs.{state_after}
 use Rattle.gc_station.specs.Scopes.{Scope}
 use Rattle.gc_station.specs.Model.{opening}
-use Rattle.gc_station.proofs.Readings.{stood_reads, are_same}
-use Rattle.gc_station.proofs.Going.{on_call, went_nothing, went_same, went_kept, went_left, went_on, went_wrong, went_nearer, somewhere_on}
+use Rattle.gc_station.proofs.Readings.{reads_as_in_scope, are_same}
+use Rattle.gc_station.proofs.Going.{on_call, went_nothing, went_same, went_kept, went_left, went_on, went_wrong, went_nearer, has_model_on}
 use Rattle.gc_station.proofs.Noting.{noted_nothing, noted_kept, noted_same, noted_on, noted_end, noted_left, noted_wrong}
 use Rattle.gc_station.proofs.run.run.Goals as goal
 
@@ -50,14 +50,15 @@ returns-in-Err-step g c =
           (g.B.Book.taken c.loop-unsynced.book) (g.B.Book.taken c.sync.new.self) c.loop-unsynced.station c.sync.ensures.same
           (c.loop-unsynced.invariant.went reads are) in
           let w = went_same plan commands scope (g.B.Book.text c.args.book.now) told (g.L.Link.acts c.loop-unsynced.link) taken (g.B.Book.taken c.sync.new.self)
-          (g.B.Book.taken c.tell_overrun-told.new.book) c.loop-unsynced.station c.tell_overrun-told.ensures.taken kept in
+          (g.B.Book.taken c.report_health_and_overrun-reported.new.book) c.loop-unsynced.station c.report_health_and_overrun-reported.ensures.taken kept in
           let s = state_after plan commands scope w.acts in
-          let same = are_same s.reads reads (stood_reads plan commands scope w.acts) are in
+          let same = are_same s.reads reads (reads_as_in_scope plan commands scope w.acts) are in
           inl (went_wrong plan commands scope (g.B.Book.text c.args.book.now) told (g.L.Link.acts c.loop-unsynced.link) (g.L.Link.acts c.step.new.link)
-          (g.L.Link.acts c.close-in-Err-step.new.self) taken (g.B.Book.taken c.tell_overrun-told.new.book)
+          (g.L.Link.acts c.close-in-Err-step.new.self) taken (g.B.Book.taken c.report_health_and_overrun-reported.new.book)
           (g.B.Book.taken c.step.new.book) c.loop-unsynced.station c.action-action.result w
           (c.action-action.ensures.action s w.stands same)
-          (on_call c.action-action.result _ c.in_default-action.not-Stop (rw (c.tell_overrun-told.ensures.form ∙ c.sync.ensures.form ∙ c.loop-unsynced.invariant.form) at c.in-Err-step.ensures.does))
+          (on_call c.action-action.result _ c.in_default-action.not-Stop
+          (rw (c.report_health_and_overrun-reported.ensures.form ∙ c.sync.ensures.form ∙ c.loop-unsynced.invariant.form) at c.in-Err-step.ensures.does))
           c.close-in-Err-step.ensures are);
       keeps = λ reads are.
           let scope : Scope = record { turns = c.args.max_turns; reads = reads } in
@@ -65,19 +66,20 @@ returns-in-Err-step g c =
           let m = noted_kept plan commands scope text told taken (g.L.Link.acts c.loop-unsynced.link) (g.B.Book.taken c.loop-unsynced.book)
           (g.B.Book.taken c.sync.new.self) c.loop-unsynced.station c.args.kept.now.turns c.loop-unsynced.kept.turns c.sync.ensures.same (c.loop-unsynced.invariant.noted reads are) in
           let n = noted_same plan commands scope text told taken (g.L.Link.acts c.loop-unsynced.link) (g.B.Book.taken c.sync.new.self)
-          (g.B.Book.taken c.tell_overrun-told.new.book) c.loop-unsynced.station c.args.kept.now.turns c.loop-unsynced.kept.turns c.tell_overrun-told.ensures.taken m in
+          (g.B.Book.taken c.report_health_and_overrun-reported.new.book) c.loop-unsynced.station c.args.kept.now.turns c.loop-unsynced.kept.turns c.report_health_and_overrun-reported.ensures.taken m in
           let s = state_after plan commands scope n.went.acts in
-          let same = are_same s.reads reads (stood_reads plan commands scope n.went.acts) are in
+          let same = are_same s.reads reads (reads_as_in_scope plan commands scope n.went.acts) are in
           noted_wrong plan commands scope text told taken (g.L.Link.acts c.loop-unsynced.link) (g.L.Link.acts c.step.new.link)
-          (g.L.Link.acts c.close-in-Err-step.new.self) (g.B.Book.taken c.tell_overrun-told.new.book)
-          (g.B.Book.taken c.step.new.book) (g.B.Book.is_durable c.tell_overrun-told.new.book) c.loop-unsynced.station c.action-action.result
+          (g.L.Link.acts c.close-in-Err-step.new.self) (g.B.Book.taken c.report_health_and_overrun-reported.new.book)
+          (g.B.Book.taken c.step.new.book) (g.B.Book.is_durable c.report_health_and_overrun-reported.new.book) c.loop-unsynced.station c.action-action.result
           c.args.kept.now.turns c.loop-unsynced.kept.turns c.and.result.turns n
           (c.action-action.ensures.action s n.went.stands same)
-          (on_call c.action-action.result _ c.in_default-action.not-Stop (rw (c.tell_overrun-told.ensures.form ∙ c.sync.ensures.form ∙ c.loop-unsynced.invariant.form) at c.in-Err-step.ensures.does))
-          c.close-in-Err-step.ensures c.and.ensures (c.tell_overrun-told.ensures.is_durable ∙ c.in_default.ensures.is_durable);
+          (on_call c.action-action.result _ c.in_default-action.not-Stop
+          (rw (c.report_health_and_overrun-reported.ensures.form ∙ c.sync.ensures.form ∙ c.loop-unsynced.invariant.form) at c.in-Err-step.ensures.does))
+          c.close-in-Err-step.ensures c.and.ensures (c.report_health_and_overrun-reported.ensures.is_durable ∙ c.in_default.ensures.is_durable);
       is_durable = tt;
       fails = c.in-Err-step.ensures.fails;
-      form = c.in-Err-step.ensures.form ∙ c.tell_overrun-told.ensures.form ∙ c.sync.ensures.form ∙ c.loop-unsynced.invariant.form;
+      form = c.in-Err-step.ensures.form ∙ c.report_health_and_overrun-reported.ensures.form ∙ c.sync.ensures.form ∙ c.loop-unsynced.invariant.form;
     }
 
 pub loop-unsynced-smaller : goal.loop-unsynced-smaller
@@ -85,9 +87,10 @@ loop-unsynced-smaller g c =
     let plan = c.args.plan.now in
     let commands = c.args.commands.now in
     (went_nearer plan commands (g.B.Book.text c.args.book.now) (g.L.Link.acts c.loop-unsynced.link) (g.L.Link.acts c.step.new.link)
-    (g.B.Book.taken c.tell_overrun-told.new.book) (g.B.Book.taken c.step.new.book) c.loop-unsynced.station c.step.new.self c.action-action.result
+    (g.B.Book.taken c.report_health_and_overrun-reported.new.book) (g.B.Book.taken c.step.new.book) c.loop-unsynced.station c.step.new.self c.action-action.result
     c.action-action.ensures.is c.loop-unsynced.invariant.some
-    (on_call c.action-action.result _ c.in_default-action.not-Stop (rw (c.tell_overrun-told.ensures.form ∙ c.sync.ensures.form ∙ c.loop-unsynced.invariant.form) at c.in_default-step.ensures.does))
+    (on_call c.action-action.result _ c.in_default-action.not-Stop
+    (rw (c.report_health_and_overrun-reported.ensures.form ∙ c.sync.ensures.form ∙ c.loop-unsynced.invariant.form) at c.in_default-step.ensures.does))
     c.loop-unsynced.invariant.below).less
 
 pub loop-unsynced-preserved : goal.loop-unsynced-preserved
@@ -97,18 +100,18 @@ loop-unsynced-preserved g c =
     let told = g.L.Link.acts c.args.link.now in
     let taken = g.B.Book.taken c.args.book.now in
     let makes = on_call c.action-action.result _ c.in_default-action.not-Stop
-    (rw (c.tell_overrun-told.ensures.form ∙ c.sync.ensures.form ∙ c.loop-unsynced.invariant.form) at c.in_default-step.ensures.does) in
+    (rw (c.report_health_and_overrun-reported.ensures.form ∙ c.sync.ensures.form ∙ c.loop-unsynced.invariant.form) at c.in_default-step.ensures.does) in
     let nearer = went_nearer plan commands (g.B.Book.text c.args.book.now) (g.L.Link.acts c.loop-unsynced.link) (g.L.Link.acts c.step.new.link)
-    (g.B.Book.taken c.tell_overrun-told.new.book) (g.B.Book.taken c.step.new.book) c.loop-unsynced.station c.step.new.self c.action-action.result
+    (g.B.Book.taken c.report_health_and_overrun-reported.new.book) (g.B.Book.taken c.step.new.book) c.loop-unsynced.station c.step.new.self c.action-action.result
     c.action-action.ensures.is c.loop-unsynced.invariant.some
     (on_call c.action-action.result _ c.in_default-action.not-Stop
-    (rw (c.tell_overrun-told.ensures.form ∙ c.sync.ensures.form ∙ c.loop-unsynced.invariant.form) at c.in_default-step.ensures.does))
+    (rw (c.report_health_and_overrun-reported.ensures.form ∙ c.sync.ensures.form ∙ c.loop-unsynced.invariant.form) at c.in_default-step.ensures.does))
     c.loop-unsynced.invariant.below in
     record {
       within = omega (arith, nearer.within);
       below = nearer.within;
-      some = somewhere_on plan commands (g.B.Book.text c.args.book.now) (g.L.Link.acts c.loop-unsynced.link) (g.L.Link.acts c.step.new.link)
-          (g.B.Book.taken c.tell_overrun-told.new.book) (g.B.Book.taken c.step.new.book) c.loop-unsynced.station c.step.new.self c.action-action.result makes
+      some = has_model_on plan commands (g.B.Book.text c.args.book.now) (g.L.Link.acts c.loop-unsynced.link) (g.L.Link.acts c.step.new.link)
+          (g.B.Book.taken c.report_health_and_overrun-reported.new.book) (g.B.Book.taken c.step.new.book) c.loop-unsynced.station c.step.new.self c.action-action.result makes
           c.loop-unsynced.invariant.some;
       went = λ reads are.
           let scope : Scope = record { turns = c.args.max_turns; reads = reads } in
@@ -116,11 +119,11 @@ loop-unsynced-preserved g c =
           (g.B.Book.taken c.loop-unsynced.book) (g.B.Book.taken c.sync.new.self) c.loop-unsynced.station c.sync.ensures.same
           (c.loop-unsynced.invariant.went reads are) in
           let w = went_same plan commands scope (g.B.Book.text c.args.book.now) told (g.L.Link.acts c.loop-unsynced.link) taken (g.B.Book.taken c.sync.new.self)
-          (g.B.Book.taken c.tell_overrun-told.new.book) c.loop-unsynced.station c.tell_overrun-told.ensures.taken kept in
+          (g.B.Book.taken c.report_health_and_overrun-reported.new.book) c.loop-unsynced.station c.report_health_and_overrun-reported.ensures.taken kept in
           let s = state_after plan commands scope w.acts in
-          let same = are_same s.reads reads (stood_reads plan commands scope w.acts) are in
+          let same = are_same s.reads reads (reads_as_in_scope plan commands scope w.acts) are in
           went_on plan commands scope (g.B.Book.text c.args.book.now) told (g.L.Link.acts c.loop-unsynced.link) (g.L.Link.acts c.step.new.link) taken
-          (g.B.Book.taken c.tell_overrun-told.new.book) (g.B.Book.taken c.step.new.book) c.loop-unsynced.station c.step.new.self c.action-action.result w
+          (g.B.Book.taken c.report_health_and_overrun-reported.new.book) (g.B.Book.taken c.step.new.book) c.loop-unsynced.station c.step.new.self c.action-action.result w
           (c.action-action.ensures.action s w.stands same) makes are;
       noted = λ reads are.
           let scope : Scope = record { turns = c.args.max_turns; reads = reads } in
@@ -128,16 +131,16 @@ loop-unsynced-preserved g c =
           let m = noted_kept plan commands scope text told taken (g.L.Link.acts c.loop-unsynced.link) (g.B.Book.taken c.loop-unsynced.book)
           (g.B.Book.taken c.sync.new.self) c.loop-unsynced.station c.args.kept.now.turns c.loop-unsynced.kept.turns c.sync.ensures.same (c.loop-unsynced.invariant.noted reads are) in
           let n = noted_same plan commands scope text told taken (g.L.Link.acts c.loop-unsynced.link) (g.B.Book.taken c.sync.new.self)
-          (g.B.Book.taken c.tell_overrun-told.new.book) c.loop-unsynced.station c.args.kept.now.turns c.loop-unsynced.kept.turns c.tell_overrun-told.ensures.taken m in
+          (g.B.Book.taken c.report_health_and_overrun-reported.new.book) c.loop-unsynced.station c.args.kept.now.turns c.loop-unsynced.kept.turns c.report_health_and_overrun-reported.ensures.taken m in
           let s = state_after plan commands scope n.went.acts in
-          let same = are_same s.reads reads (stood_reads plan commands scope n.went.acts) are in
+          let same = are_same s.reads reads (reads_as_in_scope plan commands scope n.went.acts) are in
           noted_on plan commands scope text told taken (g.L.Link.acts c.loop-unsynced.link) (g.L.Link.acts c.step.new.link)
-          (g.B.Book.taken c.tell_overrun-told.new.book) (g.B.Book.taken c.step.new.book) (g.B.Book.is_durable c.tell_overrun-told.new.book)
+          (g.B.Book.taken c.report_health_and_overrun-reported.new.book) (g.B.Book.taken c.step.new.book) (g.B.Book.is_durable c.report_health_and_overrun-reported.new.book)
           c.loop-unsynced.station c.step.new.self c.action-action.result
           c.args.kept.now.turns c.loop-unsynced.kept.turns c.and.result.turns n
-          (c.action-action.ensures.action s n.went.stands same) makes are c.and.ensures (c.tell_overrun-told.ensures.is_durable ∙ c.in_default.ensures.is_durable);
-      form = c.in_default-step.ensures.form ∙ c.tell_overrun-told.ensures.form ∙ c.sync.ensures.form ∙ c.loop-unsynced.invariant.form;
-      failed = c.in_default-step.ensures.fails ∙ c.tell_overrun-told.ensures.failed ∙ c.in_default.ensures.fails ∙ c.loop-unsynced.invariant.failed;
+          (c.action-action.ensures.action s n.went.stands same) makes are c.and.ensures (c.report_health_and_overrun-reported.ensures.is_durable ∙ c.in_default.ensures.is_durable);
+      form = c.in_default-step.ensures.form ∙ c.report_health_and_overrun-reported.ensures.form ∙ c.sync.ensures.form ∙ c.loop-unsynced.invariant.form;
+      failed = c.in_default-step.ensures.fails ∙ c.report_health_and_overrun-reported.ensures.failed ∙ c.in_default.ensures.fails ∙ c.loop-unsynced.invariant.failed;
     }
 
 pub loop-unsynced-init : goal.loop-unsynced-init
@@ -169,7 +172,7 @@ returns-in-Stop-clause-ran g c reads are =
     (g.B.Book.taken c.args.book.now) (g.B.Book.taken c.loop-unsynced.book) (g.B.Book.taken c.sync.new.self) c.loop-unsynced.station c.sync.ensures.same
     (c.loop-unsynced.invariant.went reads are) in
     let s = state_after plan commands scope w.acts in
-    let same = are_same s.reads reads (stood_reads plan commands scope w.acts) are in
+    let same = are_same s.reads reads (reads_as_in_scope plan commands scope w.acts) are in
     record {
       acts = w.acts;
       tells = w.tells;

@@ -2,16 +2,19 @@ use Rattle.std.proofs.Common.{◌≡◌, ◌≤◌, ◌-◌, ℕ, List, length}
 use Rattle.gc_catalogue.specs.declared.answer.Reading.{Reading}
 use Rattle.gc_catalogue.specs.declared.asked.Asked.{Asked}
 use Rattle.gc_station.specs.Scopes.{AreReadings}
-use Rattle.gc_station.proofs.Going.{Went, Somewhere}
+use Rattle.gc_station.proofs.Going.{Went, HasModel}
 use Rattle.gc_station.proofs.Noting.{Noted}
 use Rattle.gc_station.proofs.Turns.{left_to_do}
 use Rattle.gc_station.proofs.run.run.Given as goal
 
+-- the station is as a model after the acts that the link recorded (`Went`), and at each of these acts a snapshot was taken
+-- (`Noted`); no more commands are unsent than the cycle has; and the book writes records as at first, and has failed exactly if
+-- it had at first
 abbrev pub invariant-loop-unsynced : goal.invariant-loop-unsynced
 invariant-loop-unsynced g l = record {
   within : l.station.progress.unsent ≤ length l.commands;
   below : l.station.progress.unsent ≤ length l.commands - l.plan.setup;
-  some : Somewhere l.station;
+  some : HasModel l.station;
   went : (reads : Asked → List ℕ → Reading) → AreReadings reads
       → Went l.plan l.commands (record { turns = l.max_turns; reads = reads }) (g.B.Book.text l.initial.book) (g.L.Link.acts l.initial.link)
       (g.L.Link.acts l.link) (g.B.Book.taken l.initial.book) (g.B.Book.taken l.book) l.station;
@@ -22,5 +25,6 @@ invariant-loop-unsynced g l = record {
   failed : g.B.Book.failed l.book ≡ g.B.Book.failed l.initial.book;
 }
 
+-- how much is left to be done: two for each turn, and one for a connection
 abbrev pub decreases-loop-unsynced : goal.decreases-loop-unsynced
 decreases-loop-unsynced g l = left_to_do l.station.progress

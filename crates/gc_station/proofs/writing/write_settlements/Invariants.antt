@@ -10,6 +10,9 @@ use Rattle.gc_station.specs.Scopes.{AreReadings}
 use Rattle.gc_station.specs.Tallies.{tallied}
 use Rattle.gc_station.proofs.writing.write_settlements.Given as goal
 
+-- the records of the settlements before this one are in the book, which writes records as at first, and has failed exactly if it
+-- had at first; the tally, `well`, `listed` and `fresh` are as these records make them; and the marks of these settlements are
+-- taken out
 abbrev pub invariant-loop-settlement : goal.invariant-loop-settlement
 invariant-loop-settlement g l = record {
   wrote : (reads : Asked → List ℕ → Reading) (start : Option (List ℕ)) (before : List Record) → AreReadings reads

@@ -2,7 +2,7 @@ use Rattle.std.proofs.Common.{ap, ◌∙◌}
 use Rattle.gc_links.specs.Acts.{Told}
 use Rattle.gc_station.specs.Model.{cycle_length}
 use Rattle.gc_station.specs.Progressing.{cycle_begun}
-use Rattle.gc_station.proofs.Hearing.{stands_expired}
+use Rattle.gc_station.proofs.Hearing.{refines_expired}
 use Rattle.gc_station.proofs.station.Station.begin.Goals as goal
 
 pub returns-in-Ok : goal.returns-in-Ok
@@ -16,7 +16,7 @@ returns-in-Ok g c text known =
       tells = c.in-Ok.ensures;
       goes = λ s start stands so. (
         tt,
-        stands_expired old c.begin_cycle.new.self (cycle_begun plan count m s.progress) c.expire.new.self c.min-self.result m s stands
+        refines_expired old c.begin_cycle.new.self (cycle_begun plan count m s.progress) c.expire.new.self c.min-self.result m s stands
             (c.begin_cycle.ensures ∙ ap (λ n. cycle_begun plan n m old.progress) c.saturating_sub-count.ensures ∙ ap
             (cycle_begun plan count m) stands.progress) c.expire.ensures.client c.min-self.ensures,
         so,

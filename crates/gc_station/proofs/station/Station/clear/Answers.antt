@@ -1,8 +1,8 @@
 use Rattle.std.proofs.Common.{[], ◌∷◌, refl, ap, ◌∙◌}
-use Rattle.gc_links.specs.Acts.{put_as}
+use Rattle.gc_links.specs.Acts.{put_act}
 use Rattle.gc_station.specs.Progressing.{cleared}
-use Rattle.gc_station.specs.Model.{requests_out, with_progress}
-use Rattle.gc_station.proofs.Making.{stands_with, put_puts, put_stands, put_took}
+use Rattle.gc_station.specs.Model.{commands_before, with_progress}
+use Rattle.gc_station.proofs.Making.{refines_with, put_puts, put_refines, put_took}
 use Rattle.gc_station.proofs.station.Station.clear.Goals as goal
 
 pub returns : goal.returns
@@ -13,13 +13,13 @@ returns g c text known =
     let commands = c.args.commands.now in
     let feed = 10 ∷ [] in
     record {
-      act = put_as put feed;
+      act = put_act put feed;
       tells = c.put-put.ensures.tells;
       goes = λ s start stands so. (
         put_puts put feed feed refl c.put-put.ensures.part,
-        put_stands put feed c.requests_out-requests.result (requests_out plan commands s.progress) (with_progress cleared) s
-            (record old { progress = c.note_cleared.new.self }) c.cut.new.self (stands_with old c.note_cleared.new.self cleared s stands c.note_cleared.ensures) c.cut.ensures
-            (c.requests_out-requests.ensures ∙ ap (requests_out plan commands) stands.progress),
-        put_took text start known put feed (requests_out plan commands s.progress) (with_progress cleared) s so,
+        put_refines put feed c.commands_before-requests.result (commands_before plan commands s.progress) (with_progress cleared) s
+            (record old { progress = c.note_cleared.new.self }) c.note_cut.new.self (refines_with old c.note_cleared.new.self cleared s stands c.note_cleared.ensures) c.note_cut.ensures
+            (c.commands_before-requests.ensures ∙ ap (commands_before plan commands) stands.progress),
+        put_took text start known put feed (commands_before plan commands s.progress) (with_progress cleared) s so,
       );
     }

@@ -4,6 +4,8 @@ use Rattle.gc_station.specs.Stations.{Refines, Took}
 use Rattle.gc_station.proofs.Hearing.{Hearing}
 use Rattle.gc_station.proofs.station.Station.listen.Given as goal
 
+-- the first `at` bytes of the piece were heard (`Hearing`), and their records are in the book, which writes records as at first and
+-- has failed exactly if it had at first
 abbrev pub invariant-loop-at : goal.invariant-loop-at
 invariant-loop-at g l = record {
   within : l.at ≤ length l.piece;
@@ -13,5 +15,6 @@ invariant-loop-at g l = record {
   failed : g.B.Book.failed l.book ≡ g.B.Book.failed l.initial.book;
 }
 
+-- how many bytes of the piece are left
 abbrev pub decreases-loop-at : goal.decreases-loop-at
 decreases-loop-at g l = length l.piece - l.at

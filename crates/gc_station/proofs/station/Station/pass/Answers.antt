@@ -5,7 +5,7 @@ use Rattle.gc_station.specs.Marks.{commands_in}
 use Rattle.gc_station.specs.Model.{is_chained_after, others_after, passes_next, with_passes}
 use Rattle.gc_station.specs.Progressing.{reckoned_early, attempts_left_out}
 use Rattle.gc_station.specs.Stations.{Refines}
-use Rattle.gc_station.proofs.Hearing.{stands_expired}
+use Rattle.gc_station.proofs.Hearing.{refines_expired}
 use Rattle.gc_station.proofs.station.Station.pass.Goals as goal
 
 pub returns-in-Ok : goal.returns-in-Ok
@@ -40,7 +40,7 @@ returns-in-Ok g c text known =
           ∙ ap (λ k. attempts_left_out (is_chained_after n commands old.progress) k m old.progress) c.others_after-others.ensures
           ∙ ap goes_on stands.progress) in (
             tt,
-            stands_expired old c.note_early.new.self (reckoned_early plan (commands_in s.marks) (goes_on s.progress)) c.expire.new.self c.min-self.result m
+            refines_expired old c.note_early.new.self (reckoned_early plan (commands_in s.marks) (goes_on s.progress)) c.expire.new.self c.min-self.result m
                 (with_passes (passes_next plan commands s.progress) s) there progress c.expire.ensures.client c.min-self.ensures,
             so,
           );

@@ -1,13 +1,13 @@
 use Rattle.std.proofs.Common.{◌≡◌, drop, ap, refl, ◌∙◌}
 use Rattle.gc_catalogue.specs.declared.asked.Asked.{Asked}
 use Rattle.gc_client.specs.Rule.{ById}
-use Rattle.gc_links.specs.Acts.{put_as}
+use Rattle.gc_links.specs.Acts.{put_act}
 use Rattle.gc_station.specs.declared.station.sending.Asking.{Asking}
 use Rattle.gc_station.specs.declared.progress.Progress.{Progress}
 use Rattle.gc_station.specs.Progressing.{setup_sent}
 use Rattle.gc_station.specs.Stations.{setup_asked}
-use Rattle.gc_station.specs.Model.{Model, mark_setup, requests_out, request_text, text_or_null, asks_setup, with_progress}
-use Rattle.gc_station.proofs.Making.{stands_with, asks_stands, put_puts, put_stands, put_took, setup_stands, setup_text, setup_took}
+use Rattle.gc_station.specs.Model.{Model, mark_setup, commands_before, request_text, text_or_null, asks_setup, with_progress}
+use Rattle.gc_station.proofs.Making.{refines_with, asks_refines, put_puts, put_refines, put_took, setup_refines, setup_text, setup_took}
 use Rattle.gc_station.proofs.station.Station.prepare.Goals as goal
 
 pub returns : goal.returns
@@ -19,7 +19,7 @@ returns g c text known =
     let asking = c.next_setup-asking.result in
     let line = request_text old.client.ids asking.command.call in
     record {
-      act = put_as put line;
+      act = put_act put line;
       tells = c.ask-put.ensures.tells;
       goes = λ s start stands so.
           let list = drop s.progress.prepared commands in
@@ -27,13 +27,13 @@ returns g c text known =
           let is : asking ≡ setup_asked plan mark list =
           c.next_setup-asking.ensures ∙ ap (λ (p : Progress). setup_asked plan (mark_setup commands p) (drop p.prepared commands)) stands.progress in
           let f : Model → Model = λ (x : Model). with_progress (setup_sent plan) (asks_setup plan commands x) in
-          let asked = asks_stands old c.ask-put.new.self s asking.wait asking.command asking.command asking.mark stands c.requires.room refl c.ask-put.ensures.asks in
-          let first = setup_stands plan c.ask-put.new.self s asking mark list is asked in (
+          let asked = asks_refines old c.ask-put.new.self s asking.wait asking.command asking.command asking.mark stands c.requires.room refl c.ask-put.ensures.asks in
+          let first = setup_refines plan c.ask-put.new.self s asking mark list is asked in (
             put_puts put line (text_or_null s.progress.moment.utc s.client list) (ap (λ (ids : ById Asked). request_text ids asking.command.call) stands.ids
                 ∙ ap (λ (a : Asking). request_text s.client a.command.call) is ∙ setup_text plan s.client mark list) c.ask-put.ensures.part,
-            put_stands put line c.requests_out-requests.result (requests_out plan commands s.progress) f s (record c.ask-put.new.self { progress = c.note_setup.new.self }) c.cut.new.self
-                (stands_with c.ask-put.new.self c.note_setup.new.self (setup_sent plan) (asks_setup plan commands s) first c.note_setup.ensures) c.cut.ensures
-                (c.requests_out-requests.ensures ∙ ap (requests_out plan commands) stands.progress),
-            put_took text start known put line (requests_out plan commands s.progress) f s (setup_took plan text start known s mark list so),
+            put_refines put line c.commands_before-requests.result (commands_before plan commands s.progress) f s (record c.ask-put.new.self { progress = c.note_setup.new.self }) c.note_cut.new.self
+                (refines_with c.ask-put.new.self c.note_setup.new.self (setup_sent plan) (asks_setup plan commands s) first c.note_setup.ensures) c.note_cut.ensures
+                (c.commands_before-requests.ensures ∙ ap (commands_before plan commands) stands.progress),
+            put_took text start known put line (commands_before plan commands s.progress) f s (setup_took plan text start known s mark list so),
           );
     }

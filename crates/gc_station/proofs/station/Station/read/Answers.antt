@@ -2,27 +2,27 @@ use Rattle.std.proofs.Common.{take, ap, ◌∙◌}
 use Rattle.gc_station.specs.declared.cause.Cause.TheVariants.{Clock, End, Read}
 use Rattle.gc_links.specs.Acts.{Gave, Silent, Ended, Broke, Untold}
 use Rattle.gc_station.specs.Progressing.{failing, silent}
-use Rattle.gc_station.proofs.Hearing.{stands_expired}
-use Rattle.gc_station.proofs.Making.{stands_with, makes_read, made_read}
+use Rattle.gc_station.proofs.Hearing.{refines_expired}
+use Rattle.gc_station.proofs.Making.{refines_with, makes_read, made_read}
 use Rattle.gc_station.proofs.station.Station.read.Goals as goal
 
 pub returns-in-End-clause-does : goal.returns-in-End-clause-does
 returns-in-End-clause-does g c commands =
     makes_read c.args.plan.now commands c.args.until (g.B.Book.text c.args.book.now) (g.L.Link.acts c.args.link.now) (g.L.Link.acts c.read.new.self)
     (g.B.Book.taken c.args.book.now) (g.B.Book.taken c.args.book.now) c.args.self.now _ Ended c.in-End.ensures.tells tt
-    (λ s start stands so. (stands_with c.args.self.now c.fail.new.self (failing End) s stands c.fail.ensures, so))
+    (λ s start stands so. (refines_with c.args.self.now c.fail.new.self (failing End) s stands c.fail.ensures, so))
 
 pub returns-in-Failure-clause-does : goal.returns-in-Failure-clause-does
 returns-in-Failure-clause-does g c commands =
     makes_read c.args.plan.now commands c.args.until (g.B.Book.text c.args.book.now) (g.L.Link.acts c.args.link.now) (g.L.Link.acts c.read.new.self)
     (g.B.Book.taken c.args.book.now) (g.B.Book.taken c.args.book.now) c.args.self.now _ Broke c.in-Failure.ensures.tells tt
-    (λ s start stands so. (stands_with c.args.self.now c.fail-in-Failure.new.self (failing Read) s stands c.fail-in-Failure.ensures, so))
+    (λ s start stands so. (refines_with c.args.self.now c.fail-in-Failure.new.self (failing Read) s stands c.fail-in-Failure.ensures, so))
 
 pub returns-in-NoMoment-clause-does : goal.returns-in-NoMoment-clause-does
 returns-in-NoMoment-clause-does g c commands =
     makes_read c.args.plan.now commands c.args.until (g.B.Book.text c.args.book.now) (g.L.Link.acts c.args.link.now) (g.L.Link.acts c.read.new.self)
     (g.B.Book.taken c.args.book.now) (g.B.Book.taken c.args.book.now) c.args.self.now _ Untold c.in-NoMoment.ensures.tells tt
-    (λ s start stands so. (stands_with c.args.self.now c.fail-in-NoMoment.new.self (failing Clock) s stands c.fail-in-NoMoment.ensures, so))
+    (λ s start stands so. (refines_with c.args.self.now c.fail-in-NoMoment.new.self (failing Clock) s stands c.fail-in-NoMoment.ensures, so))
 
 pub returns-in-Bytes-clause-does : goal.returns-in-Bytes-clause-does
 returns-in-Bytes-clause-does g c commands =
@@ -39,7 +39,7 @@ returns-in-Silence-clause-does g c commands =
     makes_read plan commands until (g.B.Book.text c.args.book.now) (g.L.Link.acts c.args.link.now) (g.L.Link.acts c.read.new.self)
     (g.B.Book.taken c.args.book.now) (g.B.Book.taken c.args.book.now) old _ (Silent m) c.in-Silence.ensures.tells tt
     (λ s start stands so. (
-      stands_expired old c.note_silence.new.self (silent plan until m s.progress) c.expire.new.self c.min-self.result m s stands
+      refines_expired old c.note_silence.new.self (silent plan until m s.progress) c.expire.new.self c.min-self.result m s stands
           (c.note_silence.ensures ∙ ap (silent plan until m) stands.progress) c.expire.ensures.client c.min-self.ensures,
       so,
     ))

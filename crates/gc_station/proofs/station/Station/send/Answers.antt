@@ -3,12 +3,12 @@ use Rattle.gc_catalogue.specs.declared.asked.Asked.{Asked}
 use Rattle.gc_client.specs.Rule.{ById}
 use Rattle.gc_texts.specs.declared.tasks.Task.{Task}
 use Rattle.gc_texts.specs.declared.wish.Wish.{Wish}
-use Rattle.gc_links.specs.Acts.{put_as}
+use Rattle.gc_links.specs.Acts.{put_act}
 use Rattle.gc_station.specs.declared.mark.Mark.{Mark}
 use Rattle.gc_station.specs.Progressing.{sent}
 use Rattle.gc_station.specs.Requests.{command_at}
-use Rattle.gc_station.specs.Model.{Model, place_next, mark_next, is_chained_after_next, others_after_next, requests_out, request_text, first_text, asks_next, with_progress}
-use Rattle.gc_station.proofs.Making.{stands_with, asks_stands, put_puts, put_stands, put_took, drop_here, first_stands, first_took}
+use Rattle.gc_station.specs.Model.{Model, place_next, mark_next, is_chained_after_next, others_after_next, commands_before, request_text, first_text, asks_next, with_progress}
+use Rattle.gc_station.proofs.Making.{refines_with, asks_refines, put_puts, put_refines, put_took, drop_here, first_refines, first_took}
 use Rattle.gc_station.proofs.station.Station.send.Goals as goal
 
 pub returns : goal.returns
@@ -28,26 +28,26 @@ returns g c text known =
     let next_is_chained = c.is_chained_after-next_is_chained in
     let behind = c.others_after-others in
     record {
-      act = put_as put line;
+      act = put_act put line;
       tells = c.ask-put.ensures.tells;
       goes = λ s start stands so.
           let list = drop (place_next commands s.progress) commands in
           let others : List Task = here.0 in
           let is : list ≡ task ∷ others = sym (ap (λ n. drop n commands) (at ∙ ap (place_next commands) stands.progress)) ∙ here.1 in
           let f : Model → Model = λ (x : Model). with_progress (sent (is_chained_after_next commands x.progress) (others_after_next commands x.progress)) (asks_next plan commands x) in
-          let asked = asks_stands old c.ask-put.new.self s task.deadline command (command_at mark.sent task) (Some mark) stands c.requires.room c.command_at-command.ensures c.ask-put.ensures.asks in
+          let asked = asks_refines old c.ask-put.new.self s task.deadline command (command_at mark.sent task) (Some mark) stands c.requires.room c.command_at-command.ensures c.ask-put.ensures.asks in
           let utc = s.progress.moment.utc in
           let next : mark ≡ mark_next plan commands s.progress = c.mark-mark.ensures ∙ ap (mark_next plan commands) stands.progress in
-          let first = first_stands c.ask-put.new.self s mark (mark_next plan commands s.progress) list task others is next asked in (
+          let first = first_refines c.ask-put.new.self s mark (mark_next plan commands s.progress) list task others is next asked in (
             put_puts put line (first_text utc s.client list) (ap (λ (ids : ById Asked). request_text ids command.call) stands.ids
                 ∙ ap (λ (w : Wish). request_text s.client w.call) (c.command_at-command.ensures ∙ ap (λ (m : Mark). command_at m.sent task) next) ∙ sym
                 (ap (first_text utc s.client) is)) c.ask-put.ensures.part,
-            put_stands put line c.requests_out-requests.result (requests_out plan commands s.progress) f s (record c.ask-put.new.self { progress = c.note_sent.new.self }) c.cut.new.self
-                (stands_with c.ask-put.new.self c.note_sent.new.self (sent (is_chained_after_next commands s.progress) (others_after_next commands s.progress)) (asks_next plan commands s) first
+            put_refines put line c.commands_before-requests.result (commands_before plan commands s.progress) f s (record c.ask-put.new.self { progress = c.note_sent.new.self }) c.note_cut.new.self
+                (refines_with c.ask-put.new.self c.note_sent.new.self (sent (is_chained_after_next commands s.progress) (others_after_next commands s.progress)) (asks_next plan commands s) first
                 (c.note_sent.ensures ∙ ap (λ b. sent b behind.result c.ask-put.new.self.progress)
                 (next_is_chained.ensures ∙ ap (is_chained_after_next commands) stands.progress)
-                ∙ ap (λ n. sent (is_chained_after_next commands s.progress) n c.ask-put.new.self.progress) (behind.ensures ∙ ap (others_after_next commands) stands.progress))) c.cut.ensures
-                (c.requests_out-requests.ensures ∙ ap (requests_out plan commands) stands.progress),
-            put_took text start known put line (requests_out plan commands s.progress) f s (first_took text start known s (mark_next plan commands s.progress) list so),
+                ∙ ap (λ n. sent (is_chained_after_next commands s.progress) n c.ask-put.new.self.progress) (behind.ensures ∙ ap (others_after_next commands) stands.progress))) c.note_cut.ensures
+                (c.commands_before-requests.ensures ∙ ap (commands_before plan commands) stands.progress),
+            put_took text start known put line (commands_before plan commands s.progress) f s (first_took text start known s (mark_next plan commands s.progress) list so),
           );
     }

@@ -11,8 +11,8 @@ use Rattle.gc_station.specs.Progressing.{failing, skipped, reckoned_early}
 use Rattle.gc_station.specs.Records.{Record, texts_of}
 use Rattle.gc_station.specs.Model.{Model, place_next, mark_next, is_chained_after_next, others_after_next, skip_listed, skips, with_progress, with_listed, with_records}
 use Rattle.gc_station.specs.Stations.{Refines, Took}
-use Rattle.gc_station.proofs.Hearing.{stands_expired}
-use Rattle.gc_station.proofs.Making.{stands_with, drop_some, skips_unwell, skipped_stands, none_skipped}
+use Rattle.gc_station.proofs.Hearing.{refines_expired}
+use Rattle.gc_station.proofs.Making.{refines_with, drop_some, skips_unwell, skipped_refines, none_skipped}
 use Rattle.gc_station.proofs.station.Station.skip.Goals as goal
 
 pub returns-in_default-clause-does : goal.returns-in_default-clause-does
@@ -36,7 +36,7 @@ returns-in_default-clause-does g c =
           let listed = skip_listed plan commands s (Told m) in
           let is = stands.progress in
           let same = ap (λ (x : Station). x.progress) c.in_default.ensures.after ∙ is in
-          let here_stands : Refines mid (with_listed listed (with_records rs s)) = skipped_stands old mid s rs
+          let here_stands : Refines mid (with_listed listed (with_records rs s)) = skipped_refines old mid s rs
           (listed_after old.listed (mark_next plan commands p).expected None (if p.missed then Missed else Skipped)) listed stands
           (λ b. skips_unwell b p m (mark_next plan commands p) (drop (place_next commands p) commands) here.0 here.1 here.2)
           (λ are. ap (λ b. listed_after b (mark_next plan commands p).expected None (if p.missed then Missed else Skipped)) (stands.listed are)
@@ -53,7 +53,7 @@ returns-in_default-clause-does g c =
           ∙ ap (λ n. skipped next_is_chained n m mid.progress) (c.others_after-others.ensures ∙ ap (others_after_next commands) same)
           ∙ ap (skipped next_is_chained behind m) same) in (
             tt,
-            stands_expired mid c.note_early.new.self (reckoned_early plan (commands_in s.marks) (skipped next_is_chained behind m q)) c.expire.new.self c.min-self.result m
+            refines_expired mid c.note_early.new.self (reckoned_early plan (commands_in s.marks) (skipped next_is_chained behind m q)) c.expire.new.self c.min-self.result m
                 (with_listed listed (with_records (skips plan commands q (Told m)) s)) there progress c.expire.ensures.client c.min-self.ensures,
             λ are. subst (λ (xs : List Record). Appends start (g.B.Book.taken c.write_skipped.new.book)
                 (texts_of (g.B.Book.text c.args.book.now) (s.records ++ xs))) rs' (c.in_default.ensures.wrote start s.records (so are)),
@@ -69,7 +69,8 @@ returns-in-Err-clause-does g c =
       goes = λ s start stands so.
           let none = sym (none_skipped s) in (
             tt,
-            subst (λ (x : Model). Refines (record old { progress = c.fail.new.self }) (with_progress (failing Clock) x)) none (stands_with old c.fail.new.self (failing Clock) s stands c.fail.ensures),
+            subst (λ (x : Model). Refines (record old { progress = c.fail.new.self }) (with_progress (failing Clock) x)) none
+                (refines_with old c.fail.new.self (failing Clock) s stands c.fail.ensures),
             subst (λ (x : Model). Took (g.B.Book.text c.args.book.now) start (g.B.Book.taken c.args.book.now) x) none so,
           );
     }

@@ -3,14 +3,14 @@ use Rattle.gc_station.specs.declared.progress.Waiting.{Waiting}
 use Rattle.gc_station.specs.Marks.{commands_in}
 use Rattle.gc_station.specs.Progressing.{moment_noted, reckoned_early}
 use Rattle.gc_station.specs.Model.{Model, with_moment, with_progress, waiting_of, after_piece, is_heard}
-use Rattle.gc_station.proofs.Hearing.{stands_expired, all_same, commands_same, reckoned_same}
+use Rattle.gc_station.proofs.Hearing.{refines_expired, all_same, commands_same, reckoned_same}
 use Rattle.gc_station.proofs.station.Station.take_piece.Goals as goal
 
 pub returns-in-Err-clause-takes : goal.returns-in-Err-clause-takes
 returns-in-Err-clause-takes g c s start stands so =
     let m = c.args.now in
     c.in-Err.ensures.takes (with_moment m (with_progress (moment_noted m) s)) start
-    (stands_expired c.args.self.now c.note_moment.new.self (moment_noted m s.progress) c.expire.new.self c.min-self.result m s stands
+    (refines_expired c.args.self.now c.note_moment.new.self (moment_noted m s.progress) c.expire.new.self c.min-self.result m s stands
     (c.note_moment.ensures ∙ ap (moment_noted m) stands.progress) c.expire.ensures.client c.min-self.ensures) so
 
 pub returns-clause-takes : goal.returns-clause-takes
@@ -20,7 +20,7 @@ returns-clause-takes g c s start stands so =
     let until = c.args.until in
     let t =
     c.in_default.ensures.takes (with_moment m (with_progress (moment_noted m) s)) start
-    (stands_expired c.args.self.now c.note_moment.new.self (moment_noted m s.progress) c.expire.new.self c.min-self.result m s stands
+    (refines_expired c.args.self.now c.note_moment.new.self (moment_noted m s.progress) c.expire.new.self c.min-self.result m s stands
     (c.note_moment.ensures ∙ ap (moment_noted m) stands.progress) c.expire.ensures.client c.min-self.ensures) so in
     let heard : Model = after_piece (is_heard s.progress.phase) s.progress.word c.args.piece.now (with_moment m (with_progress (moment_noted m) s)) in
     let before = c.commands-before.ensures ∙ ap commands_in stands.marks in

@@ -1,5 +1,5 @@
 use Rattle.gc_station.proofs.GoesBehind.{behind_the_table}
-use Rattle.gc_station.proofs.laws.commands_go_out_behind_the_table.Goals as goal
+use Rattle.gc_station.proofs.laws.each_command_is_sent_near_the_table.Goals as goal
 
 pub returns : goal.returns
 returns c = behind_the_table
