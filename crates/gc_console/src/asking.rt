@@ -72,13 +72,14 @@ fn run_open<
             station,
             recording,
         } => {
-            let station = station.watched(standard.terminal);
+            let station = station.with_status_line(standard.terminal);
             measure_site(rt, alloc, site, station, recording, streams)
         }
     }
 }
 
-// Asks the commands of the input over a connection to a simulator in this program. The streams are handed back.
+// Asks the commands of the input over a connection within this program, to the instrument of the file `scene`, or to the simulator if
+// none is named. The streams are handed back.
 fn run_loop<
     R: Net<Listener = TcpListener, Stream = TcpStream> + Files,
     S: Source,
@@ -128,8 +129,8 @@ fn run_ask<
     (streams, ended)
 }
 
-// Measures at a site, and reports how that ended. A message that can't be written is lost, and the status stays. The streams are
-// handed back.
+// Measures at a site, and reports how that ended. A message that can't be written is lost, and the status stays. If the
+// system's last error doesn't explain the fault, `rt` forgets it. The streams are handed back.
 fn measure_site<
     R: Net<Listener = TcpListener, Stream = TcpStream> + Clock + Files<File = File>,
     S: Source,
@@ -153,8 +154,7 @@ fn measure_site<
     let lossy = lossy_of(streams);
     let (mut lossy, ended) = measure_recorded(rt, alloc, spot, station, recording, lossy);
     let _ = spot.report(&mut lossy.messages);
-    // The system's reason is reported only if the place couldn't be reached, or no run stopped for a fault.
-    if !spot.is_unreached() {
+    if !spot.has_system_reason() {
         rt.forget();
     }
     (lossless_of(lossy), ended)
@@ -193,7 +193,7 @@ fn measure_recorded<
     }
 }
 
-// Ends the appending of a run that had a file.
+// Ends the appending of a run, if it had a file.
 fn end_appending<R: Files<File = File>>(appended: Option<Appended<'_, R>>) {
     match appended {
         Some(appended) => appended.end(),

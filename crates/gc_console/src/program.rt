@@ -1,6 +1,6 @@
 //! The command line of `geocom`: which subcommand runs, and the exit status if none does.
 
-ghost use Rattle.std.specs.Prelude.{◌≡◌, ◌≤◌, ◌⊎◌, IfOk, OnOk};
+ghost use Rattle.std.specs.Prelude.{◌≡◌, ◌≤◌, ◌⊎◌, IfOk};
 ghost use Rattle.std.specs.Io.KnownBytes.{Appends};
 ghost use Rattle.std.specs.Process.{exit_status};
 ghost use Rattle.gc_texts.specs.declared.fault.RunFault.{RunFault};
@@ -10,7 +10,9 @@ use crate::asking::run_asking;
 use clap::Error;
 use clap::error::ErrorKind;
 use gc_lines::{FromReader, ReadAhead, ToWriter};
-use gc_messages::{Noting, Standard, Streams, refuse_numbers, refuse_place, refuse_stale};
+use gc_messages::{
+    Noting, Standard, Streams, refuse_numbers, refuse_place, refuse_stale, report_end,
+};
 use gc_nights::rehearse;
 use gc_subcommands::check::check;
 use gc_subcommands::drill::{Drilling, drill_scene};
@@ -28,9 +30,9 @@ use std::process::ExitCode;
 use std::rt::Files;
 use std::time::Clock;
 
-/// Runs a command line, whose first word is the program's name, over the net, the clock and the files, and over an input, an
-/// output and a place for messages, and gives the exit status: 0 if it is done or asked for help or the version, 1 after a
-/// fault, which is one line on the messages, and 2 for words that don't parse. It fails itself only if a text can't be written.
+/// Runs a command line, whose first word is the program's name, over the net, the clock and the files of `rt`, and over `streams`.
+/// The exit status is 0 if it is done, or asked for help or the version; 1 after a fault, of which the messages have a line, and for
+/// some faults more; and 2 for words that don't parse. It fails itself only if the messages can't be written.
 ///
 /// `standard` says which of the three streams are open. If one isn't, `station`, `ask` and `loop` only report it, and `serve`
 /// fills its place.
@@ -98,15 +100,47 @@ fn run_asked<
         Asked::Check { log } => run_check(log, streams),
         Asked::Drill(drilling) => run_drill(rt, alloc, drilling, streams),
         Asked::Serve(serving) => run_serve(rt, alloc, standard, serving, streams),
-        Asked::Rehearse(rehearsal) => run_rehearse(rt, alloc, rehearsal, streams),
+        Asked::Rehearse(rehearsal) => run_rehearse(rt, alloc, standard, rehearsal, streams),
         Asked::Over(asking) => run_over(rt, alloc, standard, asking, streams),
         Asked::Nowhere { serves } => refuse_place(serves, &mut streams.messages),
         Asked::Unnumbered => refuse_numbers(&mut streams.messages),
-        Asked::Impatient => refuse_stale(&mut streams.messages),
+        Asked::StaleTooSoon => refuse_stale(&mut streams.messages),
     }
 }
 
-// Answers requests as the instrument of the file `scene`, or as the simulator if none is named. The input is read ahead.
+// These streams, with the input as a source and the output as a sink.
+fn as_ports<I: Read, O: Write, E>(
+    streams: Streams<I, O, E>,
+) -> Streams<FromReader<I>, ToWriter<O>, E> {
+    let Streams {
+        input,
+        output,
+        messages,
+    } = streams;
+    Streams {
+        input: FromReader::new(input),
+        output: ToWriter::new(output),
+        messages,
+    }
+}
+
+// As `as_ports`, with an input that is read ahead.
+fn as_ports_ahead<I: Read, O: Write, E>(
+    streams: Streams<I, O, E>,
+) -> Streams<FromReader<ReadAhead<I>>, ToWriter<O>, E> {
+    let Streams {
+        input,
+        output,
+        messages,
+    } = streams;
+    as_ports(Streams {
+        input: ReadAhead::new(input),
+        output,
+        messages,
+    })
+}
+
+// Answers requests as the instrument of the file `scene`, or as the simulator if none is named, and reports how that ended.
 fn run_exec<R: Files, I: Read + Drop, O: Write + Drop, E: Write + Drop>(
     rt: &R,
     alloc: Global,
@@ -115,34 +149,34 @@ fn run_exec<R: Files, I: Read + Drop, O: Write + Drop, E: Write + Drop>(
 ) -> io::Result<ExitCode>
     ensures { IfOk result (λ status. exit_status status ≤ 1) }
 {
-    let Streams {
-        input,
-        output,
-        mut messages,
-    } = streams;
-    let mut source = FromReader::new(ReadAhead::new(input));
-    let mut sink = ToWriter::new(output);
-    exec_scene(rt, alloc, scene, &mut source, &mut sink, &mut messages)
+    let mut ports = as_ports_ahead(streams);
+    exec_scene(
+        rt,
+        alloc,
+        scene,
+        &mut ports.input,
+        &mut ports.output,
+        &mut ports.messages,
+    )
 }
 
-// Checks a log where `log` is set, else a stream. The input is read ahead.
+// Checks a log if `log` is set, otherwise a stream, and reports how that ended.
 fn run_check<I: Read + Drop, O: Write + Drop, E: Write + Drop>(
     log: bool,
     streams: Streams<I, O, E>,
 ) -> io::Result<ExitCode>
     ensures { IfOk result (λ status. exit_status status ≤ 1) }
 {
-    let Streams {
-        input,
-        output,
-        mut messages,
-    } = streams;
-    let mut source = FromReader::new(ReadAhead::new(input));
-    let mut sink = ToWriter::new(output);
-    check(log, &mut source, &mut sink, &mut messages)
+    let mut ports = as_ports_ahead(streams);
+    check(
+        log,
+        &mut ports.input,
+        &mut ports.output,
+        &mut ports.messages,
+    )
 }
 
-// Plays a schedule.
+// Plays a schedule, and reports how that ended.
 fn run_drill<R: Files, I: Read + Drop, O: Write + Drop, E: Write + Drop>(
     rt: &R,
     alloc: Global,
@@ -151,37 +185,30 @@ fn run_drill<R: Files, I: Read + Drop, O: Write + Drop, E: Write + Drop>(
 ) -> io::Result<ExitCode>
     ensures { IfOk result (λ status. exit_status status ≤ 2) }
 {
-    let Streams {
-        input,
-        output,
-        mut messages,
-    } = streams;
-    let mut source = FromReader::new(input);
-    let mut sink = ToWriter::new(output);
-    drill_scene(rt, alloc, drilling, &mut source, &mut sink, &mut messages)
+    let mut ports = as_ports(streams);
+    drill_scene(
+        rt,
+        alloc,
+        drilling,
+        &mut ports.input,
+        &mut ports.output,
+        &mut ports.messages,
+    )
 }
 
-// Rehearses a station.
+// Rehearses a station, and reports how that ended; after a fault also what the system refused last, and why.
 fn run_rehearse<R: Files, I: Read + Drop, O: Write + Drop, E: Write + Drop>(
     rt: &R,
     alloc: Global,
+    standard: Standard,
     rehearsal: Rehearsal<'_>,
     streams: Streams<I, O, E>,
 ) -> io::Result<ExitCode>
     ensures { IfOk result (λ status. exit_status status ≤ 1) }
 {
-    let Streams {
-        input,
-        output,
-        messages,
-    } = streams;
-    let streams = Streams {
-        input: FromReader::new(input),
-        output: ToWriter::new(output),
-        messages,
-    };
-    let (_, ended) = rehearse(rt, alloc, rehearsal, streams);
-    ended
+    let noting = Noting::new(rt);
+    let (mut ports, ended) = rehearse(&noting, alloc, rehearsal, as_ports(streams));
+    noting.report(standard, ended, &mut ports.messages)
 }
 
 // Serves a simulator, and reports how that ended; after a fault also what the system refused last, and why.
@@ -220,23 +247,13 @@ fn run_over<
 ) -> io::Result<ExitCode>
     ensures { IfOk result (λ status. exit_status status ≤ 2) }
 {
-    let Streams {
-        input,
-        output,
-        messages,
-    } = streams;
     let noting = Noting::new(rt);
-    let streams = Streams {
-        input: FromReader::new(input),
-        output: ToWriter::new(output),
-        messages,
-    };
-    let (mut streams, ended) = run_asking(&noting, alloc, standard, asking, streams);
-    noting.report(standard, ended, &mut streams.messages)
+    let (mut ports, ended) = run_asking(&noting, alloc, standard, asking, as_ports(streams));
+    noting.report(standard, ended, &mut ports.messages)
 }
 
-// Reports why words ask for no subcommand: memory ran out, they don't parse, or they ask for the help or the version. `reads`
-// says whether they name a subcommand that reads a text.
+// Reports why words ask for no subcommand: memory ran out (status 1), they don't parse (status 2), or they ask for the help or the
+// version (status 0). `reads` says whether they name a subcommand that reads a text.
 fn answer<O: Write, E: Write>(
     error: &Error,
     reads: bool,
@@ -254,27 +271,24 @@ fn answer<O: Write, E: Write>(
     show(error, output, messages)
 }
 
-// Writes the help or the version. A failed output has its fault line, as everywhere.
+// Writes the help or the version (`text`) on the output, with status 0. If that fails, the fault `Output` is reported, with status 1.
 fn show<O: Write, E: Write>(text: &Error, output: &mut O, messages: &mut E) -> io::Result<ExitCode>
     ensures { IfOk result (λ status. ((exit_status status ≡ 0) × (E.contents messages.new ≡ E.contents messages.old))
         ⊎ ((exit_status status ≡ 1) × Appends (E.contents messages.old) (E.contents messages.new) (fault_line (run_fault_text RunFault.Output)))) }
 {
     match write!(output, "{text}") {
         Ok(()) => Ok(ExitCode::SUCCESS),
-        Err(_) => {
-            RunFault::Output.tell(messages)?;
-            Ok(ExitCode::from(1))
-        }
+        Err(_) => report_end(Err(RunFault::Output), messages),
     }
 }
 
 // Whether words name a subcommand that reads a text from standard input.
 fn reads_a_text(words: &[String]) -> bool {
-    match words.get(1) {
-        Some(word) => match Subcommand::named(word.as_str()) {
-            Some(subcommand) => subcommand.reads_a_text(),
-            None => false,
-        },
+    let Some(word) = words.get(1) else {
+        return false;
+    };
+    match Subcommand::named(word.as_str()) {
+        Some(subcommand) => subcommand.reads_a_text(),
         None => false,
     }
 }
@@ -313,9 +327,8 @@ fn refuse_words<E: Write>(error: &io::Error, messages: &mut E) -> io::Result<Exi
 
 // Reports that memory ran out as the command line was read, with status 1, as any fault.
 fn report_out_of_memory<E: Write>(messages: &mut E) -> io::Result<ExitCode>
-    ensures status { IfOk result (λ status. exit_status status ≡ 1) }
-    ensures text { OnOk result (Appends (E.contents messages.old) (E.contents messages.new) (fault_line (run_fault_text RunFault.Memory))) }
+    ensures { IfOk result (λ status. (exit_status status ≡ 1)
+        × Appends (E.contents messages.old) (E.contents messages.new) (fault_line (run_fault_text RunFault.Memory))) }
 {
-    RunFault::Memory.tell(messages)?;
-    Ok(ExitCode::from(1))
+    report_end(Err(RunFault::Memory), messages)
 }

@@ -9,22 +9,22 @@ use Rattle.gc_station.specs.declared.tally.Tally.{Tally}
 use Rattle.gc_texts.specs.declared.fault.RunFault.{RunFault}
 
 -- a run that stopped because it had no link didn't fail at its output: its sink is as it was
-without_link : (reason : Option Unusable) (failed : Bool) → FailsAtOutput {X = Tally} failed failed (Err (fault_without_link reason))
-without_link (Some NoTerminal) failed = refl
-without_link (Some Held) failed = refl
-without_link (Some Forbidden) failed = refl
-without_link None failed = refl
+no_link_keeps_sink : (reason : Option Unusable) (failed : Bool) → FailsAtOutput {X = Tally} failed failed (Err (fault_without_link reason))
+no_link_keeps_sink (Some NoTerminal) failed = refl
+no_link_keeps_sink (Some Held) failed = refl
+no_link_keeps_sink (Some Forbidden) failed = refl
+no_link_keeps_sink None failed = refl
 
 -- false isn't true
-never : ◌≡◌ {A = Bool} false true → ⊥
-never is = cc
+false_is_not_true : ◌≡◌ {A = Bool} false true → ⊥
+false_is_not_true is = cc
 
 -- a run that couldn't begin, for whatever fault, didn't fail at its output: its sink is as it was
 pub sink_is_as_it_was : (has_log : Bool) (fault : RunFault) (failed : Bool) → CannotBegin has_log fault → FailsAtOutput {X = Tally} failed failed (Err fault)
 sink_is_as_it_was has_log fault failed (inl linkless) =
-    subst (λ e. FailsAtOutput {X = Tally} failed failed (Err e)) (sym linkless.1) (without_link linkless.0 failed)
+    subst (λ e. FailsAtOutput {X = Tally} failed failed (Err e)) (sym linkless.1) (no_link_keeps_sink linkless.0 failed)
 sink_is_as_it_was has_log fault failed (inr logless) = subst (λ e. FailsAtOutput {X = Tally} failed failed (Err e)) (sym logless.1) refl
 
--- a run that lost no log has nothing to show of a log that was asked for: the premise that one was lost is false
-pub none_is_lost : (has_log : Bool) → false ≡ true → has_log ≡ true
-none_is_lost has_log lost = absurd (never lost)
+-- of a run that lost no log (`false`) the field `logged` of `ReportsRun` holds: its premise, that the log was lost, is false
+pub logged_if_none_lost : (has_log : Bool) → false ≡ true → has_log ≡ true
+logged_if_none_lost has_log lost = absurd (false_is_not_true lost)

@@ -4,11 +4,11 @@ use Rattle.std.specs.Prelude.{not, if◌then◌else◌}
 use Rattle.gc_links.specs.declared.link.Moment.{Moment}
 use Rattle.gc_station.specs.declared.book.LinkHealth.{LinkHealth}
 use Rattle.gc_station.specs.declared.book.LinkHealth.TheVariants.{Fine, Idle, Unconnected, Unquiet, Unheard}
-use Rattle.gc_measuring.specs.Wanted.{behind_look, wanted_from, WantCountsOverConnections}
+use Rattle.gc_measuring.specs.Wanted.{after_look, wanted_from, WantCountsOverConnections}
 use Rattle.gc_measuring.specs.declared.wanted.Wanted.{Wanted}
 
 -- a look at a station gives the cycle no answer
-still_unheard : (health : LinkHealth) (moment : Moment) (w : Wanted) → w.heard ≡ false → (behind_look health moment w).heard ≡ false
+still_unheard : (health : LinkHealth) (moment : Moment) (w : Wanted) → w.heard ≡ false → (after_look health moment w).heard ≡ false
 still_unheard Fine moment w unheard = unheard
 still_unheard Idle moment w unheard = refl
 still_unheard Unconnected moment w unheard = unheard
@@ -16,7 +16,7 @@ still_unheard Unquiet moment w unheard = unheard
 still_unheard Unheard moment w unheard = unheard
 
 -- a look with no answer before it leaves the moment since which an answer is wanted
-still_since : (health : LinkHealth) (moment since : Moment) (w : Wanted) → w.heard ≡ false → w.since ≡ Some since → (behind_look health moment w).since ≡ Some since
+still_since : (health : LinkHealth) (moment since : Moment) (w : Wanted) → w.heard ≡ false → w.since ≡ Some since → (after_look health moment w).since ≡ Some since
 still_since Fine moment since w unheard is = is
 still_since Idle moment since w unheard is = ap (λ heard. if heard && not w.told then None else w.since) unheard ∙ is
 still_since Unconnected moment since w unheard is = ap (λ from. wanted_from from moment) is
@@ -27,4 +27,4 @@ still_since Unheard moment since w unheard is = ap (λ from. wanted_from from mo
 pub want_stays : WantCountsOverConnections
 want_stays [] since w unheard is = is
 want_stays (look ∷ later) since w unheard is =
-    want_stays later since (behind_look look.health look.moment w) (still_unheard look.health look.moment w unheard) (still_since look.health look.moment since w unheard is)
+    want_stays later since (after_look look.health look.moment w) (still_unheard look.health look.moment w unheard) (still_since look.health look.moment since w unheard is)

@@ -29,7 +29,7 @@ use Rattle.gc_texts.specs.declared.name.Name.{Name}
 use Rattle.gc_texts.specs.declared.tasks.Task.{Task}
 use Rattle.gc_rows.specs.declared.when.When.{When}
 
--- the moments, the cycle and the place of a record, of a run that began at this moment
+-- the moments, the cycle and the place of a record, in a run that began at `run`, in milliseconds since 1970-01-01, UTC
 abbrev pub when_of : ℕ → Record → When
 when_of run r = record { run = run; stamp = record { sent = r.sent; utc = r.utc; cycle = r.cycle; place = r.place; turn = r.turn } }
 
@@ -41,18 +41,18 @@ text_in layout names r = record_text layout.form (when_of layout.run r) (name_te
 abbrev pub front_text : Layout → List ℕ
 front_text layout = if layout.headed then [] else head_text layout.form
 
--- what is seen of a station's ports: its source; what its link recorded, what its sink took and what was written on its
--- messages, if these are known; and what was seen of link and sink at each act
-pub record Places : Type 0 where
+-- what is seen of a station's ports at one moment: its source; the acts that its link recorded, the bytes that its sink took and
+-- those that were written on its messages, if these are known; and what was seen of link and sink at each act so far (`turns`)
+pub record PortsSeen : Type 0 where
   pub input : Input
   pub acts : Option (List Act)
   pub taken : Option (List ℕ)
   pub messages : Option (List ℕ)
   pub turns : List Snapshot
 
--- the sink failed before the records: it took some of the first bytes of what is to be there, not all, and nothing else was
+-- the sink failed before the records: of what comes before them it took the first `bytes` bytes, not all, and nothing else was
 -- done
-pub record FailsInFront (layout : Layout) (old new : Places) (result : Result Tally Stop) : Type 0 where
+pub record FailsInFront (layout : Layout) (old new : PortsSeen) (result : Result Tally Stop) : Type 0 where
   pub is : result ≡ Err (Run Output)
   pub bytes : ℕ
   pub took : TakesFront old.taken new.taken bytes (front_text layout)
@@ -68,26 +68,27 @@ pub record Course : Type 0 where
   pub layout : Layout
   pub names : List Name
 
--- what a station measures of a text with these tasks, of which the first `setup` are the setup, and names
+-- what a station measures, in at most `turns` acts, of a text with these names and tasks, of which the first `setup` are the setup
 abbrev pub course_of : Settings → ℕ → ℕ → List Task → List Name → Course
 course_of station turns setup tasks names =
     record { plan = plan_of station.choice setup tasks; tasks = tasks; turns = turns; layout = station.layout; names = names }
 
--- a run over a link, whose acts before and after are `acts` and `acts'`, wrote the records that its acts give of the tasks, and
--- ended so. This holds with every function that gives each reply's reading for its call, and there is such a function
-abbrev pub RunsCourse : Course → Option (List Act) → Option (List Act) → Option (List ℕ) → Option (List ℕ) → Result Tally RunFault → Type 0
+-- a run over a link, whose acts before and after are `acts` and `acts'`, wrote the records that its acts give of the tasks into a
+-- sink, which had taken `taken` before and `taken'` after, and ended with `end`. This holds with every function that gives each
+-- reply's reading for its call, and there is such a function
+abbrev pub RunsCourse : Course → (acts acts' : Option (List Act)) → (taken taken' : Option (List ℕ)) → (end : Result Tally RunFault) → Type 0
 RunsCourse course acts acts' taken taken' end = ForReadings (λ reads.
     Ran course.plan course.tasks (record { turns = course.turns; reads = reads }) (text_in course.layout course.names) acts acts' taken taken' end)
 
 -- at each act of a run over these tasks, all that the acts before it settled was recorded, and lasted (`KeepsUp`). `seen` and
 -- `seen'` are the turns before the run and after it
-abbrev pub CourseKeepsUp : Course → Option (List Act) → Option (List Act) → Option (List ℕ) → List Snapshot → List Snapshot → Result Tally RunFault → Type 0
+abbrev pub CourseKeepsUp : Course → (acts acts' : Option (List Act)) → (taken : Option (List ℕ)) → (seen seen' : List Snapshot) → (end : Result Tally RunFault) → Type 0
 CourseKeepsUp course acts acts' taken seen seen' end = ForReadings (λ reads.
     KeepsUp course.plan course.tasks (record { turns = course.turns; reads = reads }) (text_in course.layout course.names) acts acts' taken seen seen' (closing_at end))
 
 -- the sink took what comes before the records, and then what a run over the link records of its tasks. Before each act all that
--- was written by then lasted
-pub record RunsBehind (course : Course) (old new : Places) (result : Result Tally Stop) : Type 0 where
+-- was written by then lasted. `between` is what the sink had taken before the records
+pub record RunsBehind (course : Course) (old new : PortsSeen) (result : Result Tally Stop) : Type 0 where
   pub between : Option (List ℕ)
   pub front : Appends old.taken between (front_text course.layout)
   pub end : Result Tally RunFault
@@ -96,15 +97,15 @@ pub record RunsBehind (course : Course) (old new : Places) (result : Result Tall
   pub keeps : CourseKeepsUp course old.acts new.acts between old.turns new.turns end
 
 -- nothing was done over the link, and nothing written
-pub record IsUnused (old new : Places) : Type 0 where
+pub record IsUnused (old new : PortsSeen) : Type 0 where
   pub acts : new.acts ≡ old.acts
   pub taken : new.taken ≡ old.taken
   pub messages : new.messages ≡ old.messages
   pub turns : new.turns ≡ old.turns
 
--- the text that a source gave was refused, and then nothing was done over the link, and nothing written; or the sink failed
--- before the records; or the text's tasks were measured
-abbrev pub Measures : List ℕ → Settings → ℕ → Places → Places → Result Tally Stop → Type 0
+-- the text `given` by a source was refused, and then nothing was done over the link, and nothing written; or the sink failed
+-- before the records; or the text's tasks were measured, in at most `turns` acts
+abbrev pub Measures : List ℕ → Settings → ℕ → PortsSeen → PortsSeen → Result Tally Stop → Type 0
 Measures given station turns old new result =
     ((stop : Stop) × (result ≡ Err stop) × RefusesTasks given old.input new.input stop × IsUnused old new)
     ⊎ ((setup : ℕ) × (tasks : List Task) × (names : List Name) × GivesTasks given old.input new.input station.choice setup tasks names
@@ -112,27 +113,28 @@ Measures given station turns old new result =
 
 -- a source gave bytes, by at most one read for each and one for the end, and of these `Measures` holds, in at most this number
 -- of acts
-abbrev pub MeasuresText : Settings → ℕ → Places → Places → Result Tally Stop → Type 0
+abbrev pub MeasuresText : Settings → ℕ → PortsSeen → PortsSeen → Result Tally Stop → Type 0
 MeasuresText station turns old new result = Gave old.input new.input (λ given. Measures given station turns old new result)
 
 -- a source gave bytes, by any number of reads, and of these `Measures` holds, in at most as many acts as a u64 counts
-abbrev pub MeasuresGiven : Settings → Places → Places → Result Tally Stop → Type 0
+abbrev pub MeasuresGiven : Settings → PortsSeen → PortsSeen → Result Tally Stop → Type 0
 MeasuresGiven station old new result =
     (given : List ℕ) × Consumes old.input.remaining new.input.remaining given × Measures given station 18446744073709551615 old new result
 
--- a source gave a text to its end, and the run over its tasks is done, or its end was asked for
-abbrev pub IsMeasured : Settings → Places → Places → Type 0
+-- a source gave a text to its end, and the run over its tasks, in at most as many acts as a u64 counts, is done, or its end was
+-- asked for
+abbrev pub IsMeasured : Settings → PortsSeen → PortsSeen → Type 0
 IsMeasured station old new = (given : List ℕ) × Consumes old.input.remaining new.input.remaining given
     × ((setup : ℕ) × (tasks : List Task) × (names : List Name) × (tally : Tally)
     × GivesTasks given old.input new.input station.choice setup tasks names
     × RunsBehind (course_of station 18446744073709551615 setup tasks names) old new (Ok tally))
 
 -- of what a source gave `MeasuresGiven` holds, for a run that began at some moment
-abbrev pub MeasuresBegun : Settings → Places → Places → Result Tally Stop → Type 0
+abbrev pub MeasuresBegun : Settings → PortsSeen → PortsSeen → Result Tally Stop → Type 0
 MeasuresBegun station old new result = (run : ℕ) × MeasuresGiven (begun_at run station) old new result
 
 -- if the text was refused nothing was done over the link, and nothing written
-abbrev pub IsUntouched : Places → Places → Result Tally Stop → Type 0
+abbrev pub IsUntouched : PortsSeen → PortsSeen → Result Tally Stop → Type 0
 IsUntouched old new (Err (Text fault)) = IsUnused old new
 IsUntouched old new (Err Empty) = IsUnused old new
 IsUntouched old new (Err (Line n trouble)) = IsUnused old new

@@ -1,8 +1,8 @@
 -- What is reported of the opening of a file of records: this project's own.
-use Rattle.std.specs.Prelude.{ℕ, List, [], ◌++◌, ◌==◌, if◌then◌else◌, codes}
-use Rattle.std.specs.Fmt.{decimal}
+use Rattle.std.specs.Prelude.{ℕ, List, [], ◌++◌, codes}
 use Rattle.gc_files.specs.declared.system.Unfit.{Unfit}
 use Rattle.gc_files.specs.declared.system.Unfit.TheVariants.{Unopened, Held, Foreign, Failed}
+use Rattle.gc_messages.specs.Repairs.{copied_line, torn_line}
 use Rattle.gc_texts.specs.Faults.{run_fault_text, fault_line}
 use Rattle.gc_texts.specs.declared.fault.RunFault.{RunFault}
 use Rattle.gc_texts.specs.declared.fault.RunFault.TheVariants.{RecordsUnopened, RecordsHeld, RecordsForeign, Output}
@@ -14,28 +14,19 @@ fault_of_unfit Held = RecordsHeld
 fault_of_unfit Foreign = RecordsForeign
 fault_of_unfit Failed = Output
 
--- the line after the fault's line: for a file that doesn't begin as this station's rows do, what may have happened and how to rotate the
--- file
+-- what is written after the fault's line: of a file that doesn't begin as this station's rows do, what may have happened and how to
+-- rotate it; of any other nothing
 abbrev pub rotation_line : Unfit → List ℕ
 rotation_line Unopened = []
 rotation_line Held = []
 rotation_line Foreign =
-    codes "geocom: the file does not begin as this station's rows do: it has other columns, or a rotation cut off its header (copytruncate). To rotate it, stop the station, rename the file, and start it\n"
+    codes
+    "geocom: the file does not begin as this station's rows do: it has other columns, or a rotation cut off its header (copytruncate). To rotate it, stop the station, rename the file, and start it\n"
 rotation_line Failed = []
 
 -- all that is written if a path can't be used as a file of records
 abbrev pub unfit_text : Unfit → List ℕ
 unfit_text why = fault_line (run_fault_text (fault_of_unfit why)) ++ rotation_line why
-
--- what is written of a torn row that was cut off, by its number of bytes: nothing if there were none
-abbrev pub torn_line : ℕ → List ℕ
-torn_line torn = if torn == 0 then [] else codes "geocom: " ++ decimal torn ++ codes " bytes of an incomplete row were cut off\n"
-
--- what is written of rows that were copied because the run before was killed or a sync failed, by their number: nothing if
--- there were none
-abbrev pub copied_line : ℕ → List ℕ
-copied_line copied =
-    if copied == 0 then [] else codes "geocom: the last run was killed, or a sync failed: " ++ decimal copied ++ codes " rows were copied to a new file and synced\n"
 
 -- what is written of a file that was opened, by how many rows were copied and how many bytes were cut off
 abbrev pub opened_lines : ℕ → ℕ → List ℕ

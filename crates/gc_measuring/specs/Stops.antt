@@ -40,5 +40,5 @@ fault_without_link (Some unusable) = fault_of_reason (Some unusable)
 fault_without_link None = Clock
 
 -- this is the fault if there is no link, for some reason
-abbrev pub IsWithoutLink : RunFault → Type 0
-IsWithoutLink fault = (reason : Option Unusable) × (fault ≡ fault_without_link reason)
+abbrev pub IsFaultWithoutLink : RunFault → Type 0
+IsFaultWithoutLink fault = (reason : Option Unusable) × (fault ≡ fault_without_link reason)

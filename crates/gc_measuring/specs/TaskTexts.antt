@@ -46,6 +46,6 @@ pub record GivesTasks (given : List ℕ) (old new : Input) (choice : Choice) (se
   pub are : IsTasks given choice.deadline choice.chained setup tasks names nears
   pub some : setup < length tasks
 
--- a source gave a station's text that is measured by this choice
+-- a source gave a text that a station with this choice can measure
 abbrev pub IsCheckable : Choice → Input → Input → Type 0
 IsCheckable choice old new = Gave old new (λ given. (setup : ℕ) × (tasks : List Task) × (names : List Name) × GivesTasks given old new choice setup tasks names)

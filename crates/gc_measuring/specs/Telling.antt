@@ -5,9 +5,9 @@
 use Rattle.std.specs.Prelude.{◌≡◌, ℕ, Bool, true, ◌⊎◌, List, [], Option, Some, None, Result, Err}
 use Rattle.std.specs.Io.KnownBytes.{Appends}
 use Rattle.gc_measuring.specs.Logging.{ReportsLoss}
-use Rattle.gc_measuring.specs.Measuring.{Places, MeasuresGiven, MeasuresBegun, IsMeasured, AllLast, ReportsCounts}
+use Rattle.gc_measuring.specs.Measuring.{PortsSeen, MeasuresGiven, MeasuresBegun, IsMeasured, AllLast, ReportsCounts}
 use Rattle.gc_measuring.specs.Recording.{unfit_text}
-use Rattle.gc_measuring.specs.Stops.{IsWithoutLink, with_fault}
+use Rattle.gc_measuring.specs.Stops.{IsFaultWithoutLink, with_fault}
 use Rattle.gc_words.specs.Stations.{appended, begun_at}
 use Rattle.gc_words.specs.declared.settings.Settings.{Settings}
 use Rattle.gc_measuring.specs.declared.stop.Stop.{Stop}
@@ -27,8 +27,8 @@ use Rattle.gc_texts.specs.declared.fault.RunFault.TheVariants.{Log}
 
 -- what is seen of a station's ports: of its streams by the ghost members of their traits, the acts that its link recorded, and
 -- what was seen at each of them
-abbrev pub places_of : {S K E : Type 0} → Source S → Sink K → (E → Option (List ℕ)) → Streams S K E → Option (List Act) → List Snapshot → Places
-places_of source sink shown streams acts turns =
+abbrev pub ports_seen : {S K E : Type 0} → Source S → Sink K → (E → Option (List ℕ)) → Streams S K E → Option (List Act) → List Snapshot → PortsSeen
+ports_seen source sink shown streams acts turns =
     record { input = input_of source streams.input; acts = acts; taken = sink.taken streams.output; messages = shown streams.messages; turns = turns }
 
 -- the acts that a link recorded, if there is one
@@ -42,7 +42,7 @@ pub record ReportsMeasuring {S K E : Type 0} (source : Source S) (sink : Sink K)
     (acts acts' : Option (List Act)) (turns turns' : List Snapshot) (old new : Streams S K E) (status : ℕ) : Type 0 where
   pub end : Result Tally Stop
   pub between : E
-  pub measured : MeasuresGiven station (places_of source sink shown old acts turns) (places_of source sink shown (record new { messages = between }) acts' turns') end
+  pub measured : MeasuresGiven station (ports_seen source sink shown old acts turns) (ports_seen source sink shown (record new { messages = between }) acts' turns') end
   pub all_last : AllLast (lasts new.output) end
   pub fails : FailsAtOutput (sink.failed old.output) (sink.failed new.output) (with_fault end)
   pub counts : ReportsCounts end status (shown between) (shown new.messages)
@@ -59,14 +59,15 @@ ReportsLogged {S = S} {K = K} {E = E} source sink lasts shown station acts acts'
 pub record MeasuresAll {S K E : Type 0} (source : Source S) (sink : Sink K) (shown : E → Option (List ℕ)) (station : Settings)
     (acts acts' : Option (List Act)) (turns turns' : List Snapshot) (old new : Streams S K E) : Type 0 where
   pub between : E
-  pub is : IsMeasured station (places_of source sink shown old acts turns) (places_of source sink shown (record new { messages = between }) acts' turns')
+  pub is : IsMeasured station (ports_seen source sink shown old acts turns) (ports_seen source sink shown (record new { messages = between }) acts' turns')
 
 -- a run can't begin, for this fault: there is no link, or, if a log was asked for, the log can't be had
 abbrev pub CannotBegin : Bool → RunFault → Type 0
-CannotBegin has_log fault = IsWithoutLink fault ⊎ ((has_log ≡ true) × (fault ≡ Log))
+CannotBegin has_log fault = IsFaultWithoutLink fault ⊎ ((has_log ≡ true) × (fault ≡ Log))
 
 -- a run didn't begin, and then there was no link, and nothing was read or written
-abbrev pub IsUnbegun : {S K E : Type 0} → Bool → Streams S K E → Streams S K E → Option (List Act) → List Snapshot → List Snapshot → Result Tally Stop → Type 0
+abbrev pub IsUnbegun : {S K E : Type 0} → (has_log : Bool) → (old new : Streams S K E) → (acts : Option (List Act)) → (turns turns' : List Snapshot)
+    → (end : Result Tally Stop) → Type 0
 IsUnbegun has_log old new acts turns turns' end = (fault : RunFault) × (end ≡ Err (Run fault)) × CannotBegin has_log fault
     × (new.input ≡ old.input) × (new.output ≡ old.output) × (new.messages ≡ old.messages) × (acts ≡ None) × (turns' ≡ turns)
 
@@ -76,7 +77,7 @@ pub record MeasuresFromNone {S K E : Type 0} (source : Source S) (sink : Sink K)
     (old new : Streams S K E) (acts : Option (List Act)) (turns turns' : List Snapshot) (end : Result Tally Stop) : Type 0 where
   pub told : List Act
   pub is : acts ≡ Some told
-  pub measured : MeasuresBegun station (places_of source sink shown old (Some []) turns) (places_of source sink shown new (Some told) turns') end
+  pub measured : MeasuresBegun station (ports_seen source sink shown old (Some []) turns) (ports_seen source sink shown new (Some told) turns') end
   pub all_last : AllLast (lasts new.output) end
 
 -- a run measured by these acts of its link, with what was seen at each, or it didn't begin; and the status and the messages
@@ -97,8 +98,8 @@ pub record ReportsRun {S K E : Type 0} (source : Source S) (sink : Sink K) (last
 
 -- a source gave a text to its end, and the run over its commands is done, or its end was asked for, by these acts, which its
 -- link recorded from none on
-abbrev pub MeasuresAllFromNone : {S K E : Type 0} → Source S → Sink K → (E → Option (List ℕ)) → Settings → Streams S K E → Streams S K E → Option (List Act)
-    → List Snapshot → List Snapshot → Type 0
+abbrev pub MeasuresAllFromNone : {S K E : Type 0} → Source S → Sink K → (E → Option (List ℕ)) → Settings → (old new : Streams S K E)
+    → (acts : Option (List Act)) → (turns turns' : List Snapshot) → Type 0
 MeasuresAllFromNone source sink shown station old new acts turns turns' =
     (told : List Act) × (acts ≡ Some told) × ((run : ℕ) × MeasuresAll source sink shown (begun_at run station) (Some []) (Some told) turns turns' old new)
 
@@ -128,7 +129,8 @@ pub record ReportsAppended {S F K E : Type 0} (source : Source S) (sink : Sink F
   pub filed : IsFiled sink old new begun ended file
   pub run : ReportsRun source sink lasts shown has_log (appended station) begun ended acts turns turns' status
 
--- a file of records can't be had, which is reported, or a run appended to it, and that is
+-- either a file of records can't be had, which is reported (`RefusesFile`), or a run appended to it, and its end is reported
+-- (`ReportsAppended`)
 abbrev pub ReportsAppending : {S F K E : Type 0} → Source S → Sink F → (F → Bool) → (E → Option (List ℕ)) → (has_log : Bool) → Settings → (old new : Streams S K E)
     → Option F → Option (List Act) → (turns turns' : List Snapshot) → (status : ℕ) → Type 0
 ReportsAppending source sink lasts shown has_log station old new file acts turns turns' status =

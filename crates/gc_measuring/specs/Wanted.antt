@@ -8,8 +8,8 @@ use Rattle.gc_station.specs.declared.book.LinkHealth.TheVariants.{Fine, Idle, Un
 use Rattle.gc_measuring.specs.declared.wanted.Wanted.{Wanted}
 
 -- the want after an answer: no answer is wanted, and the cycle has one
-abbrev pub behind_answer : Wanted → Wanted
-behind_answer w = record { since = None; heard = true; told = false }
+abbrev pub after_answer : Wanted
+after_answer = record { since = None; heard = true; told = false }
 
 -- since when an answer is wanted, given that one is wanted at this moment: an earlier start stays, else it is this moment
 abbrev pub wanted_from : Option Moment → Moment → Option Moment
@@ -18,23 +18,23 @@ wanted_from (Some since) moment = Some since
 
 -- the want after a cycle of which nothing is left to be asked: the want is over if the cycle had an answer, and no message said that none
 -- comes
-abbrev pub behind_cycle : Wanted → Wanted
-behind_cycle w = record { since = if w.heard && not w.told then None else w.since; heard = false; told = w.told }
+abbrev pub after_cycle : Wanted → Wanted
+after_cycle w = record { since = if w.heard && not w.told then None else w.since; heard = false; told = w.told }
 
 -- the want after a look at a station: an answer is wanted without a connection, while the line is to be quiet, and while a
 -- request has no reply. A station that is idle has ended a cycle, and one that is fine changes nothing
-abbrev pub behind_look : LinkHealth → Moment → Wanted → Wanted
-behind_look Fine moment w = w
-behind_look Idle moment w = behind_cycle w
-behind_look Unconnected moment w = record w { since = wanted_from w.since moment }
-behind_look Unquiet moment w = record w { since = wanted_from w.since moment }
-behind_look Unheard moment w = record w { since = wanted_from w.since moment }
+abbrev pub after_look : LinkHealth → Moment → Wanted → Wanted
+after_look Fine moment w = w
+after_look Idle moment w = after_cycle w
+after_look Unconnected moment w = record w { since = wanted_from w.since moment }
+after_look Unquiet moment w = record w { since = wanted_from w.since moment }
+after_look Unheard moment w = record w { since = wanted_from w.since moment }
 
--- whether at least this time lies between two moments of the clock for deadlines
+-- whether at least `least` milliseconds passed from `from` to `now`, both by the clock for deadlines
 abbrev pub has_lasted : ℕ → ℕ → ℕ → Bool
 has_lasted from now least = not (nat_lt (now - from) least)
 
--- the moment since which an answer is wanted, if that is at least this long ago
+-- the moment since which an answer is wanted, if that is at least `least` milliseconds before `now`, by the clock for deadlines
 abbrev pub lasting : ℕ → ℕ → Option Moment → Option Moment
 lasting now least None = None
 lasting now least (Some since) = if has_lasted since.elapsed now least then Some since else None
@@ -45,12 +45,12 @@ pub record Look : Type 0 where
   pub moment : Moment
 
 -- the want after these looks, if no answer comes before any of them
-abbrev pub behind_looks : List Look → Wanted → Wanted
-behind_looks [] w = w
-behind_looks (look ∷ later) w = behind_looks later (behind_look look.health look.moment w)
+abbrev pub after_looks : List Look → Wanted → Wanted
+after_looks [] w = w
+after_looks (look ∷ later) w = after_looks later (after_look look.health look.moment w)
 
 -- as long as no answer comes, the moment since which one is wanted stays the same, whatever becomes of connections and cycles
 -- meanwhile
 abbrev pub WantCountsOverConnections : Type 0
 WantCountsOverConnections =
-    (looks : List Look) (since : Moment) (w : Wanted) → w.heard ≡ false → w.since ≡ Some since → (behind_looks looks w).since ≡ Some since
+    (looks : List Look) (since : Moment) (w : Wanted) → w.heard ≡ false → w.since ≡ Some since → (after_looks looks w).since ≡ Some since

@@ -8,8 +8,9 @@ ghost use Rattle.gc_texts.specs.WholeTexts.{input_of};
 
 use crate::stop::Stop;
 use crate::task_text::read_task_text;
+use crate::work::commands_in;
 use gc_lines::{Sink, Source, write_whole};
-use gc_messages::{Streams, report_spaces, report_turns, report_unasked, report_unnamed};
+use gc_messages::{Streams, report_spaces, report_turns, report_unasked, report_unused_names};
 use gc_texts::{Again, RunFault, Task, Tasks};
 use gc_words::Choice;
 use std::alloc::Global;
@@ -49,15 +50,16 @@ pub fn check_task_text<S: Source, K: Sink, E: Write>(
     (streams, status)
 }
 
-// Reports what looks wrong in a text that gives these tasks.
+// Reports what looks wrong in the text of these tasks, and is no fault: angles outside one turn, places and names without a command,
+// spaces at ends of lines.
 fn report_doubts<E: Write>(text: &[u8], tasks: &Tasks, messages: &mut E) -> io::Result<()> {
     report_turns(text, tasks, messages)?;
     report_unasked(tasks, messages)?;
-    report_unnamed(tasks, messages)?;
+    report_unused_names(tasks, messages)?;
     report_spaces(text, messages)
 }
 
-// Writes what a station would do by these tasks.
+// Writes the outline of these tasks on the output. It fails with `Memory` if memory was refused, and with `Output` if the output failed.
 fn write_outline<K: Sink>(alloc: Global, tasks: &Tasks, output: &mut K) -> Result<(), Stop> {
     let mut outline = Vec::new(alloc);
     if outline_tasks(tasks, &mut outline).is_err() {
@@ -85,17 +87,12 @@ fn outline_tasks<W: Write>(tasks: &Tasks, outline: &mut W) -> io::Result<()> {
     outline_chains(tasks, outline)
 }
 
-/// How many commands a cycle of these tasks has, each counted once, however often its chain may be sent again.
-pub(crate) fn commands_in(tasks: &Tasks) -> usize {
-    let cycle = tasks.tasks.iter().skip(tasks.setup);
-    cycle.filter(|task| task.turn.attempt == 1).count()
-}
-
 // Writes a line for each chain of a cycle: its target, its commands, and how often and after what it is sent again.
 fn outline_chains<W: Write>(tasks: &Tasks, outline: &mut W) -> io::Result<()> {
     // Of the chain that is being written: how often it may be sent again, and after what. `None`: none is.
     let mut chain: Option<(u64, Again)> = None;
     for task in tasks.tasks.iter().skip(tasks.setup) {
+        // A later attempt has the commands of the first: it only counts.
         if task.turn.attempt > 1 {
             let again = task.turn.attempt - 1;
             chain = chain.map(|(_, rule)| (again, rule));
@@ -111,14 +108,21 @@ fn outline_chains<W: Write>(tasks: &Tasks, outline: &mut W) -> io::Result<()> {
     end_chain(chain, outline)
 }
 
-// Writes the front of a chain's line: its target, with its name, if it has one.
+// Writes the front of a chain's line: its target.
 fn begin_chain<W: Write>(tasks: &Tasks, target: u32, outline: &mut W) -> io::Result<()> {
-    write!(outline, "  target {target}")?;
-    let name = str::from_utf8(tasks.name_of(target)).unwrap_or("");
-    if !name.is_empty() {
-        write!(outline, " ({name})")?;
-    }
+    write!(outline, "  ")?;
+    write_target(target, tasks.name_of(target), outline)?;
     write!(outline, ":")
+}
+
+/// Writes a target, and after it in parentheses its name, as in `target 7 (pier 4)`. A name that is empty or isn't UTF-8 is left out.
+pub fn write_target<W: Write>(target: u32, name: &[u8], out: &mut W) -> io::Result<()> {
+    write!(out, "target {target}")?;
+    let name = str::from_utf8(name).unwrap_or("");
+    if !name.is_empty() {
+        write!(out, " ({name})")?;
+    }
+    Ok(())
 }
 
 // Writes a command after its chain's target: the number of its procedure, `now` if it sets the clock, and its deadline.

@@ -39,8 +39,8 @@ fn write_counts<E: Write>(tally: Tally, messages: &mut E) -> io::Result<()>
     write_again(tally, messages)
 }
 
-// Writes the front of the line of the counts: how many commands were answered, late and lost.
-fn write_ends<E: Write>(tally: Tally, messages: &mut E) -> io::Result<()>
+/// Writes the front of the line of the counts: how many commands were answered, late and lost.
+pub fn write_ends<E: Write>(tally: Tally, messages: &mut E) -> io::Result<()>
     ensures { OnOk result (Appends (E.contents messages.old) (E.contents messages.new) (ends_text tally)) }
 {
     let Tally {
@@ -52,8 +52,8 @@ fn write_ends<E: Write>(tally: Tally, messages: &mut E) -> io::Result<()>
     write!(messages, "answered {answered} late {late} lost {lost} ")
 }
 
-// Writes the middle of the line of the counts: how many commands were skipped, unreadable, missed and elsewhere.
-fn write_others<E: Write>(tally: Tally, messages: &mut E) -> io::Result<()>
+/// Writes the middle of the line of the counts, after `write_ends`: how many commands were skipped, unreadable, missed and elsewhere.
+pub fn write_others<E: Write>(tally: Tally, messages: &mut E) -> io::Result<()>
     ensures { OnOk result (Appends (E.contents messages.old) (E.contents messages.new) (others_text tally)) }
 {
     let Tally {

@@ -2,7 +2,7 @@
 
 ghost use Rattle.gc_measuring.specs.Wanted.{WantCountsOverConnections};
 
-/// While no answer arrives, the time since which one is outstanding stays the same, whatever becomes of connections and cycles.
+/// While no answer arrives, the moment since which one has been wanted stays the same, whatever becomes of connections and cycles.
 pub fn a_want_counts_over_connections()
     ensures { WantCountsOverConnections }
 {}

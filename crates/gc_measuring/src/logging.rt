@@ -25,17 +25,17 @@ use std::io::{self, Write};
 use std::process::ExitCode;
 use std::rt::Files;
 
-// How a line of a log begins: a moment, in which each 0 here stands for a digit. After it comes one of `MARKS`.
+// The form of the moment that begins each line of a log, with the space after it. Each 0 stands for any digit.
 const MOMENT: &[u8] = b"0000-00-00T00:00:00.000Z ";
 
-// The marks of lines of a log: what came, what went, and what became of the connection.
+// The first bytes of the marks of lines, which follow the moment: what came, what went, and what became of the connection.
 const MARKS: &[u8] = b"<>-";
 
-// The length of a moment and a mark.
+// The length of `MOMENT` and the first byte of a mark.
 const FRONT: usize = 26;
 
-// Whether `front`, at most the first `FRONT` bytes of a file, is how a log begins: with a moment, whose digits are the zeros of
-// `MOMENT`, and the first byte of a mark. An empty file counts as a log.
+// Whether `front`, the first `FRONT` bytes of a file, begins as a log does: with a moment of the form of `MOMENT`, and then one of
+// `MARKS`. A shorter file has to agree only as far as it goes; an empty one counts as a log.
 fn begins_log(front: &[u8]) -> bool {
     for (at, b) in front.iter().enumerate() {
         let fits = match MOMENT.get(at) {
@@ -71,13 +71,13 @@ fn open_log<R: Files<File = File>>(rt: &R, path: &str) -> Result<RowsFile<System
     }
 }
 
-/// Opens the log, if one is asked for, and notes how many bytes of a torn line were cut off. Fails with `Log` if the file can't
-/// be had as a log.
+/// Opens the log at `log`, and notes in `noticed` how many bytes of a torn line were cut off. The file grows to `log.most` bytes
+/// at most. Returns `None` if no log is asked for, and fails with `Log` if the file can't be had as a log.
 pub(crate) fn log_at<'a, R: Files<File = File>>(
     rt: &R,
     noticed: &'a Cell<Noticed>,
     log: Option<LogPlace<'_>>,
-) -> Result<Option<Noted<'a, RowsFile<SystemFile>>>, RunFault>
+) -> Result<Option<LogSink<'a, RowsFile<SystemFile>>>, RunFault>
     ensures logged { IfOk result (λ opened. is_some opened ≡ is_some log.entry) }
     ensures fault { IfErr result (λ fault. (is_some log.entry ≡ true) × (fault ≡ RunFault.Log)) }
 {
@@ -89,7 +89,7 @@ pub(crate) fn log_at<'a, R: Files<File = File>>(
     };
     note_torn(noticed, rows.torn());
     let room = room_in(rows.file(), log.most);
-    Ok(Some(Noted {
+    Ok(Some(LogSink {
         sink: Bounded::new(rows, room),
         noticed,
     }))
@@ -105,12 +105,12 @@ fn room_in<F: Appending>(file: &F, most: u64) -> u64 {
 
 /// The sink of a log. If a write fails, it notes that the log has ended, at its bound or because the file failed.
 #[derive(Drop)]
-pub(crate) struct Noted<'a, K> {
+pub(crate) struct LogSink<'a, K> {
     sink: Bounded<K>,
     noticed: &'a Cell<Noticed>,
 }
 
-impl<'a, K: Sink> Sink for Noted<'a, K> {
+impl<'a, K: Sink> Sink for LogSink<'a, K> {
     ghost taken = { λ _. None };
 
     ghost failed = { λ n. has_ended n.sink };
@@ -158,7 +158,8 @@ fn note_torn(noticed: &Cell<Noticed>, torn: u64) {
     });
 }
 
-/// Measures over a link with a log, reports how the run ended, and then whether the log was lost. The streams are handed back.
+/// Measures over a link with a log, reports how the run ended, and then whether the log was lost. Returns the streams and the
+/// status of the report. What was seen of link and output at each act is noted in `kept`.
 pub(crate) fn measure_logged<L: Link, G: Sink, S: Source, K: Durable, E: Write>(
     alloc: Global,
     logged: &mut Logged<L, G>,
@@ -182,7 +183,8 @@ pub(crate) fn measure_logged<L: Link, G: Sink, S: Source, K: Durable, E: Write>(
     (streams, ended)
 }
 
-// Writes a line if the log was lost (`is_lost`), after the report of how the run ended. The status stays as it was.
+// Writes a line if the log was lost (`is_lost`), after the report of how the run ended. The status of that report (`ended`) stays
+// as it was; if it is an error, nothing is written.
 fn report_loss<E: Write>(
     ended: io::Result<ExitCode>,
     is_lost: bool,

@@ -4,23 +4,24 @@ ghost use Rattle.std.specs.Prelude.{◌≡◌, ◌+◌, ◌≤◌, OnOk, IfErr};
 ghost use Rattle.std.specs.Io.KnownBytes.{Appends};
 ghost use Rattle.gc_measuring.specs.Measuring.{text_in, front_text, course_of, RunsCourse, CourseKeepsUp, MeasuresText, IsUntouched, AllLast};
 ghost use Rattle.gc_measuring.specs.Stops.{with_fault};
-ghost use Rattle.gc_measuring.specs.Telling.{places_of};
+ghost use Rattle.gc_measuring.specs.Telling.{ports_seen};
 ghost use Rattle.gc_lines.specs.Ports.{FailsWith, TakesFront};
 ghost use Rattle.gc_station.specs.Runs.{FailsAtOutput, LastsBut};
 ghost use Rattle.gc_texts.specs.declared.text.TheConstants.{TEXT_LIMIT};
 
-use crate::checking::commands_in;
 use crate::plan::plan_of;
 use crate::reporter::Reporter;
+use crate::row::write_station_row;
 use crate::spot::Spot;
 use crate::stop::Stop;
 use crate::task_text::read_task_text;
+use crate::work::{Work, work_of};
 use gc_lines::{Durable, PortFailed, Source, write_whole};
 use gc_links::{Link, Moment};
 use gc_messages::{Noticed, Streams, report_turns, report_unasked};
-use gc_rows::{When, write_head, write_record};
-use gc_station::{Book, Kept, LinkHealth, Tally, run_station};
-use gc_texts::{Ending, RunFault, Stamp, Task, Tasks, Wish};
+use gc_rows::write_head;
+use gc_station::{Book, Kept, LinkHealth, Tally, is_well, run_station};
+use gc_texts::{Ending, RunFault, Stamp, Tasks, Wish};
 use gc_words::{Layout, Settings};
 use std::alloc::Global;
 use std::cell::Cell;
@@ -36,7 +37,7 @@ use std::io::Write;
 /// the records, and then the link wasn't used, or at a record.
 ///
 /// The messages get at the start what is odd about the text: each angle of a positioning that lies outside one turn, and each
-/// target of which the text says where it is, and which no command asks for its direction. Then they get signs of life, each
+/// target of which the text says where it is, though no command measures its direction. Then they get signs of life, each
 /// kind at most once a minute, if the choice has them, and what `spot` notices of the line. If they can't be written the
 /// station measures on. If the run ends because it is stale, they get a line that says since when no answer of a good quality
 /// came.
@@ -52,8 +53,8 @@ pub fn run_station_text<L: Link, S: Source, K: Durable, E: Write>(
     // The text was refused; or its commands were measured, and the link, the output and the run's end are as the model has
     // them. At each act all that the acts before it settled was written, and lasted.
     ensures measures { MeasuresText station max_turns
-        (places_of S.Source K.Sink E.contents streams (L.acts link.old) kept.old.turns)
-        (places_of S.Source K.Sink E.contents result.0 (L.acts link.new) kept.new.turns)
+        (ports_seen S.Source K.Sink E.contents streams (L.acts link.old) kept.old.turns)
+        (ports_seen S.Source K.Sink E.contents result.0 (L.acts link.new) kept.new.turns)
         result.1 }
 
     // If the fault is `Output` the output has failed; otherwise whether it has failed is as before.
@@ -67,8 +68,8 @@ pub fn run_station_text<L: Link, S: Source, K: Durable, E: Write>(
 
     // If the text was refused nothing was done over the link, and nothing written.
     ensures untouched { IsUntouched
-        (places_of S.Source K.Sink E.contents streams (L.acts link.old) kept.old.turns)
-        (places_of S.Source K.Sink E.contents result.0 (L.acts link.new) kept.new.turns)
+        (ports_seen S.Source K.Sink E.contents streams (L.acts link.old) kept.old.turns)
+        (ports_seen S.Source K.Sink E.contents result.0 (L.acts link.new) kept.new.turns)
         result.1 }
 {
     let (tasks, text) = match read_task_text(alloc, &mut streams.input, &station.choice) {
@@ -82,67 +83,29 @@ pub fn run_station_text<L: Link, S: Source, K: Durable, E: Write>(
     let _ = report_unasked(&tasks, &mut streams.messages);
     // A run may take months: the memory of the text is given back first.
     drop(text);
-    let work = work_of(alloc, tasks, max_turns);
-    let (streams, end) = measure(link, station, work, spot, streams, kept);
+    let work = work_of(alloc, tasks);
+    let (streams, end) = measure(link, station, work, max_turns, spot, streams, kept);
     match end {
         Ok(tally) => (streams, Ok(tally)),
         Err(fault) => (streams, Err(Stop::Run(fault))),
     }
 }
 
-// What is measured: how many of the tasks before it are the setup, the tasks, the names of their targets (in a `Tasks` whose
-// own tasks are empty), how many commands a cycle has, and the most acts that a run may make.
-#[derive(Drop)]
-struct Work {
-    setup: usize,
-    tasks: Vec<Task>,
-    named: Tasks,
-    commands: usize,
-    max_turns: u64,
-}
-
-// The work of a run over these tasks, in at most `max_turns` acts.
-fn work_of(alloc: Global, tasks: Tasks, max_turns: u64) -> Work
-    ensures setup { result.setup ≡ tasks.setup }
-    ensures tasks { result.tasks.items ≡ tasks.tasks.items }
-    ensures names { result.named.names.items ≡ tasks.names.items }
-    ensures turns { result.max_turns ≡ max_turns }
-{
-    let commands = commands_in(&tasks);
-    let Tasks {
-        setup,
-        tasks,
-        names,
-        nears,
-    } = tasks;
-    let named = Tasks {
-        setup: 0,
-        tasks: Vec::new(alloc),
-        names,
-        nears,
-    };
-    Work {
-        setup,
-        tasks,
-        named,
-        commands,
-        max_turns,
-    }
-}
-
-// Measures the tasks of `work` over a link by the settings of `station`, and writes their records into the output. The streams
-// are handed back.
+// Measures the tasks of `work` over a link by the settings of `station`, in at most `max_turns` acts, and writes their records on
+// the output. The streams are handed back, with how the run ended. What was seen of link and output at each act is noted in
+// `kept`.
 fn measure<L: Link, S, K: Durable, E: Write>(
     link: &mut L,
     station: Settings,
     work: Work,
+    max_turns: u64,
     spot: Spot<'_>,
     streams: Streams<S, K, E>,
     kept: &mut Kept,
 ) -> (Streams<S, K, E>, Result<Tally, RunFault>)
-    ensures ran { RunsCourse (course_of station work.max_turns work.setup work.tasks.items work.named.names.items)
+    ensures ran { RunsCourse (course_of station max_turns work.setup work.tasks.items work.named.names.items)
         (L.acts link.old) (L.acts link.new) (K.taken streams.output) (K.taken result.0.output) result.1 }
-    ensures keeps { CourseKeepsUp (course_of station work.max_turns work.setup work.tasks.items work.named.names.items)
+    ensures keeps { CourseKeepsUp (course_of station max_turns work.setup work.tasks.items work.named.names.items)
         (L.acts link.old) (L.acts link.new) (K.taken streams.output) kept.old.turns kept.new.turns result.1 }
     ensures output { FailsAtOutput (K.failed streams.output) (K.failed result.0.output) result.1 }
     ensures is_durable { LastsBut (K.is_durable result.0.output) result.1 }
@@ -158,7 +121,6 @@ fn measure<L: Link, S, K: Durable, E: Write>(
         tasks,
         named,
         commands,
-        max_turns,
     } = work;
     let plan = plan_of(station.choice, setup, tasks.as_slice());
     let mut reporter = Reporter::new(station.choice.watch, messages);
@@ -182,7 +144,7 @@ fn measure<L: Link, S, K: Durable, E: Write>(
     (streams, end)
 }
 
-// Writes what comes before the records, unless the sink has it already. `Err`: the write failed, with the number of bytes
+// Writes what comes before the records, unless the sink has it already (`layout.headed`). `Err`: the write failed, with the number of bytes
 // taken.
 fn write_front<K: Durable>(sink: &mut K, layout: Layout) -> Result<(), usize>
     ensures failed { FailsWith result (K.failed sink.old) (K.failed sink.new) }
@@ -196,13 +158,10 @@ fn write_front<K: Durable>(sink: &mut K, layout: Layout) -> Result<(), usize>
     write_head(sink, layout.form)
 }
 
-// When the last answer of a good quality came, in milliseconds since 1970: `utc` if the command that ended so at this moment has
-// one, else `fresh`, as before.
+// When the last answer of a good quality came, in milliseconds since 1970, once a command had this ending at the moment `utc`. It was
+// `fresh` before.
 fn fresh_after(fresh: u64, utc: u64, ending: Ending<'_>) -> u64 {
-    match ending.quality() {
-        Some(quality) if quality.is_good() => utc,
-        _ => fresh,
-    }
+    if is_well(ending) { utc } else { fresh }
 }
 
 // A book that writes records in one layout into a sink, and reports on the messages what the station does.
@@ -211,6 +170,7 @@ struct Records<'a, K, E> {
     layout: Layout,
     // The names of targets, in a `Tasks` whose own tasks are empty.
     named: Tasks,
+    // What was noticed of the line and of the station's files.
     noticed: &'a Cell<Noticed>,
     // When an answer of a good quality came last, or the run began, in milliseconds since 1970.
     fresh: u64,
@@ -256,22 +216,14 @@ impl<'a, K: Durable, E: Write> Book for Records<'a, K, E> {
     ) -> Result<(), PortFailed> {
         self.reporter.count(stamp, ending);
         self.fresh = fresh_after(self.fresh, stamp.utc, ending);
-        let when = When {
-            run: self.layout.run,
-            stamp,
-        };
-        let taken = write_record(
+        write_station_row(
             &mut self.sink,
-            self.layout.form,
-            &when,
-            self.named.name_of(command.target),
+            self.layout,
+            &self.named,
+            stamp,
             command,
             ending,
-        );
-        match taken {
-            Ok(()) => Ok(()),
-            Err(_) => Err(PortFailed),
-        }
+        )
     }
 
     // Syncs the sink: if that succeeds, what was written outlasts all that the sink is meant to outlast.

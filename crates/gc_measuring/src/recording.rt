@@ -5,7 +5,7 @@ ghost use Rattle.std.specs.Io.KnownBytes.{Appends};
 ghost use Rattle.std.specs.Option.{is_some};
 ghost use Rattle.std.specs.Process.{exit_status};
 ghost use Rattle.gc_words.specs.Stations.{form_of_rows};
-ghost use Rattle.gc_measuring.specs.Recording.{copied_line, fault_of_unfit, opened_lines, rotation_line, unfit_text, torn_line};
+ghost use Rattle.gc_measuring.specs.Recording.{fault_of_unfit, opened_lines, rotation_line, unfit_text};
 ghost use Rattle.gc_measuring.specs.Appending.{file_of, acts_in};
 ghost use Rattle.gc_measuring.specs.Telling.{ReportsAppending, AppendsAll};
 ghost use Rattle.gc_rows.specs.Records.{head_text, sign_text};
@@ -18,7 +18,7 @@ use crate::stop::Stop;
 use gc_files::{RowsFile, SystemFile, Unfit, open_at};
 use gc_lines::{Durable, Sink, Source};
 use gc_links::{PlacedLink, Telling, Watched};
-use gc_messages::{Followed, Streams};
+use gc_messages::{Followed, Streams, report_copied, report_torn};
 use gc_rows::{head, sign};
 use gc_station::Kept;
 use gc_texts::RunFault;
@@ -43,34 +43,6 @@ fn fault_of_unfit(why: Unfit) -> RunFault
     }
 }
 
-// Writes how many bytes of an incomplete row were cut off, if any were.
-fn report_torn<E: Write>(torn: u64, messages: &mut E) -> io::Result<()>
-    ensures { OnOk result (Appends (E.contents messages.old) (E.contents messages.new) (torn_line torn)) }
-{
-    if torn == 0 {
-        // For the proof: writing an empty text gives the clause, which an `Ok(())` alone doesn't.
-        return write!(messages, "");
-    }
-    writeln!(
-        messages,
-        "geocom: {torn} bytes of an incomplete row were cut off"
-    )
-}
-
-// Writes how many rows were copied because the run before was killed or a sync failed, if any were.
-fn report_copied<E: Write>(copied: u64, messages: &mut E) -> io::Result<()>
-    ensures { OnOk result (Appends (E.contents messages.old) (E.contents messages.new) (copied_line copied)) }
-{
-    if copied == 0 {
-        // For the proof: writing an empty text gives the clause, which an `Ok(())` alone doesn't.
-        return write!(messages, "");
-    }
-    writeln!(
-        messages,
-        "geocom: the last run was killed, or a sync failed: {copied} rows were copied to a new file and synced"
-    )
-}
-
 // Writes what the opening of a file did: how many rows it copied, and how many bytes of a torn row it cut off.
 fn report_opened<E: Write>(copied: u64, torn: u64, messages: &mut E) -> io::Result<()>
     ensures { OnOk result (Appends (E.contents messages.old) (E.contents messages.new) (opened_lines copied torn)) }
@@ -93,23 +65,24 @@ fn report_rotation<E: Write>(
     Ok(status)
 }
 
-// Writes the line that says how to rotate a file: for `Foreign` alone.
+// Writes, for `Foreign` alone, the line on what may have happened to the file and how to rotate it.
 fn write_rotation<E: Write>(why: Unfit, messages: &mut E) -> io::Result<()>
     ensures { OnOk result (Appends (E.contents messages.old) (E.contents messages.new) (rotation_line why)) }
 {
     match why {
         Unfit::Foreign => writeln!(
             messages,
-            "geocom: the file does not begin as this station's rows do: it has other columns, or a rotation cut off its header (copytruncate). To rotate it, stop the station, rename the file, and start it"
+            "geocom: the file does not begin as this station's rows do: it has other columns, or a rotation cut off its header \
+             (copytruncate). To rotate it, stop the station, rename the file, and start it"
         ),
         // For the proof: writing an empty text gives the clause, which an `Ok(())` alone doesn't.
         Unfit::Unopened | Unfit::Held | Unfit::Failed => write!(messages, ""),
     }
 }
 
-// Opens the file of a station's records, in the form of its rows, to sync each row or not as `recording` asks. Writes how many
-// rows were copied and how many bytes of an incomplete row were cut off, if any were. The result is the file, and whether this could
-// be written.
+// Opens the file of a station's records at `recording.path`, for rows in the station's form, each of which is synced if `recording.sync`
+// is set. Writes how many rows were copied and how many bytes of an incomplete row were cut off, if any were. Returns the file, and
+// whether this could be written. `Err`: why the file can't be had; then nothing is written.
 fn open_records<R: Files<File = File>, E: Write>(
     rt: &R,
     alloc: Global,
@@ -214,7 +187,7 @@ pub fn append_at<
     }
 }
 
-// Reports why a file of records can't be had and, for one that doesn't begin as this station's rows do, how to rotate it.
+// Reports with status 1 why a file of records can't be had and, for one that doesn't begin as this station's rows do, how to rotate it.
 fn refuse_file<E: Write>(why: Unfit, messages: &mut E) -> io::Result<ExitCode>
     ensures told { IfOk result (λ status. (exit_status status ≡ 1) × Appends (E.contents messages.old) (E.contents messages.new) (unfit_text why)) }
 {

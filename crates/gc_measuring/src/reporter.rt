@@ -25,7 +25,7 @@ pub(crate) struct Reporter<E> {
 }
 
 impl<E: Write> Reporter<E> {
-    /// Nothing was reported yet.
+    /// A reporter that has reported nothing yet. `watch`: who watches the station.
     pub(crate) fn new(watch: Watch, messages: E) -> Reporter<E> {
         Reporter {
             watch,
@@ -35,7 +35,7 @@ impl<E: Write> Reporter<E> {
         }
     }
 
-    /// Writes at the start how many commands there are, and to which place they go.
+    /// Writes at the start how many commands a cycle has (`count`), and to which place they go; nothing if nobody watches.
     pub(crate) fn begin(&mut self, place: Place<'_>, count: usize) {
         if self.watch != Watch::Nobody {
             let _ = report_start(place, count, &mut self.messages);
@@ -78,8 +78,8 @@ impl<E: Write> Reporter<E> {
         }
     }
 
-    /// Writes why a run ended that is stale, also if no signs of life are written: since when no answer of a good quality came,
-    /// in milliseconds since 1970.
+    /// Writes, of a run that ended because it is stale, since when no answer of a good quality came. `since` is in milliseconds since
+    /// 1970. The line is written also if the choice has no signs of life.
     pub(crate) fn stale(&mut self, since: u64) {
         let _ = self.signs.report_stale(since, &mut self.messages);
     }

@@ -6,14 +6,11 @@ ghost use Rattle.gc_texts.specs.Endings.{ending_seen};
 
 use crate::wanted::{Wanted, has_lasted};
 use gc_links::Moment;
-use gc_messages::{Bounded, Oddities};
-use gc_station::{LinkHealth, Tally};
+use gc_messages::{Bounded, MINUTE, Oddities};
+use gc_station::{LinkHealth, Tally, is_well};
 use gc_texts::{Ending, Stamp, stamp_text};
 use gc_words::Watch;
 use std::io::{self, Write};
-
-// The least time between two lines of one kind, in milliseconds.
-const MINUTE: u64 = 60_000;
 
 // How long a trouble has to last before it is reported, in milliseconds. A station is looked at each second, so the line comes
 // within a minute.
@@ -37,11 +34,11 @@ impl RateLimit {
         RateLimit { last: None }
     }
 
-    // Whether a line of this kind may be written now: the last one is at least `apart` milliseconds old. If so, it counts as
-    // written now.
+    // Whether a line of this kind may be written now: there was none, or the last one is at least `apart` milliseconds old at `elapsed`,
+    // by the clock for deadlines. If so, a line counts as written now.
     fn allows(&mut self, elapsed: u64, apart: u64) -> bool {
         let allows = match self.last {
-            Some(last) => elapsed.saturating_sub(last) >= apart,
+            Some(last) => has_lasted(last, elapsed, apart),
             None => true,
         };
         if allows {
@@ -89,12 +86,12 @@ pub(crate) struct Signs {
     unprepared: RateLimit,
     unanswered: RateLimit,
     late: RateLimit,
-    passed_over: RateLimit,
+    skipping: RateLimit,
     shown: RateLimit,
 }
 
 impl Signs {
-    /// Nothing was seen yet.
+    /// The signs of life of a station of which nothing was seen yet. `watch`: who watches it.
     pub(crate) fn new(watch: Watch) -> Signs {
         Signs {
             watch,
@@ -123,7 +120,7 @@ impl Signs {
             unprepared: RateLimit::new(),
             unanswered: RateLimit::new(),
             late: RateLimit::new(),
-            passed_over: RateLimit::new(),
+            skipping: RateLimit::new(),
             shown: RateLimit::new(),
         }
     }
@@ -153,7 +150,7 @@ impl Signs {
         }
     }
 
-    // Notes that an answer came, whether its values read or not, and wherever it was measured.
+    // Notes that an answer came, also one whose values can't be read or whose direction is elsewhere.
     fn answer(&mut self)
         ensures { self.new.counts ≡ self.old.counts }
     {
@@ -178,7 +175,7 @@ impl Signs {
     }
 
     /// Takes in the health of the link and the moment, and writes the lines that are due. `is_lost`: the last connection was lost
-    /// or couldn't be made.
+    /// or couldn't be made. If nobody watches it does nothing.
     pub(crate) fn see<E: Write>(
         &mut self,
         health: LinkHealth,
@@ -194,7 +191,7 @@ impl Signs {
         if moment.utc != 0 {
             self.report_troubles(before, is_lost, moment, messages)?;
         }
-        self.report_passed_over(messages)?;
+        self.report_skipped_once_over(messages)?;
         self.show(messages)
     }
 
@@ -209,7 +206,8 @@ impl Signs {
     }
 
     // Writes the lines that are due: on a missing connection, on a setup that isn't done, on a line that isn't quiet, on an
-    // answer that doesn't come, and on the end of such a trouble.
+    // answer that doesn't come, and on the end of such a trouble. `before` is the health of the link at the last look,
+    // and `is_lost` as in `see`.
     fn report_troubles<E: Write>(
         &mut self,
         before: LinkHealth,
@@ -222,20 +220,19 @@ impl Signs {
         self.report_unprepared(messages)?;
         self.report_unquiet(messages)?;
         self.report_unanswered(messages)?;
-        self.report_again(messages)
+        self.report_recovery(messages)
     }
 
-    // Reports how many commands were skipped, once no further one was skipped since the last look.
-    fn report_passed_over<E: Write>(&mut self, messages: &mut E) -> io::Result<()> {
-        let before = self.skipped_before;
-        if self.skipped == before {
+    // Reports how many commands were skipped, unless another one was skipped since the last look.
+    fn report_skipped_once_over<E: Write>(&mut self, messages: &mut E) -> io::Result<()> {
+        if self.skipped == self.skipped_before {
             self.report_skipped(messages)?;
         }
         self.skipped_before = self.skipped;
         Ok(())
     }
 
-    /// Writes what is odd about the line, each thing once.
+    /// Writes what is odd about the line, each thing once; nothing if nobody watches.
     pub(crate) fn report_odd<E: Write>(
         &mut self,
         odd: Oddities,
@@ -262,8 +259,8 @@ impl Signs {
         Ok(())
     }
 
-    // Reports that there is no connection, if the last one was lost or couldn't be made. Not if a cycle just began: then the
-    // station makes a connection at once.
+    // Reports that there is no connection, if the last one was lost or couldn't be made (`is_lost`), and the health of the link at
+    // the last look (`before`) wasn't `Idle`: after that a cycle just began, and the station makes a connection at once.
     fn report_connection<E: Write>(
         &mut self,
         before: LinkHealth,
@@ -320,7 +317,8 @@ impl Signs {
         }
     }
 
-    /// Reports why a run ended that is stale: since when no answer of a good quality came, in milliseconds since 1970.
+    /// Reports, of a run that ended because it is stale, since when no answer of a good quality came. `since` is in milliseconds since
+    /// 1970.
     pub(crate) fn report_stale<E: Write>(
         &mut self,
         since: u64,
@@ -341,7 +339,7 @@ impl Signs {
     }
 
     // Reports the end of a trouble, once a command was answered and a line of this kind may be written.
-    fn report_again<E: Write>(&mut self, messages: &mut E) -> io::Result<()> {
+    fn report_recovery<E: Write>(&mut self, messages: &mut E) -> io::Result<()> {
         if !self.is_troubled || !self.is_answered || !self.connected.allows(self.elapsed, MINUTE) {
             return Ok(());
         }
@@ -352,7 +350,7 @@ impl Signs {
 
     // Writes how many commands were skipped, if any were and a line of this kind may be written.
     fn report_skipped<E: Write>(&mut self, messages: &mut E) -> io::Result<()> {
-        if self.skipped == 0 || !self.passed_over.allows(self.elapsed, MINUTE) {
+        if self.skipped == 0 || !self.skipping.allows(self.elapsed, MINUTE) {
             return Ok(());
         }
         self.clear(messages)?;
@@ -375,7 +373,7 @@ impl Signs {
         messages.write_all(row.bytes.as_slice())
     }
 
-    // Writes the cycle, how many commands were answered, how long ago the last one was, and the other counts, but for those that
+    // Writes the cycle, how many commands were answered, how long ago the last one was, and the other counts without those that
     // are 0.
     fn show_counts<E: Write>(&self, row: &mut E) -> io::Result<()> {
         let cycle = self.cycle;
@@ -415,7 +413,7 @@ impl Signs {
     }
 }
 
-// Writes how many commands ended in each way but answered, but for counts that are 0.
+// Writes how many commands ended in each way other than answered; counts that are 0 are left out.
 fn show_others<E: Write>(counts: Tally, row: &mut E) -> io::Result<()> {
     for (name, count) in [
         ("late", counts.late),
@@ -436,12 +434,4 @@ fn show_count<E: Write>(name: &str, count: u64, row: &mut E) -> io::Result<()> {
         return Ok(());
     }
     write!(row, " {name} {count}")
-}
-
-// Whether a command that ended so was answered well.
-fn is_well(ending: Ending<'_>) -> bool {
-    match ending {
-        Ending::Answered(quality, ..) => quality.is_good(),
-        _ => false,
-    }
 }

@@ -14,8 +14,8 @@ pub struct Spot<'a> {
 }
 
 impl<'a> Spot<'a> {
-    /// Notes for which fault the run stopped.
-    pub fn stop(self, fault: RunFault) {
+    /// Notes the fault for which the run stopped.
+    pub fn note_fault(self, fault: RunFault) {
         let seen = self.noticed.get();
         self.noticed.set(Noticed {
             fault: Some(fault),
@@ -23,8 +23,9 @@ impl<'a> Spot<'a> {
         });
     }
 
-    /// Whether no run stopped, or one stopped because its place couldn't be reached.
-    pub fn is_unreached(self) -> bool {
+    /// Whether the error that the system returned last may explain how the run ended: the place couldn't be reached, or no fault was
+    /// noted. The latter holds if a file couldn't be opened before there was a link, and also if the run is done.
+    pub fn has_system_reason(self) -> bool {
         match self.noticed.get().fault {
             None => true,
             Some(fault) => matches!(
@@ -34,8 +35,8 @@ impl<'a> Spot<'a> {
         }
     }
 
-    /// Adds to the fault's line the place and the reason, if the run stopped for one of the faults that [`tell_place`]
-    /// explains.
+    /// Writes a line with the place and the reason, if the fault that was noted is one of those that [`tell_place`] explains, and
+    /// else nothing.
     pub fn report<E: Write>(self, messages: &mut E) -> io::Result<()> {
         match self.noticed.get().fault {
             Some(fault) => tell_place(self.site.place, fault, messages),

@@ -3,11 +3,11 @@
 ghost use Rattle.std.specs.Prelude.{◌≡◌, ◌≤◌, IfOk, IfErr};
 ghost use Rattle.std.specs.Option.{is_some};
 ghost use Rattle.std.specs.Process.{exit_status};
-ghost use Rattle.gc_measuring.specs.Stops.{fault_without_link, IsWithoutLink};
+ghost use Rattle.gc_measuring.specs.Stops.{fault_without_link, IsFaultWithoutLink};
 ghost use Rattle.gc_measuring.specs.Telling.{ReportsMeasuring, MeasuresAll, ReportsRun, MeasuresAllFromNone, CannotBegin, acts_of};
 
 use crate::counts::report_counts;
-use crate::logging::{Noted, log_at, measure_logged};
+use crate::logging::{LogSink, log_at, measure_logged};
 use crate::measure::run_station_text;
 use crate::spot::Spot;
 use crate::stop::Stop;
@@ -30,10 +30,10 @@ use std::time::Clock;
 
 /// Measures at a site, and reports how the run ended: by the counts, or by the fault's line. If the site has a log, its file is
 /// opened first, and what was on the link is appended to it. If the site's file `until` is there, the run ends between two
-/// chains, as one that is done. `Log` comes if no log can be had, `Clock` if the clock can't be read, and the faults of a device if one
-/// is there and can't be used. That a log couldn't be written to its end is reported after the counts, or the fault, and changes no
-/// status. The streams are handed back, and the link, if there was one. What was seen of link and output at each act is noted
-/// in `kept`.
+/// chains, as one that is done. The fault is `Log` if no log can be had, `Clock` if the clock can't be read, and what is wrong with
+/// the device if the place is one and can't be used. That a log couldn't be written to its end is reported after the counts, or the
+/// fault, and changes no status. The streams are handed back, and the link, if there was one. What was seen of link and output at each
+/// act is noted in `kept`.
 pub fn measure_at<
     'a,
     R: Net<Listener = TcpListener, Stream = TcpStream> + Clock + Files<File = File>,
@@ -86,15 +86,16 @@ pub fn measure_at<
     }
 }
 
-// What a run goes over: a link, with the moment at which the run begins, and its log, if one is asked for.
+// What a run measures over: a link, with the moment at which the run begins, and its log, if one is asked for.
 #[derive(Drop)]
 struct Ends<'a, R> {
     link: PlacedLink<'a, R>,
     moment: Moment,
-    log: Option<Noted<'a, RowsFile<SystemFile>>>,
+    log: Option<LogSink<'a, RowsFile<SystemFile>>>,
 }
 
-// Opens the log, if one is asked for, and then the link. If there is no link, the fault is noted at `spot`, too.
+// Opens the log, if one is asked for, and then the link. Fails with `Log` if the log can't be had, else with the fault of
+// `link_at`, which is also noted at `spot`.
 fn open_ends<'a, R: Net<Listener = TcpListener, Stream = TcpStream> + Clock + Files<File = File>>(
     rt: &'a R,
     spot: Spot<'a>,
@@ -109,7 +110,7 @@ fn open_ends<'a, R: Net<Listener = TcpListener, Stream = TcpStream> + Clock + Fi
     match link_at(rt, spot.site.place) {
         Ok((link, moment)) => Ok(Ends { link, moment, log }),
         Err(fault) => {
-            spot.stop(fault);
+            spot.note_fault(fault);
             Err(fault)
         }
     }
@@ -121,7 +122,7 @@ fn link_at<'a, R: Net<Listener = TcpListener, Stream = TcpStream> + Clock + File
     rt: &'a R,
     place: Place<'a>,
 ) -> Result<(PlacedLink<'a, R>, Moment), RunFault>
-    ensures { IfErr result (λ fault. IsWithoutLink fault) }
+    ensures { IfErr result (λ fault. IsFaultWithoutLink fault) }
 {
     let mut link = match PlacedLink::new(rt, place) {
         Ok(link) => link,
@@ -143,7 +144,8 @@ fn without_link(reason: Option<Unusable>) -> RunFault
     }
 }
 
-/// Measures over a link, and reports how the run ended. The streams are handed back.
+/// Measures over a link, reports how the run ended, and notes at `spot` the fault, if the run stopped for one. Returns the streams
+/// and the status of the report. What was seen of link and output at each act is noted in `kept`.
 pub(crate) fn measure_over<L: Link, S: Source, K: Durable, E: Write>(
     alloc: Global,
     link: &mut L,
@@ -170,6 +172,6 @@ pub(crate) fn measure_over<L: Link, S: Source, K: Durable, E: Write>(
 // If a run stopped for a fault, notes the fault at its spot.
 fn note_stop(spot: Spot<'_>, end: Result<Tally, Stop>) {
     if let Err(stop) = end {
-        spot.stop(stop.fault());
+        spot.note_fault(stop.fault());
     }
 }

@@ -2,7 +2,7 @@
 //! because neither is an answer.
 
 ghost use Rattle.std.specs.Prelude.{◌≡◌};
-ghost use Rattle.gc_measuring.specs.Wanted.{behind_answer, behind_look, behind_cycle, wanted_from, lasting, has_lasted};
+ghost use Rattle.gc_measuring.specs.Wanted.{after_answer, after_look, after_cycle, wanted_from, lasting, has_lasted};
 
 use gc_links::Moment;
 use gc_station::LinkHealth;
@@ -30,7 +30,7 @@ impl Wanted {
 
     /// Notes that a command was answered: no answer is wanted.
     pub(crate) fn hear(&mut self)
-        ensures { self.new ≡ behind_answer self.old }
+        ensures { self.new ≡ after_answer }
     {
         self.since = None;
         self.heard = true;
@@ -40,7 +40,7 @@ impl Wanted {
     /// Notes by the health of the link at this moment whether an answer is wanted: it is if there is no connection, if the
     /// line isn't quiet, and if a request has no reply. `Idle` ends the cycle, and `Fine` changes nothing.
     pub(crate) fn look(&mut self, health: LinkHealth, moment: Moment)
-        ensures { self.new ≡ behind_look health moment self.old }
+        ensures { self.new ≡ after_look health moment self.old }
     {
         match health {
             LinkHealth::Fine => {}
@@ -54,7 +54,7 @@ impl Wanted {
     // Ends a cycle, of which nothing is left to be asked. If the cycle had an answer, none is wanted until the next cycle
     // asks; but a want that was reported stays until an answer comes.
     fn end_cycle(&mut self)
-        ensures { self.new ≡ behind_cycle self.old }
+        ensures { self.new ≡ after_cycle self.old }
     {
         if self.heard && !self.told {
             self.since = None;
@@ -72,7 +72,7 @@ impl Wanted {
         };
     }
 
-    /// Since when an answer is wanted, if at `elapsed`, by the clock for deadlines, that is at least `least` milliseconds ago.
+    /// Since when an answer is wanted, if at `elapsed`, by the clock for deadlines, that is at least `least` milliseconds ago; else `None`.
     pub(crate) fn lasting(&self, elapsed: u64, least: u64) -> Option<Moment>
         ensures { result ≡ lasting elapsed least self.now.since }
     {

@@ -7,9 +7,9 @@ use Rattle.gc_files.proofs.Adding.{appended_two}
 
 -- if a file, whose steps appended `taken`, joins the files that were left, and the new file has taken nothing (`next`, and
 -- `after` a sync), what was appended to all files is what it was before
-pub went_on : (left left' steps : List Step) (taken next after : List ℕ) → left' ≡ left ++ steps → appended steps ≡ taken → next ≡ [] → after ≡ next
+pub appended_after_leaving : (left left' steps : List Step) (taken next after : List ℕ) → left' ≡ left ++ steps → appended steps ≡ taken → next ≡ [] → after ≡ next
     → appended left' ++ after ≡ appended left ++ taken
-went_on left left' steps taken next after is same none kept =
+appended_after_leaving left left' steps taken next after is same none kept =
     ap (λ xs. appended left' ++ xs) (kept ∙ none)
     ∙ append-nil (appended left')
     ∙ ap appended is

@@ -1,3 +1,4 @@
 pub mod Following
 pub mod Refusals
+pub mod Repairs
 pub mod Streams

@@ -7,7 +7,9 @@ ghost use Rattle.gc_lines.specs.Answering.{fault_text};
 ghost use Rattle.gc_texts.specs.Faults.{run_fault_text, Tells};
 ghost use Rattle.gc_messages.specs.Refusals.{range_line, stale_line, place_line};
 
+use crate::oddity::tell_place;
 use gc_lines::{ServeFault, Served};
+use gc_links::Place;
 use gc_texts::RunFault;
 use std::io::{self, Write};
 use std::process::ExitCode;
@@ -66,6 +68,23 @@ pub fn report_end<E: Write>(end: Result<(), RunFault>, messages: &mut E) -> io::
             Ok(ExitCode::from(1))
         }
     }
+}
+
+/// Reports as `report_end` does how a run over a connection to this place ended, and writes after the line of some faults a line with
+/// the place and the reason (`tell_place`).
+pub fn report_end_at<E: Write>(
+    place: Place<'_>,
+    end: Result<(), RunFault>,
+    messages: &mut E,
+) -> io::Result<ExitCode>
+    ensures { IfOk result (λ status. exit_status status ≤ 1) }
+{
+    let ended = report_end(end, messages);
+    if let Err(fault) = end {
+        // If this line can't be written, the fault's line is written all the same.
+        let _ = tell_place(place, fault, messages);
+    }
+    ended
 }
 
 /// Reports how serving or checking ended: with status 0, or with status 1 and the line of the fault.

@@ -1,11 +1,15 @@
 //! What becomes of the files that a station writes while it runs, and how that is reported. No record and no request depends on
 //! it. The path of the rows leads astray if it doesn't lead to the file of rows, and no new file can be had there.
 
+ghost use Rattle.std.specs.Prelude.{OnOk};
+ghost use Rattle.std.specs.Io.KnownBytes.{Appends};
+ghost use Rattle.gc_messages.specs.Repairs.{copied_line, torn_line};
+
 use gc_links::Moment;
 use std::io::{self, Write};
 
-// How far apart the lines are which say that the path of the rows leads astray, in milliseconds.
-const MINUTE: u64 = 60_000;
+/// The least time between two lines of one kind that a station writes on the messages while it measures, in milliseconds.
+pub const MINUTE: u64 = 60_000;
 
 /// What became of the log.
 #[derive(Clone, Copy, Debug, PartialEq, Eq)]
@@ -52,6 +56,7 @@ impl FilesSeen {
 /// What was reported of the files of a station.
 #[derive(Clone, Copy)]
 pub struct FilesTold {
+    // What was reported last.
     told: FilesSeen,
     // When it was reported last that the path of the rows leads astray, in milliseconds of the clock for deadlines.
     astray: Option<u64>,
@@ -66,16 +71,15 @@ impl FilesTold {
         }
     }
 
-    /// What is to be reported now: what is new, and once a minute that the rows' path leads astray. All of it then counts as
-    /// reported. `None`: nothing is new, and the path doesn't lead astray. If the path leads astray, but the line on that isn't
-    /// due and nothing else is new, the result is `Some` with nothing to write.
+    /// What is to be reported now: what is new, and once a minute that the path of the rows leads astray. It then counts as reported.
+    /// `None`: there is nothing to report. `Some` may have nothing to write, as when the path leads to the file again.
     pub fn news(&mut self, seen: FilesSeen, moment: Moment) -> Option<FilesNews> {
         let is_due = match self.astray {
             Some(last) => moment.elapsed.saturating_sub(last) >= MINUTE,
             None => true,
         };
         let is_astray = seen.is_astray && is_due;
-        if seen == self.told && !seen.is_astray {
+        if seen == self.told && !is_astray {
             return None;
         }
         let news = FilesNews {
@@ -97,8 +101,10 @@ impl FilesTold {
 /// What is to be reported of the files of a station.
 #[derive(Clone, Copy)]
 pub struct FilesNews {
+    // What was reported before, and what was seen now: what differs is news.
     before: FilesSeen,
     now: FilesSeen,
+    // Whether it is to be reported that the path of the rows leads astray.
     is_astray: bool,
 }
 
@@ -161,26 +167,35 @@ impl FilesNews {
             messages,
             "geocom: the file of records was moved or deleted: rows continue in a new one at its path"
         )?;
-        self.report_copied(messages)?;
-        let torn = self.now.torn;
-        if torn == 0 {
-            return Ok(());
-        }
-        writeln!(
-            messages,
-            "geocom: {torn} bytes of an incomplete row were cut off"
-        )
+        report_copied(self.now.copied, messages)?;
+        report_torn(self.now.torn, messages)
     }
+}
 
-    // Writes that rows of the new file were copied, if any were.
-    fn report_copied<E: Write>(self, messages: &mut E) -> io::Result<()> {
-        let copied = self.now.copied;
-        if copied == 0 {
-            return Ok(());
-        }
-        writeln!(
-            messages,
-            "geocom: the last run was killed, or a sync failed: {copied} rows were copied to a new file and synced"
-        )
+/// Writes how many rows were copied because the run before was killed or a sync failed; nothing if there were none.
+pub fn report_copied<E: Write>(copied: u64, messages: &mut E) -> io::Result<()>
+    ensures { OnOk result (Appends (E.contents messages.old) (E.contents messages.new) (copied_line copied)) }
+{
+    if copied == 0 {
+        // For the proof: writing an empty text gives the clause, which an `Ok(())` alone doesn't.
+        return write!(messages, "");
     }
+    writeln!(
+        messages,
+        "geocom: the last run was killed, or a sync failed: {copied} rows were copied to a new file and synced"
+    )
+}
+
+/// Writes how many bytes of an incomplete row were cut off; nothing if there were none.
+pub fn report_torn<E: Write>(torn: u64, messages: &mut E) -> io::Result<()>
+    ensures { OnOk result (Appends (E.contents messages.old) (E.contents messages.new) (torn_line torn)) }
+{
+    if torn == 0 {
+        // For the proof: writing an empty text gives the clause, which an `Ok(())` alone doesn't.
+        return write!(messages, "");
+    }
+    writeln!(
+        messages,
+        "geocom: {torn} bytes of an incomplete row were cut off"
+    )
 }

@@ -16,8 +16,10 @@ mod turns;
 mod unasked;
 
 pub use bounded::Bounded;
-pub use ending::{refuse_numbers, refuse_place, refuse_stale, report_end, report_served};
-pub use files::{FilesNews, FilesSeen, FilesTold, LogSeen};
+pub use ending::{
+    refuse_numbers, refuse_place, refuse_stale, report_end, report_end_at, report_served,
+};
+pub use files::{FilesNews, FilesSeen, FilesTold, LogSeen, MINUTE, report_copied, report_torn};
 pub use following::Followed;
 pub use lossy::Lossy;
 pub use noting::Noting;
@@ -26,4 +28,4 @@ pub use spaces::report_spaces;
 pub use standard::{Places, Standard};
 pub use streams::Streams;
 pub use turns::report_turns;
-pub use unasked::{report_unasked, report_unnamed};
+pub use unasked::{report_unasked, report_unused_names};

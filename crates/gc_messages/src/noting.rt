@@ -13,10 +13,13 @@ use std::path::PathBuf;
 use std::process::ExitCode;
 use std::time::{Clock, Duration};
 
-// What was refused, as far as there is room for its name, and why.
+// The most bytes of a path, an address or a name that are noted.
+const NAME_ROOM: usize = 120;
+
+// What was refused, by the first bytes of its name, and why.
 #[derive(Drop)]
 struct Refusal {
-    name: Bounded<120>,
+    name: Bounded<NAME_ROOM>,
     why: io::Error,
 }
 
@@ -29,7 +32,7 @@ pub struct Noting<'a, R> {
 }
 
 impl<'a, R> Noting<'a, R> {
-    /// Nothing was refused yet.
+    /// A runtime over `rt` that has noted nothing yet.
     pub fn new(rt: &'a R) -> Noting<'a, R> {
         Noting {
             rt,
@@ -37,7 +40,7 @@ impl<'a, R> Noting<'a, R> {
         }
     }
 
-    // Notes the outcome of a call on a path: that it succeeded, or the system's error.
+    // Notes the outcome of a call on a path, and returns it: a success clears the note, an error is noted with the path.
     fn note<T: Drop>(&self, path: &str, had: io::Result<T>) -> io::Result<T> {
         let mut name = Bounded::new();
         let _ = write!(name, "{path}");
@@ -51,8 +54,8 @@ impl<'a, R> Noting<'a, R> {
         self.note_named(name, had)
     }
 
-    // Notes the outcome of a call on what has this name.
-    fn note_named<T: Drop>(&self, name: Bounded<120>, had: io::Result<T>) -> io::Result<T> {
+    // Notes the outcome of a call on what has this name, and returns it: a success clears the note.
+    fn note_named<T: Drop>(&self, name: Bounded<NAME_ROOM>, had: io::Result<T>) -> io::Result<T> {
         match had {
             Ok(had) => {
                 self.last.set(None);

@@ -69,7 +69,7 @@ pub fn tell_place<E: Write>(place: Place<'_>, fault: RunFault, messages: &mut E)
     writeln!(messages, "geocom: {place}: {why}")
 }
 
-// The longest read of a link, in milliseconds: what watches a station between two reads gets its turn at least so often.
+// The longest read of a link, in milliseconds: what watches a station between two reads gets its turn at least that often.
 const LOOK: u64 = 1_000;
 
 /// A link that notices what is odd about its line, and what becomes of its connection. Its acts are those of the link inside. A
@@ -86,7 +86,7 @@ pub struct Noticing<'a, L> {
 }
 
 impl<'a, L: Link> Noticing<'a, L> {
-    /// A link over which nothing came yet.
+    /// Notices what comes over `link`, over which nothing came yet, and notes it in `seen`.
     pub fn new(link: L, seen: &'a Cell<Noticed>) -> Noticing<'a, L>
         ensures { result.link ≡ link }
     {
@@ -145,7 +145,7 @@ impl<'a, L> Noticing<'a, L> {
         }
     }
 
-    // Notes whether the connection was lost, or couldn't be made.
+    // Notes whether the connection is lost: it ended or failed, or couldn't be made.
     fn note(&self, is_lost: bool) {
         let seen = self.seen.get();
         self.seen.set(Noticed { is_lost, ..seen });

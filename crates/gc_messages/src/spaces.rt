@@ -1,4 +1,4 @@
-//! Spaces and tabs at the end of a line of a text: they can't be seen, and belong to what comes before them, as to a name.
+//! Spaces and tabs at the end of a line of a text: they can't be seen, and are part of what comes before them, such as a name.
 
 use std::io::{self, Write};
 
@@ -19,7 +19,7 @@ pub fn report_spaces<E: Write>(text: &[u8], messages: &mut E) -> io::Result<()> 
     report_space(line, last, messages)
 }
 
-// Writes the message on the line of a text with this number, whose last byte is `last`, if that is a space or a tab.
+// Writes the message on the line with the number `line`, whose last byte before its end is `last`, if that is a space or a tab.
 fn report_space<E: Write>(line: u32, last: u8, messages: &mut E) -> io::Result<()> {
     if last != b' ' && last != b'\t' {
         return Ok(());

@@ -41,7 +41,7 @@ impl Standard {
     }
 
     /// Opens `/dev/null` for each stream that is closed. It takes that stream's place, because the system gives a file the
-    /// lowest place that is free, and holds it until it is discarded.
+    /// lowest place that is free, and holds it until it is dropped. `Err`: it couldn't be opened.
     pub fn fill<R: Files>(self, rt: &R) -> io::Result<Places<R::File>> {
         Ok(Places {
             input: null_for(rt, self.input)?,

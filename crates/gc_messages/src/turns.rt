@@ -5,28 +5,28 @@ use gc_texts::{Task, Tasks};
 use gc_values::Decimal;
 use std::io::{self, Write};
 
-// 2π, cut after 24 places. No decimal has more places, so exactly those above 2π are above this.
+// One turn in radians, 2π, cut after 24 places. No decimal has more places, so exactly those above 2π are above this.
 fn turn() -> Decimal {
     Decimal::literal(6_283_185_307_179_586_476_925_286, 24)
 }
 
-// -2π, cut after 24 places.
+// One turn backwards, -2π, cut after 24 places.
 fn turn_back() -> Decimal {
     Decimal::literal(-6_283_185_307_179_586_476_925_286, 24)
 }
 
 // Whether a horizontal angle is beyond one turn, either way.
-fn is_far_round(hz: Decimal) -> bool {
+fn is_beyond_a_turn(hz: Decimal) -> bool {
     hz > turn() || hz < turn_back()
 }
 
-// Whether a vertical angle is not from 0 to one turn.
-fn is_no_vertical(v: Decimal) -> bool {
+// Whether a vertical angle is outside one turn: below 0, or above one turn.
+fn is_outside_a_turn(v: Decimal) -> bool {
     v > turn() || v < Decimal::zero()
 }
 
-/// Writes a line for each angle outside one turn that a positioning of `text` has, with the number of its line. `all` is what the
-/// text gives.
+/// Writes a line for each angle outside one turn that a positioning of `text` has, with the number of its line. `all` has the
+/// tasks that were read from the text.
 pub fn report_turns<E: Write>(text: &[u8], all: &Tasks, messages: &mut E) -> io::Result<()> {
     let mut setup = all.tasks.iter().take(all.setup);
     let mut cycle = all.tasks.iter().skip(all.setup);
@@ -72,16 +72,16 @@ fn report_turn<E: Write>(line: u32, task: &Task, messages: &mut E) -> io::Result
     let Asked::Table(Call::Position { hz, v, .. }) = task.command.call else {
         return Ok(());
     };
-    if is_far_round(hz) {
+    if is_beyond_a_turn(hz) {
         report_angle(line, "HZ", hz, messages)?;
     }
-    if is_no_vertical(v) {
+    if is_outside_a_turn(v) {
         report_angle(line, "V", v, messages)?;
     }
     Ok(())
 }
 
-// Writes the line of an angle that lies outside one turn.
+// Writes the line of an angle that lies outside one turn. `name`: what the command's line calls it, HZ or V.
 fn report_angle<E: Write>(
     line: u32,
     name: &str,

@@ -1,10 +1,10 @@
-//! Targets of which a text says something that no command needs. Where they are, though no command asks for their direction: no
-//! answer is compared with that, and a station reports it at its start. Or their name, though no command is for them.
+//! Targets of which a text says something that no command needs: where they are, though no command asks for their direction, so that
+//! no answer is compared with that; or what they are called, though no command is for them.
 
 use gc_texts::Tasks;
 use std::io::{self, Write};
 
-/// Writes a line for each target of which a text says where it is, and which no command of the text asks for its direction.
+/// Writes a line for each target of which the text says where it is (`near`), though no command measures its direction.
 pub fn report_unasked<E: Write>(tasks: &Tasks, messages: &mut E) -> io::Result<()> {
     for near in tasks.nears.as_slice() {
         if !tasks.asks_direction_of(near.target) {
@@ -15,7 +15,7 @@ pub fn report_unasked<E: Write>(tasks: &Tasks, messages: &mut E) -> io::Result<(
 }
 
 /// Writes a line for each target that has a name in the text, and for which the text has no command.
-pub fn report_unnamed<E: Write>(tasks: &Tasks, messages: &mut E) -> io::Result<()> {
+pub fn report_unused_names<E: Write>(tasks: &Tasks, messages: &mut E) -> io::Result<()> {
     for name in tasks.names.as_slice() {
         if !tasks
             .tasks
@@ -32,7 +32,7 @@ pub fn report_unnamed<E: Write>(tasks: &Tasks, messages: &mut E) -> io::Result<(
     Ok(())
 }
 
-// Writes the line of a target that no command asks for its direction.
+// Writes the line of a target whose direction no command measures.
 fn report_target<E: Write>(target: u32, messages: &mut E) -> io::Result<()> {
     writeln!(
         messages,

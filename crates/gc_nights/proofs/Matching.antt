@@ -3,62 +3,67 @@ use Rattle.std.proofs.Common.{◌≡◌, ℕ, ◌+◌, ◌<◌, ◌≤◌, List,
 use Rattle.std.specs.Prelude.{slice_get}
 use Rattle.std.proofs.lemmas.List.{take_more, take_all}
 use Rattle.std.proofs.lemmas.Option.{slice_get_within, slice_get-get_or}
-use Rattle.gc_nights.specs.Claims.{IsOf, IsTrueAt, GoesOn, AreTrue}
+use Rattle.gc_nights.specs.Claims.{SpeaksOf, IsTrueAt, MatchesNext, AreTrue}
 use Rattle.gc_nights.specs.declared.claim.Claim.{Claim}
 use Rattle.gc_rehearsal.specs.declared.truth.Truth.{Truth}
 
 -- one more reply leaves rows true
-true_skip : (claims : List Claim) (truths : List Truth) (truth : Truth) → AreTrue claims truths → AreTrue claims (truths ++ truth ∷ [])
-true_skip [] truths truth matched = tt
-true_skip (c ∷ cs) [] truth matched = absurd matched
-true_skip (c ∷ cs) (t ∷ ts) truth (inl both) = inl (both.0, true_skip cs ts truth both.1)
-true_skip (c ∷ cs) (t ∷ ts) truth (inr later) = inr (true_skip (c ∷ cs) ts truth later)
+stays_true_by_one_reply_more : (claims : List Claim) (truths : List Truth) (truth : Truth) → AreTrue claims truths → AreTrue claims (truths ++ truth ∷ [])
+stays_true_by_one_reply_more [] truths truth matched = tt
+stays_true_by_one_reply_more (c ∷ cs) [] truth matched = absurd matched
+stays_true_by_one_reply_more (c ∷ cs) (t ∷ ts) truth (inl both) = inl (both.0, stays_true_by_one_reply_more cs ts truth both.1)
+stays_true_by_one_reply_more (c ∷ cs) (t ∷ ts) truth (inr later) = inr (stays_true_by_one_reply_more (c ∷ cs) ts truth later)
 
 -- one more row is true by one more reply
-true_more : (claims : List Claim) (truths : List Truth) (claim : Claim) (truth : Truth) → AreTrue claims truths → IsOf claim truth → AreTrue (claims ++ claim ∷ []) (truths ++ truth ∷ [])
-true_more [] [] claim truth matched is = inl (is, tt)
-true_more [] (t ∷ ts) claim truth matched is = inr (true_more [] ts claim truth tt is)
-true_more (c ∷ cs) [] claim truth matched is = absurd matched
-true_more (c ∷ cs) (t ∷ ts) claim truth (inl both) is = inl (both.0, true_more cs ts claim truth both.1 is)
-true_more (c ∷ cs) (t ∷ ts) claim truth (inr later) is = inr (true_more (c ∷ cs) ts claim truth later is)
+one_row_more_is_true : (claims : List Claim) (truths : List Truth) (claim : Claim) (truth : Truth) → AreTrue claims truths → SpeaksOf claim truth
+    → AreTrue (claims ++ claim ∷ []) (truths ++ truth ∷ [])
+one_row_more_is_true [] [] claim truth matched is = inl (is, tt)
+one_row_more_is_true [] (t ∷ ts) claim truth matched is = inr (one_row_more_is_true [] ts claim truth tt is)
+one_row_more_is_true (c ∷ cs) [] claim truth matched is = absurd matched
+one_row_more_is_true (c ∷ cs) (t ∷ ts) claim truth (inl both) is = inl (both.0, one_row_more_is_true cs ts claim truth both.1 is)
+one_row_more_is_true (c ∷ cs) (t ∷ ts) claim truth (inr later) is = inr (one_row_more_is_true (c ∷ cs) ts claim truth later is)
 
 -- how far the comparison has come: the first `matched` rows are true by the first `seen` replies
 pub record HasMatched (claims : List Claim) (truths : List Truth) (matched seen : ℕ) : Type 0 where
   pub within : matched ≤ length claims
   pub are : AreTrue (take matched claims) (take seen truths)
 
--- at the start no row was looked at
+-- at the start no row is matched, and no reply was seen
 pub matched_first : (claims : List Claim) (truths : List Truth) → HasMatched claims truths 0 0
 matched_first claims truths = record { within = omega arith; are = tt }
 
--- the elements in front of a place and the one there are those in front of the next
+-- the first `i + 1` elements of a list are the first `i` and the one at place `i`
 next_front : {X : Type 0} (xs : List X) (i : ℕ) (x : X) → i < length xs → x ≡ get_or xs i x → take (i + 1) xs ≡ take i xs ++ x ∷ []
 next_front xs i x within is = take_more xs i x within ∙ ap (λ y. take i xs ++ y ∷ []) (sym is)
 
--- a reply that the next row doesn't speak of
+-- a further reply with which no row is matched: as many rows are true by one reply more
 pub matched_skip : (claims : List Claim) (truths : List Truth) (matched seen : ℕ) (truth : Truth) → HasMatched claims truths matched seen → seen < length truths → truth ≡ get_or truths seen truth
     → HasMatched claims truths matched (seen + 1)
 matched_skip claims truths matched seen truth so_far within is = record {
   within = so_far.within;
-  are = subst (λ ts. AreTrue (take matched claims) ts) (sym (next_front truths seen truth within is)) (true_skip (take matched claims) (take seen truths) truth so_far.are);
+  are = subst (λ ts. AreTrue (take matched claims) ts) (sym (next_front truths seen truth within is)) (stays_true_by_one_reply_more (take matched claims) (take seen truths) truth so_far.are);
 }
 
--- a reply that the next row speaks of
+-- a further reply of which the next row speaks: one row more is true by one reply more
 pub matched_more : (claims : List Claim) (truths : List Truth) (matched seen : ℕ) (truth : Truth) → HasMatched claims truths matched seen → seen < length truths → truth ≡ get_or truths seen truth
     → IsTrueAt claims matched truth → HasMatched claims truths (matched + 1) (seen + 1)
 matched_more claims truths matched seen truth so_far within is at =
     let some : matched < length claims = slice_get_within claims matched at.claim at.there in
-    let here : at.claim ≡ get_or claims matched at.claim = let both : ◌≡◌ {A = Option Claim} (Some at.claim) (Some (get_or claims matched at.claim)) = sym at.there ∙ slice_get-get_or claims matched at.claim some in cc in
+    let here : at.claim ≡ get_or claims matched at.claim =
+    let both : ◌≡◌ {A = Option Claim} (Some at.claim) (Some (get_or claims matched at.claim)) = sym at.there ∙ slice_get-get_or claims matched at.claim some in
+    cc in
     record {
       within = omega (arith, some);
       are = subst (λ cs. AreTrue cs (take (seen + 1) truths)) (sym (next_front claims matched at.claim some here))
-          (subst (λ ts. AreTrue (take matched claims ++ at.claim ∷ []) ts) (sym (next_front truths seen truth within is)) (true_more (take matched claims) (take seen truths) at.claim truth so_far.are at.is));
+          (subst (λ ts. AreTrue (take matched claims ++ at.claim ∷ []) ts) (sym (next_front truths seen truth within is))
+          (one_row_more_is_true (take matched claims) (take seen truths) at.claim truth so_far.are at.is));
     }
 
--- one more reply
+-- a further reply: the rows that `MatchesNext` counts as matched are true by one reply more
 pub matched_next : (claims : List Claim) (truths : List Truth) (matched seen next : ℕ) (truth : Truth) → HasMatched claims truths matched seen → seen < length truths → truth ≡ get_or truths seen truth
-    → GoesOn claims matched truth next → HasMatched claims truths next (seen + 1)
-matched_next claims truths matched seen next truth so_far within is (inl same) = subst (λ n. HasMatched claims truths n (seen + 1)) (sym same) (matched_skip claims truths matched seen truth so_far within is)
+    → MatchesNext claims matched truth next → HasMatched claims truths next (seen + 1)
+matched_next claims truths matched seen next truth so_far within is (inl same) =
+    subst (λ n. HasMatched claims truths n (seen + 1)) (sym same) (matched_skip claims truths matched seen truth so_far within is)
 matched_next claims truths matched seen next truth so_far within is (inr more) =
     subst (λ n. HasMatched claims truths n (seen + 1)) (sym more.0) (matched_more claims truths matched seen truth so_far within is more.1)
 

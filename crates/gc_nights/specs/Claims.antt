@@ -5,32 +5,34 @@ use Rattle.gc_catalogue.specs.Asked.{asked_line}
 use Rattle.gc_nights.specs.declared.claim.Claim.{Claim}
 use Rattle.gc_rehearsal.specs.declared.truth.Truth.{Truth}
 
--- a reply came at the moment `at`: before the deadline of its request where it came in time, and else not before. The clock may go back
+-- a reply to a request that was sent at `sent` came at the moment `at`: before the deadline if it came in time (`true`), and otherwise
+-- not before it. `at` may be before `sent`, because the clock may go back
 abbrev pub IsTimed : Bool → ℕ → ℕ → ℕ → Type 0
 IsTimed true sent at deadline = at < sent + deadline
 IsTimed false sent at deadline = sent + deadline ≤ at
 
--- the row speaks of this reply: it came at the row's moment, on a request for the row's command that was sent when the row says, and the row
--- has its line, if the row has one
-pub record IsOf (claim : Claim) (truth : Truth) : Type 0 where
+-- the claim speaks of this reply: the reply came at the claim's moment, in time exactly if the claim has a line, which then is the
+-- reply's; and its request asked for the claim's command, with one of the ids 0 to 7, and was sent when the claim says
+pub record SpeaksOf (claim : Claim) (truth : Truth) : Type 0 where
   pub at : claim.at ≡ truth.given
   pub sent : claim.sent ≡ truth.sent
   pub timed : IsTimed claim.has_line claim.sent claim.at claim.deadline
   pub asked : (id : ℕ) × (id < 8) × (truth.asked.items ≡ asked_line (Some id) claim.call)
   pub line : claim.has_line ≡ true → claim.line.items ≡ truth.reply.items
 
--- the row at this place speaks of this reply
+-- there is a claim at this place, and it speaks of this reply
 pub record IsTrueAt (claims : List Claim) (place : ℕ) (truth : Truth) : Type 0 where
   pub claim : Claim
   pub there : slice_get claims place ≡ Some claim
-  pub is : IsOf claim truth
+  pub is : SpeaksOf claim truth
 
--- with this reply the first `next` rows are true, where the first `matched` were: one more, if that one speaks of the reply
-abbrev pub GoesOn : List Claim → ℕ → Truth → ℕ → Type 0
-GoesOn claims matched truth next = (next ≡ matched) ⊎ ((next ≡ matched + 1) × IsTrueAt claims matched truth)
+-- the first `matched` claims were matched with replies, and with this further reply the first `next` are: as many as before, or one
+-- more, which then speaks of the reply
+abbrev pub MatchesNext : List Claim → ℕ → Truth → ℕ → Type 0
+MatchesNext claims matched truth next = (next ≡ matched) ⊎ ((next ≡ matched + 1) × IsTrueAt claims matched truth)
 
--- the rows speak of replies that came, in their order: each of one behind that of the row before it
+-- the claims speak of replies that came, in their order: each of one that came after the reply of the claim before it
 abbrev pub AreTrue : List Claim → List Truth → Type 0
 AreTrue [] truths = Unit {0}
 AreTrue (claim ∷ claims) [] = ⊥
-AreTrue (claim ∷ claims) (truth ∷ truths) = (IsOf claim truth × AreTrue claims truths) ⊎ AreTrue (claim ∷ claims) truths
+AreTrue (claim ∷ claims) (truth ∷ truths) = (SpeaksOf claim truth × AreTrue claims truths) ⊎ AreTrue (claim ∷ claims) truths

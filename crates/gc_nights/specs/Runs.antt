@@ -1,5 +1,5 @@
--- What runs of a station come to, one after the other, over the line of a rehearsal: this project's own. An act is one call on the line, with
--- its result.
+-- The acts of runs of a station, one run after the other, over the line of a rehearsal: this project's own. An act is one call on the
+-- line, with its result.
 use Rattle.std.specs.Prelude.{◌≡◌, List, ◌++◌}
 use Rattle.std.specs.List.{AllByRecursion}
 use Rattle.gc_links.specs.Acts.{Act}
@@ -10,14 +10,15 @@ use Rattle.gc_texts.specs.declared.tasks.Task.{Task}
 abbrev pub IsRunOf : List Task → Station → Type 0
 IsRunOf commands x = (x.commands ≡ commands) × RunsAndStops x
 
--- behind the acts `old`, such runs one after the other made all of those up to `new`
+-- runs of a station with these commands, one after the other, made the acts that `new` has after those of `old`
 pub record AreRuns (commands : List Task) (old new : List Act) : Type 0 where
   pub stations : List Station
   pub each : AllByRecursion (IsRunOf commands) stations
   pub told : new ≡ old ++ acts_of_all stations
 
--- these acts are those of such runs; and as long as fewer than six in a row end while they synchronize, the runs are in the field and faithful:
--- each recorded answer was made on executing the very request of that cycle and place
+-- these acts are those of runs of a station with these commands, one after the other; and as long as fewer than six in a row end while
+-- they synchronize, the runs are in the field and faithful: each recorded answer was made on executing the very request of its cycle and
+-- place
 pub record AreFaithfulRuns (commands : List Task) (acts : List Act) : Type 0 where
   pub stations : List Station
   pub each : AllByRecursion (IsRunOf commands) stations

@@ -8,7 +8,7 @@ use crate::deadlines::Deadlines;
 use crate::summary::Summary;
 use gc_lines::{Line, PortFailed, Sink, append};
 use gc_links::Moment;
-use gc_rows::{When, write_record};
+use gc_measuring::write_station_row;
 use gc_station::{Book, LinkHealth};
 use gc_texts::{Ending, Stamp, Tasks, Wish};
 use gc_words::Layout;
@@ -26,7 +26,7 @@ pub(crate) struct Seen {
 }
 
 impl Seen {
-    /// Nothing was seen. The line was made `start` milliseconds after 1970.
+    /// What was seen before the first row, with claims and a summary that are empty. The line was made `start` milliseconds after 1970.
     pub(crate) fn new(
         start: u64,
         deadlines: Deadlines,
@@ -42,7 +42,7 @@ impl Seen {
         }
     }
 
-    // Sees a row.
+    // Counts a row and, if it says that a reply came, notes what it claims. Sets `lacks_memory` if memory is refused.
     fn see(&mut self, stamp: Stamp, command: &Wish, ending: Ending<'_>) {
         if self.summary.note(stamp, command, ending).is_err() {
             self.lacks_memory = true;
@@ -70,7 +70,7 @@ impl Seen {
     }
 }
 
-// Whether a row with this ending says that a reply came.
+// Whether a row with this ending says that a reply came, in time or late.
 fn speaks_of_reply(ending: Ending<'_>) -> bool {
     match ending {
         Ending::Late => true,
@@ -101,11 +101,12 @@ pub(crate) struct RunBook<K> {
     // When the night ends, in milliseconds since 1970, and whether the station has read that moment, or a later one.
     until: u64,
     is_over: bool,
+    // Whether a row of the run couldn't be written, or the run was ended by `sync`.
     has_failed: bool,
 }
 
 impl<K> RunBook<K> {
-    /// A book with nothing in it.
+    /// A book to which nothing was written. `begin` has to be called before each run.
     pub(crate) fn new(sink: K, layout: Layout, named: Tasks, seen: Seen) -> RunBook<K> {
         RunBook {
             sink,
@@ -120,7 +121,8 @@ impl<K> RunBook<K> {
         }
     }
 
-    /// A station begins at the moment `run`, in milliseconds since 1970. It is killed after this many acts, and cut off at the moment `until`.
+    /// Begins a run of the station at the moment `run`. The run is killed after `acts` acts, and cut off at the moment `until`. Both
+    /// moments are in milliseconds since 1970.
     pub(crate) fn begin(&mut self, run: u64, acts: u64, until: u64) {
         self.layout.run = run;
         self.left = acts;
@@ -136,12 +138,12 @@ impl<K> RunBook<K> {
         self.is_killed
     }
 
-    /// Whether the night ended before the station was done.
+    /// Whether the station has read the end of its night, or a later moment, from the clock.
     pub(crate) fn is_over(&self) -> bool {
         self.is_over
     }
 
-    /// The sink, and what was seen.
+    /// Ends the book, and hands back the sink, what was seen of the rows, and the names of targets.
     pub(crate) fn end(self) -> (K, Seen, Tasks) {
         let RunBook {
             sink,
@@ -167,7 +169,7 @@ impl<K: Sink> Book for RunBook<K> {
 
     ghost is_durable = { λ _. true };
 
-    // Writes a row.
+    // Writes a row, and notes what it claims.
     fn write(
         &mut self,
         stamp: Stamp,
@@ -175,19 +177,15 @@ impl<K: Sink> Book for RunBook<K> {
         ending: Ending<'_>,
     ) -> Result<(), PortFailed> {
         self.seen.see(stamp, command, ending);
-        let when = When {
-            run: self.layout.run,
-            stamp,
-        };
-        let taken = write_record(
+        let written = write_station_row(
             &mut self.sink,
-            self.layout.form,
-            &when,
-            self.named.name_of(command.target),
+            self.layout,
+            &self.named,
+            stamp,
             command,
             ending,
         );
-        match taken {
+        match written {
             Ok(()) => Ok(()),
             Err(_) => {
                 self.has_failed = true;
@@ -196,7 +194,7 @@ impl<K: Sink> Book for RunBook<K> {
         }
     }
 
-    // It is called before each act: where no act is left, or the night is over, the station ends there.
+    // Counts the act that comes next. `Err`: no act is left, so that the station is killed, or the night is over.
     fn sync(&mut self) -> Result<(), PortFailed> {
         if self.is_over {
             self.has_failed = true;
@@ -211,11 +209,13 @@ impl<K: Sink> Book for RunBook<K> {
         Ok(())
     }
 
+    // Notes whether the night is over at this moment.
     fn sees(&mut self, _health: LinkHealth, moment: Moment) {
         if moment.utc >= self.until {
             self.is_over = true;
         }
     }
 
+    // Does nothing: the summary has the cycles that aren't whole.
     fn overran(&mut self, _cycle: u64) {}
 }

@@ -2,7 +2,7 @@
 
 ghost use Rattle.std.specs.Prelude.{◌≡◌, ◌<◌, ℕ, IsTrue, IfNone, IfSome, length, Some, true};
 ghost use Rattle.gc_catalogue.specs.Asked.{asked_line};
-ghost use Rattle.gc_nights.specs.Claims.{IsTimed, IsOf, IsTrueAt, GoesOn, AreTrue};
+ghost use Rattle.gc_nights.specs.Claims.{IsTimed, SpeaksOf, IsTrueAt, MatchesNext, AreTrue};
 
 use gc_catalogue::{Asked, encode_asked};
 use gc_lines::Line;
@@ -17,12 +17,13 @@ pub struct Claim {
     pub sent: u64,
     /// The last moment that the clock gave when the command ended.
     pub at: u64,
-    /// How long the request waited for its reply before it timed out.
+    /// How long after `sent` a reply is in time.
     pub deadline: u64,
     /// What was asked.
     pub call: Asked,
-    /// Whether the row has a reply's line, and that line, which else is empty.
+    /// Whether the row has a reply's line.
     pub has_line: bool,
+    /// That line; empty if the row has none.
     pub line: Line,
     /// The row's moments and place.
     pub stamp: Stamp,
@@ -32,7 +33,7 @@ pub struct Claim {
     pub row: u64,
 }
 
-// Whether this is the request line that asks for this, with an id.
+// Whether `asked` is the request line of this call with this id.
 fn is_asked_by(id: u8, call: &Asked, asked: &[u8]) -> bool
     requires { id < 8 }
     ensures { IsTrue result → asked.now ≡ asked_line (Some id) call.now }
@@ -41,7 +42,7 @@ fn is_asked_by(id: u8, call: &Asked, asked: &[u8]) -> bool
     asked == line.as_slice()
 }
 
-// Whether the request line of a truth asks for this, with some id.
+// Whether `asked` is the request line of this call with one of the ids 0 to 7.
 fn is_asked(call: &Asked, asked: &[u8]) -> bool
     ensures { IsTrue result → (id : ℕ) × (id < 8) × (asked.now ≡ asked_line (Some id) call.now) }
 {
@@ -53,15 +54,15 @@ fn is_asked(call: &Asked, asked: &[u8]) -> bool
     false
 }
 
-// Whether a row that has a line has that of a reply.
+// Whether a row has no line (`has_line` is false), or has the line of this reply.
 fn same_line(has_line: bool, line: &[u8], reply: &[u8]) -> bool
     ensures { IsTrue result → has_line ≡ true → line.now ≡ reply.now }
 {
     !has_line || line == reply
 }
 
-// Whether a reply to a request that was sent at a moment came before its deadline, at the moment `at`, if it was in time, and else not
-// before.
+// Whether a reply that came at the moment `at`, to a request that was sent at the moment `sent`, came before the deadline, if `in_time`
+// is set, and otherwise whether it came at the deadline or later.
 fn is_timed(in_time: bool, sent: u64, at: u64, deadline: u64) -> bool
     ensures { IsTrue result → IsTimed in_time sent at deadline }
 {
@@ -72,11 +73,10 @@ fn is_timed(in_time: bool, sent: u64, at: u64, deadline: u64) -> bool
     }
 }
 
-// Whether a reply is the one that a row speaks of: it came at the row's moment, to a request for the row's command that was sent at the
-// moment that the row says, and it is the row's line, if the row has one; and it came before the request's deadline if the row has its
-// line, and else after it.
-fn is_of(claim: &Claim, truth: &Truth) -> bool
-    ensures { IsTrue result → IsOf claim.now truth.now }
+// Whether a reply (`truth`) is the one that a claim speaks of: it came at the claim's moment, in time exactly if the claim has a line,
+// which then is the reply's; and its request asked for the claim's call, and was sent when the claim says.
+fn speaks_of(claim: &Claim, truth: &Truth) -> bool
+    ensures { IsTrue result → SpeaksOf claim.now truth.now }
 {
     claim.at == truth.given
         && claim.sent == truth.sent
@@ -89,19 +89,19 @@ fn is_of(claim: &Claim, truth: &Truth) -> bool
         && is_asked(&claim.call, truth.asked.as_slice())
 }
 
-// Whether the claim at this place is true by this reply. `false` also where there is no such place.
+// Whether the claim at this place speaks of this reply; `false` if there is no such place.
 fn is_true_by(claims: &[Claim], place: usize, truth: &Truth) -> bool
     ensures { IsTrue result → IsTrueAt claims.now place truth.now }
 {
     match claims.get(place) {
-        Some(claim) => is_of(claim, truth),
+        Some(claim) => speaks_of(claim, truth),
         None => false,
     }
 }
 
-// How many claims are true by replies, where the first `matched` were, and this reply came next.
+// How many of the first claims are matched with replies once this reply came, if the first `matched` were before it.
 fn matched_with(claims: &[Claim], matched: usize, truth: &Truth) -> usize
-    ensures { GoesOn claims.now matched truth.now result }
+    ensures { MatchesNext claims.now matched truth.now result }
 {
     if matched >= claims.len() {
         return matched;
@@ -112,8 +112,8 @@ fn matched_with(claims: &[Claim], matched: usize, truth: &Truth) -> usize
     matched
 }
 
-/// The first claim that isn't true: the claims before it speak of replies that came, in their order, and it speaks of none of those
-/// that came after. `None`: all claims are true.
+/// The place of the first claim that isn't true: the claims before it speak of replies that came, in their order, and it speaks of none
+/// of those that came after them. `None`: all claims are true.
 pub fn first_false(claims: &[Claim], truths: &[Truth]) -> Option<usize>
     ensures all_true { IfNone result (AreTrue claims.now truths.now) }
     ensures within { IfSome result (λ k. k < length claims.now) }

@@ -30,7 +30,7 @@ impl Deadlines {
         Ok(deadlines)
     }
 
-    // Adds a task of a cycle: a later attempt has the deadlines of the first.
+    // Adds a task of a cycle, unless it is one of a later attempt, whose commands have the deadlines of the first.
     fn add(&mut self, task: &Task) -> Result<(), AllocError> {
         if task.turn.attempt == 1 {
             self.cycle.push(task.deadline)?;
@@ -38,16 +38,13 @@ impl Deadlines {
         Ok(())
     }
 
-    /// The deadline of the command of a row; 0 where there is no such command.
+    /// The deadline of the command of the row with this stamp, in milliseconds; 0 if there is no such command.
     pub(crate) fn of(&self, stamp: Stamp) -> u64 {
-        let deadlines = if stamp.cycle == 0 {
+        let deadline = if stamp.cycle == 0 {
             self.setup.get(stamp.turn.place)
         } else {
             self.cycle.get(stamp.turn.place)
         };
-        match deadlines {
-            Some(deadline) => *deadline,
-            None => 0,
-        }
+        deadline.copied().unwrap_or(0)
     }
 }

@@ -5,13 +5,13 @@
 mod book;
 mod claim;
 mod deadlines;
+mod halt;
 mod nights;
 mod quotient;
 mod rehearsal;
 mod report;
 mod seeded;
 mod summary;
-mod untrue;
 
 pub use claim::{Claim, first_false};
 pub use rehearsal::rehearse;

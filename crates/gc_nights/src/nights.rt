@@ -5,9 +5,9 @@ ghost use Rattle.gc_nights.specs.Runs.{AreRuns, AreFaithfulRuns};
 
 use crate::book::RunBook;
 use crate::claim::first_false;
+use crate::halt::{FalseRow, Halt};
 use crate::quotient::quotient;
 use crate::seeded::Seeded;
-use crate::untrue::{FalseRow, Halt};
 use gc_fates::{Draws, among};
 use gc_lines::Sink;
 use gc_measuring::plan_of;
@@ -16,29 +16,27 @@ use gc_rehearsed::are_askable;
 use gc_rehearsed::laws::rows_of_rehearsals_are_faithful;
 use gc_station::{Kept, Plan, run_station};
 use gc_texts::{RunFault, Task};
-use gc_words::Choice;
-
-// A day, in milliseconds: a night begins so long after the one before.
-pub(crate) const DAY: u64 = 86_400_000;
+use gc_words::{Choice, DAY};
 
 // After how many milliseconds a station that gave up begins again.
-const AGAIN: u64 = 60_000;
+const RESTART_DELAY: u64 = 60_000;
 
 // How many acts a command takes at least.
 const ACTS_OF_COMMAND: u64 = 2;
 
 // How many acts a run makes at least before it is killed.
-const ACTS_OF_BEGINNING: u64 = 100;
+const ACTS_BEFORE_KILL: u64 = 100;
 
 /// What is rehearsed.
 #[derive(Clone, Copy)]
 pub(crate) struct Programme<'a> {
     pub(crate) tasks: &'a [Task],
-    /// How many of the tasks in front are the set-up.
+    /// How many of the tasks in front are the setup.
     pub(crate) setup: usize,
-    /// The commands of a cycle.
+    /// How many commands a cycle has.
     pub(crate) commands: u64,
     pub(crate) choice: Choice,
+    /// How many nights there are.
     pub(crate) nights: u64,
     /// How many cycles a night has.
     pub(crate) cycles: u64,
@@ -49,10 +47,10 @@ pub(crate) struct Programme<'a> {
     pub(crate) start: u64,
 }
 
-/// How many runs there were, and how they ended.
+/// How many runs ended before they were done, and how.
 #[derive(Clone, Copy, Drop)]
 pub(crate) struct RunCounts {
-    pub(crate) runs: u64,
+    /// How many were killed.
     pub(crate) killed: u64,
     /// How many gave up, and the fault of the last that did.
     pub(crate) gave_up: u64,
@@ -62,10 +60,9 @@ pub(crate) struct RunCounts {
 }
 
 impl RunCounts {
-    /// There was no run.
+    /// No run has ended yet.
     pub(crate) fn none() -> RunCounts {
         RunCounts {
-            runs: 0,
             killed: 0,
             gave_up: 0,
             fault: None,
@@ -76,15 +73,20 @@ impl RunCounts {
 
 // How a run ended.
 enum RunEnd {
+    // All its cycles are done.
     Done,
+    // The station was killed.
     Killed,
+    // Its night was over.
     CutOff,
+    // It stopped for this fault.
     GaveUp(RunFault),
 }
 
-/// Rehearses all nights over a link that is new. However they ended, what the link told is what a station told, run after run. As long as
-/// fewer than six runs in a row ended while they synchronized, each run is one in the field: whatever the line lost, repeated, held or
-/// closed, each answer that it recorded was made on executing the very request of its cycle and place.
+/// Rehearses all nights over a link that is new. However they end, the acts that the link recorded are those of a station, run after
+/// run. As long as fewer than six runs in a row ended while they synchronized, each run is one in the field: whatever the line lost,
+/// repeated, held or closed, each answer that it recorded was made on executing the very request of its cycle and place. Runs that
+/// end before they are done are counted in `counts`. It fails as `run_once` does.
 pub(crate) fn run_nights<K: Sink>(
     link: &mut Rehearsed<Seeded>,
     book: &mut RunBook<K>,
@@ -107,7 +109,7 @@ fn wait_until(link: &mut Rehearsed<Seeded>, moment: u64)
     link.wait(moment.saturating_sub(link.elapsed()));
 }
 
-// Rehearses all nights.
+// Rehearses the nights in turn. It fails as `run_once` does.
 fn run_each_night<K: Sink>(
     link: &mut Rehearsed<Seeded>,
     book: &mut RunBook<K>,
@@ -123,7 +125,7 @@ fn run_each_night<K: Sink>(
     Ok(())
 }
 
-// Rehearses a night; the first is night 0.
+// Rehearses a night, run after run; the first is night 0. It fails as `run_once` does.
 fn run_night<K: Sink>(
     link: &mut Rehearsed<Seeded>,
     book: &mut RunBook<K>,
@@ -135,12 +137,12 @@ fn run_night<K: Sink>(
 {
     let begins = night.saturating_mul(DAY);
     let mut kills = programme.kills;
+    // For the proof that the loop ends. No night has so many runs: kills are few, and a station that gave up waits.
     for _ in 0..u64::MAX {
         let cycles = cycles_left(programme, begins, link.elapsed());
         if cycles == 0 {
             return Ok(());
         }
-        counts.runs = counts.runs.saturating_add(1);
         let acts = if kills == 0 {
             u64::MAX
         } else {
@@ -166,14 +168,15 @@ fn run_night<K: Sink>(
             RunEnd::GaveUp(fault) => {
                 counts.gave_up = counts.gave_up.saturating_add(1);
                 counts.fault = Some(fault);
-                link.wait(AGAIN);
+                link.wait(RESTART_DELAY);
             }
         }
     }
     Ok(())
 }
 
-// When a night ends that began at this moment, in milliseconds since 1970: behind a day, and behind all of its cycles.
+// When a night is over that began `begins` milliseconds after the line was made, in milliseconds since 1970: after a day or, if that is
+// longer, after the time of all its cycles and of one more.
 fn end_of_night(programme: Programme<'_>, begins: u64) -> u64 {
     let every = programme.choice.every;
     let cycles = every.saturating_mul(programme.cycles).saturating_add(every);
@@ -183,14 +186,15 @@ fn end_of_night(programme: Programme<'_>, begins: u64) -> u64 {
         .saturating_add(cycles.max(DAY))
 }
 
-// How many cycles are left of a night that began at a moment.
+// How many cycles are left at `now` of a night that began at `begins`, both in milliseconds since the line was made.
 fn cycles_left(programme: Programme<'_>, begins: u64, now: u64) -> u64 {
     let gone = quotient(now.saturating_sub(begins), programme.choice.every);
     programme.cycles.saturating_sub(gone)
 }
 
-// After how many acts of a run a night's next kill comes, of which `left` are left: at random, so that those of a night are spread over
-// it. Each planned kill has a draw of its own, whether it comes to it or not.
+// After how many acts of its run the next kill of a night comes, if `left` kills are left of the night. The number is drawn uniformly.
+// Its mean is about the night's acts divided by one more than its kills, so that the kills are spread over the night. Each planned kill
+// has a draw of its own, whether it comes or not.
 fn acts_until_kill(programme: Programme<'_>, night: u64, left: u64) -> u64 {
     let acts = programme
         .commands
@@ -203,10 +207,10 @@ fn acts_until_kill(programme: Programme<'_>, night: u64, left: u64) -> u64 {
         .saturating_add(programme.kills.saturating_sub(left))
         .saturating_add(1);
     let draw = Draws::of_kills(programme.seed).draw(kill, 1);
-    among(draw, 0, most).saturating_add(ACTS_OF_BEGINNING)
+    among(draw, 0, most).saturating_add(ACTS_BEFORE_KILL)
 }
 
-// A run over the line, by this plan, whose outcome is that of a station.
+// Runs the station over the line by this plan. The result is the fault for which it stopped; `None`: all its cycles are done.
 fn run_by_plan<K: Sink>(
     link: &mut Rehearsed<Seeded>,
     book: &mut RunBook<K>,
@@ -221,8 +225,9 @@ fn run_by_plan<K: Sink>(
     run_station(link, book, programme.tasks, plan, u64::MAX, &mut kept).err()
 }
 
-// A run over the line, for this many cycles, of at most so many acts, and at most until a moment. All rows that it wrote are compared
-// with the truth.
+// Runs the station over the line for this many cycles, in at most `acts` acts, and at most until the moment `until`, in milliseconds
+// since 1970. Then all rows of the run are compared with the truth. It fails with `Untrue` if one is false, and with the fault `Memory` or
+// `Output` if memory was refused or the output failed.
 fn run_once<K: Sink>(
     link: &mut Rehearsed<Seeded>,
     book: &mut RunBook<K>,
@@ -245,7 +250,8 @@ fn run_once<K: Sink>(
     end_of_run(book, fault)
 }
 
-// How a run ended: with this fault, or because all its cycles are done.
+// How a run ended that stopped for this fault, or is done (`None`). If it is done, its last cycle is counted, and else the cycle that
+// was going on isn't. It fails with the fault `Memory` or `Output` if memory was refused or the output failed.
 fn end_of_run<K>(book: &mut RunBook<K>, fault: Option<RunFault>) -> Result<RunEnd, Halt> {
     let Some(fault) = fault else {
         if book.seen.summary.finish().is_err() {
@@ -266,16 +272,17 @@ fn end_of_run<K>(book: &mut RunBook<K>, fault: Option<RunFault>) -> Result<RunEn
     }
 }
 
-// Compares the rows of a run with the truth.
+// Compares the rows of a run with the truth. It fails with `Untrue` at the first false one, and with the fault `Memory` if memory was
+// refused, so that claims or replies are missing.
 fn compare<K>(link: &Rehearsed<Seeded>, book: &RunBook<K>, seed: u64) -> Result<(), Halt> {
-    if book.seen.lacks_memory || link.untold() > 0 {
+    if book.seen.lacks_memory || link.missing_truths() > 0 {
         return Err(Halt::Fault(RunFault::Memory));
     }
-    match first_false(book.seen.claims.as_slice(), link.truths()) {
-        Some(place) => match book.seen.claims.get(place) {
-            Some(claim) => Err(Halt::Untrue(seed, FalseRow::of(claim))),
-            None => Ok(()),
-        },
+    let Some(place) = first_false(book.seen.claims.as_slice(), link.truths()) else {
+        return Ok(());
+    };
+    match book.seen.claims.get(place) {
+        Some(claim) => Err(Halt::Untrue(seed, FalseRow::of(claim))),
         None => Ok(()),
     }
 }

@@ -5,20 +5,20 @@ ghost use Rattle.std.specs.Process.{exit_status};
 
 use crate::book::{RunBook, Seen};
 use crate::deadlines::Deadlines;
+use crate::halt::{FileOption, Halt};
 use crate::nights::{Programme, RunCounts, run_nights};
 use crate::report::tell_summary;
 use crate::seeded::Seeded;
 use crate::summary::Summary;
-use crate::untrue::Halt;
-use gc_engines::read_rule_scene;
+use gc_engines::{read_rule_scene, scene_trouble_of};
 use gc_fates::{Rules, Word, read_rules};
 use gc_lines::{FromReader, Sink, Source};
-use gc_measuring::read_task_text;
+use gc_measuring::{Work, read_task_text, work_of};
 use gc_messages::Streams;
 use gc_rehearsal::Rehearsed;
 use gc_rows::write_head;
 use gc_scenes::SceneInstrument;
-use gc_texts::{RunFault, Tasks, read_text};
+use gc_texts::{RunFault, Tasks, line_at, read_text};
 use gc_words::{Layout, Rehearsal};
 use std::alloc::Global;
 use std::fs::{File, Files};
@@ -28,7 +28,7 @@ use std::process::ExitCode;
 // When the first night begins: 2026-01-01T20:00Z, in milliseconds since 1970.
 const BEGINNING: u64 = 1_767_297_600_000;
 
-// The scene of the simulator: its three targets.
+// The scene of the simulator's three targets.
 const SIMULATOR: &[u8] =
     b"target 0.5 1.5 25.125\ntarget 2.25 1.625 110.0625\ntarget 4.0 1.5 48.5\n";
 
@@ -61,7 +61,7 @@ pub fn rehearse<R: Files, S: Source, K: Sink + Drop, E: Write>(
     (streams, ended)
 }
 
-// Reports how a rehearsal ended.
+// Reports how a rehearsal ended: with status 0, or with status 1 and the lines of its fault.
 fn report<E: Write>(end: Result<(), Halt>, messages: &mut E) -> io::Result<ExitCode>
     ensures { IfOk result (λ status. exit_status status ≤ 1) }
 {
@@ -82,7 +82,8 @@ struct Texts {
     tasks: Tasks,
 }
 
-// Reads the texts of a rehearsal: the line's, the scene's and the station's.
+// Reads the texts of a rehearsal: the line's, the scene's and the station's, in this order. Fails at the first that can't be read or is
+// refused.
 fn texts_of<R: Files, S: Source>(
     rt: &R,
     alloc: Global,
@@ -101,51 +102,64 @@ fn texts_of<R: Files, S: Source>(
     }
 }
 
-// Reads the file of this name to its end.
-fn read_file<R: Files>(rt: &R, alloc: Global, path: &str) -> Result<Vec<u8>, Halt> {
+// Reads the file at this path, which this option names, to its end. Fails with `File` and the fault of `read_text`, or `Read` if the
+// file can't be opened.
+fn read_file<R: Files>(
+    rt: &R,
+    alloc: Global,
+    path: &str,
+    option: FileOption,
+) -> Result<Vec<u8>, Halt> {
     let Ok(file) = File::open(rt, path) else {
-        return Err(Halt::Fault(RunFault::Read));
+        return Err(Halt::File(option, RunFault::Read));
     };
     match read_text(alloc, &mut FromReader::new(file)) {
         Ok(text) => Ok(text),
-        Err(fault) => Err(Halt::Fault(fault)),
+        Err(fault) => Err(Halt::File(option, fault)),
     }
 }
 
-// The rules of the line in a file, or of a good line where no file is named.
+// The rules of the line in the file at this path, or of a good line if it is `None`.
 fn rules_of<R: Files>(rt: &R, alloc: Global, line: Option<&str>) -> Result<Rules, Halt> {
     let Some(path) = line else {
         return Ok(Rules::none());
     };
-    let text = read_file(rt, alloc, path)?;
+    let text = read_file(rt, alloc, path, FileOption::Line)?;
     match read_rules(text.as_slice()) {
         Ok(rules) => Ok(rules),
         Err(refusal) => Err(Halt::Line(refusal)),
     }
 }
 
-// The instrument of the scene in a file, or the simulator where no file is named.
+// The instrument of the scene in the file at this path, or the simulator if it is `None`.
 fn instrument_of<R: Files>(
     rt: &R,
     alloc: Global,
     scene: Option<&str>,
 ) -> Result<SceneInstrument, Halt> {
     let Some(path) = scene else {
-        return staged(alloc, SIMULATOR);
+        return match read_rule_scene(alloc, SIMULATOR) {
+            Ok(instrument) => Ok(instrument),
+            Err(fault) => Err(Halt::Fault(fault)),
+        };
     };
-    let text = read_file(rt, alloc, path)?;
-    staged(alloc, text.as_slice())
+    let text = read_file(rt, alloc, path, FileOption::Scene)?;
+    instrument_in(alloc, text.as_slice())
 }
 
-// The instrument of the text of a scene.
-fn staged(alloc: Global, text: &[u8]) -> Result<SceneInstrument, Halt> {
+// The instrument of the text of a scene. A line that delays replies is refused, because `serve` alone has an instrument that does.
+fn instrument_in(alloc: Global, text: &[u8]) -> Result<SceneInstrument, Halt> {
     match read_rule_scene(alloc, text) {
         Ok(instrument) => Ok(instrument),
-        Err(fault) => Err(Halt::Fault(fault)),
+        Err(RunFault::Schedule { line }) => Err(Halt::Scene(
+            line,
+            scene_trouble_of(line_at(text, line), false),
+        )),
+        Err(fault) => Err(Halt::File(FileOption::Scene, fault)),
     }
 }
 
-// How many times a night the station is killed by these rules.
+// How many times a night the station is killed by these rules; 0 without a rule on that.
 fn kills_of(rules: &Rules) -> u64 {
     match rules.chance(Word::Kill) {
         Some(chance) => u64::from(chance.least),
@@ -153,13 +167,8 @@ fn kills_of(rules: &Rules) -> u64 {
     }
 }
 
-// How many commands a cycle of these tasks has, each counted once, however often its chain may go out again.
-fn commands_in(tasks: &Tasks) -> usize {
-    let cycle = tasks.tasks.iter().skip(tasks.setup);
-    cycle.filter(|task| task.turn.attempt == 1).count()
-}
-
-// Rehearses the nights of these texts. The output is handed back.
+// Rehearses the nights of these texts, writes the rows on the output, which is handed back, and the summary on the messages. Fails as
+// `run_once` does.
 fn rehearse_texts<K: Sink + Drop, E: Write>(
     alloc: Global,
     rehearsal: Rehearsal<'_>,
@@ -172,19 +181,12 @@ fn rehearse_texts<K: Sink + Drop, E: Write>(
         instrument,
         tasks,
     } = texts;
-    let commands = commands_in(&tasks);
-    let Tasks {
+    let Work {
         setup,
         tasks,
-        names,
-        nears,
-    } = tasks;
-    let named = Tasks {
-        setup: 0,
-        tasks: Vec::new(alloc),
-        names,
-        nears,
-    };
+        named,
+        commands,
+    } = work_of(alloc, tasks);
     let Ok(summary) = Summary::new(alloc, commands) else {
         return (output, Err(Halt::Fault(RunFault::Memory)));
     };
@@ -213,7 +215,8 @@ fn rehearse_texts<K: Sink + Drop, E: Write>(
     rehearse_over(programme, link, book, messages)
 }
 
-// Rehearses the nights over a link, and writes the summary. The output is handed back.
+// Rehearses the nights over a link that is new, and writes the summary if they are done. The output is handed back. Fails as `run_once`
+// does.
 fn rehearse_over<K: Sink + Drop, E: Write>(
     programme: Programme<'_>,
     mut link: Rehearsed<Seeded>,
@@ -226,7 +229,7 @@ fn rehearse_over<K: Sink + Drop, E: Write>(
     let end = run_nights(&mut link, &mut book, programme, &mut runs);
     let (output, mut seen, named) = book.end();
     if end.is_ok() {
-        // Where the summary can't be written, the rows stand all the same.
+        // If the summary can't be written, the rows are there all the same.
         let _ = tell_summary(
             programme,
             runs,

@@ -2,7 +2,8 @@
 
 use crate::nights::{Programme, RunCounts};
 use crate::quotient::quotient;
-use crate::summary::{OfTarget, Summary};
+use crate::summary::{Summary, TargetTally};
+use gc_measuring::{write_ends, write_others, write_target};
 use gc_rehearsal::Counts;
 use gc_station::Tally;
 use gc_texts::Tasks;
@@ -19,18 +20,19 @@ pub(crate) fn tell_summary<E: Write>(
 ) -> io::Result<()> {
     tell_nights(programme, runs, summary.rows, messages)?;
     tell_tally(summary.tally, messages)?;
-    // Where memory for the sorting is refused, they stay as they were, and only the figures of the cycles are others.
+    // If memory for the sorting is refused, the spans stay in their order, and only the figures on cycles are wrong.
     let _ = summary.spans.sort();
     tell_cycles(programme, summary, messages)?;
-    for of in &summary.targets {
-        tell_target(*of, named.name_of(of.target), messages)?;
+    for target in &summary.targets {
+        tell_target(*target, named.name_of(target.target), messages)?;
     }
-    tell_line(counts, messages)?;
-    tell_ends(counts, messages)?;
+    tell_lines(counts, messages)?;
+    tell_connections(counts, messages)?;
     tell_cost(summary, counts, messages)
 }
 
-// Writes how many nights, runs and rows there were.
+// Writes how many nights there were and with which seed, how many runs were killed, gave up or were cut off, and how many rows there
+// were. None of the rows is false, because a false one ends the rehearsal.
 fn tell_nights<E: Write>(
     programme: Programme<'_>,
     runs: RunCounts,
@@ -53,22 +55,15 @@ fn tell_nights<E: Write>(
     writeln!(messages, " rows {rows} false 0")
 }
 
-// Writes how commands ended.
+// Writes a line of how commands ended.
 fn tell_tally<E: Write>(tally: Tally, messages: &mut E) -> io::Result<()> {
-    let answered = tally.answered;
-    let late = tally.late;
-    write!(messages, "answered {answered} late {late} ")?;
-    let lost = tally.lost;
-    let skipped = tally.skipped;
-    write!(messages, "lost {lost} skipped {skipped} ")?;
-    let unreadable = tally.unreadable;
-    let missed = tally.missed;
-    write!(messages, "unreadable {unreadable} missed {missed} ")?;
-    let elsewhere = tally.elsewhere;
-    writeln!(messages, "elsewhere {elsewhere}")
+    write_ends(tally, messages)?;
+    write_others(tally, messages)?;
+    writeln!(messages)
 }
 
-// Writes how many cycles are whole, and how long they took.
+// Writes how many of the cycles that were due are whole, and the least, the median and the greatest of the spans of `summary`, which
+// are in order.
 fn tell_cycles<E: Write>(
     programme: Programme<'_>,
     summary: &Summary,
@@ -87,44 +82,36 @@ fn tell_cycles<E: Write>(
     writeln!(messages, "worst {worst}")
 }
 
-// The number at a place; 0 where there is none.
+// The number at a place; 0 if there is no such place.
 fn at(numbers: &[u64], place: usize) -> u64 {
-    match numbers.get(place) {
-        Some(number) => *number,
-        None => 0,
-    }
+    numbers.get(place).copied().unwrap_or(0)
 }
 
-// Writes a share in percent with two decimals, cut off.
+// Writes which share `part` is of `whole`, in percent, with two decimals, cut off; 0 if `whole` is 0.
 fn tell_percent<E: Write>(part: u64, whole: u64, messages: &mut E) -> io::Result<()> {
     let share = quotient(part.saturating_mul(10_000), whole);
     tell_hundredths(share, messages)?;
     write!(messages, " %")
 }
 
-// Writes hundredths with two decimals.
+// Writes a number of hundredths as a decimal with two places.
 fn tell_hundredths<E: Write>(number: u64, messages: &mut E) -> io::Result<()> {
     let ones = number / 100;
-    let tens = number / 10 % 10;
-    write!(messages, "{ones}.{tens}")?;
+    let tenths = number / 10 % 10;
+    write!(messages, "{ones}.{tenths}")?;
     let hundredths = number % 10;
     write!(messages, "{hundredths}")
 }
 
-// Writes how the commands of a target ended.
-fn tell_target<E: Write>(of: OfTarget, name: &[u8], messages: &mut E) -> io::Result<()> {
-    let target = of.target;
-    write!(messages, "target {target}")?;
-    let name = str::from_utf8(name).unwrap_or("");
-    if !name.is_empty() {
-        write!(messages, " ({name})")?;
-    }
+// Writes how the commands of a target with this name ended.
+fn tell_target<E: Write>(target: TargetTally, name: &[u8], messages: &mut E) -> io::Result<()> {
+    write_target(target.target, name, messages)?;
     write!(messages, ": ")?;
-    tell_tally(of.tally, messages)
+    tell_tally(target.tally, messages)
 }
 
-// Writes what happened to lines.
-fn tell_line<E: Write>(counts: Counts, messages: &mut E) -> io::Result<()> {
+// Writes the front of what happened on the line: to requests and replies.
+fn tell_lines<E: Write>(counts: Counts, messages: &mut E) -> io::Result<()> {
     let requests = counts.requests;
     let replies = counts.replies;
     write!(messages, "line: requests {requests} replies {replies} ")?;
@@ -133,8 +120,8 @@ fn tell_line<E: Write>(counts: Counts, messages: &mut E) -> io::Result<()> {
     write!(messages, "lost {lost} repeated {repeated} ")
 }
 
-// Writes what happened to connections and to the instrument.
-fn tell_ends<E: Write>(counts: Counts, messages: &mut E) -> io::Result<()> {
+// Writes the end of what happened on the line: to connections and to the instrument.
+fn tell_connections<E: Write>(counts: Counts, messages: &mut E) -> io::Result<()> {
     let holds = counts.holds;
     let closes = counts.closes;
     write!(messages, "holds {holds} closes {closes} ")?;
@@ -143,27 +130,28 @@ fn tell_ends<E: Write>(counts: Counts, messages: &mut E) -> io::Result<()> {
     writeln!(messages, "refusals {refusals} restarts {restarts}")
 }
 
-// Writes what each lost line cost: commands without an answer, and how much longer than the least a cycle took for each.
+// Writes what each lost line cost on average: how many commands have no answer, and how many milliseconds cycles took above the least.
+// Writes nothing if no line was lost.
 fn tell_cost<E: Write>(summary: &Summary, counts: Counts, messages: &mut E) -> io::Result<()> {
     if counts.lost == 0 {
         return Ok(());
     }
-    let unanswered = unanswered(summary.tally);
+    let unanswered = count_unanswered(summary.tally);
     write!(messages, "for each lost line: commands without an answer ")?;
     tell_hundredths(
         quotient(unanswered.saturating_mul(100), counts.lost),
         messages,
     )?;
     let least = at(summary.spans.as_slice(), 0);
-    let longer = quotient(longer(summary.spans.as_slice(), least), counts.lost);
+    let longer = quotient(time_above(summary.spans.as_slice(), least), counts.lost);
     writeln!(
         messages,
         ", milliseconds of cycles above the least {longer}"
     )
 }
 
-// How many commands have no answer.
-fn unanswered(tally: Tally) -> u64 {
+// How many commands have no answer: they were late, lost, skipped or missed.
+fn count_unanswered(tally: Tally) -> u64 {
     tally
         .late
         .saturating_add(tally.lost)
@@ -171,8 +159,8 @@ fn unanswered(tally: Tally) -> u64 {
         .saturating_add(tally.missed)
 }
 
-// By how much these are above the least of them together.
-fn longer(spans: &[u64], least: u64) -> u64 {
+// By how many milliseconds these spans are longer than `least`, the least of them, all together.
+fn time_above(spans: &[u64], least: u64) -> u64 {
     let mut longer = 0u64;
     for span in spans {
         longer = longer.saturating_add(span.saturating_sub(least));

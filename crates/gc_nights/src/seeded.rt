@@ -3,13 +3,20 @@
 use gc_fates::{Draws, Rules, Way, fate_of, restarts_at};
 use gc_rehearsal::{Chance, Fate};
 
-// The most bytes of a request that go out where the connection closes at it.
+// At a close that cuts a request fewer bytes than this go out of the request.
 const CUT_MAX: u64 = 512;
+
+// Which draw of a request gives the number of bytes that go out of it at such a close.
+const CUT_DRAW: u64 = 10;
+
+// Which draw of the request that set out last decides at a close about all lines in flight: odd, they are lost; even, they arrive.
+const LOSS_DRAW: u64 = 14;
 
 /// What the rules of a text and a seed decide, line by line.
 #[derive(Clone, Copy, Drop)]
 pub(crate) struct Seeded {
     rules: Rules,
+    // The draws of requests, and those of replies.
     up: Draws,
     down: Draws,
     // How many lines set out, in each direction.
@@ -48,6 +55,7 @@ impl Seeded {
 }
 
 impl Chance for Seeded {
+    // What happens to the next line. If the connection closes at it, this also notes for how long the next connection is refused.
     fn fate(&mut self) -> Fate {
         let fate = self.next_fate();
         if fate.closes {
@@ -62,22 +70,27 @@ impl Chance for Seeded {
         }
     }
 
+    // How many bytes go out of the last request, at which the connection closes: drawn for that request, and below `CUT_MAX`.
     fn cut(&mut self) -> usize {
-        (self.up.draw(self.ups, 10) % CUT_MAX) as usize
+        (self.up.draw(self.ups, CUT_DRAW) % CUT_MAX) as usize
     }
 
-    // What is in flight at a close is lost.
+    // Whether the lines in flight at a close, in either direction, arrive all the same: draw `LOSS_DRAW` of the request that set out
+    // last is even.
     fn keeps(&mut self) -> bool {
-        false
+        self.up.draw(self.ups, LOSS_DRAW) % 2 == 0
     }
 
+    // For how many milliseconds the next connection is refused, as the last close decided. Each close counts once: after this the
+    // number is 0.
     fn refusal(&mut self) -> u64 {
         let millis = self.refused;
         self.refused = 0;
         millis
     }
 
-    // The draw is that of the reply to the request.
+    // Whether the instrument restarts before it executes a request that reached it, by a draw of the reply to that request. The next
+    // line to set out is that reply.
     fn restarts(&mut self) -> bool {
         self.replies = true;
         restarts_at(&self.rules, self.down, self.downs.saturating_add(1))

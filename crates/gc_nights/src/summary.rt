@@ -1,12 +1,12 @@
 //! The summary of a rehearsal: how commands ended, for each target too, and how long cycles took.
 
-use gc_station::Tally;
+use gc_station::{Tally, is_well};
 use gc_texts::{Ending, Stamp, Wish};
 use std::alloc::{AllocError, Global};
 
 /// How the commands of a target ended.
 #[derive(Clone, Copy, Drop)]
-pub(crate) struct OfTarget {
+pub(crate) struct TargetTally {
     pub(crate) target: u32,
     pub(crate) tally: Tally,
 }
@@ -16,7 +16,7 @@ pub(crate) struct OfTarget {
 pub(crate) struct Summary {
     pub(crate) rows: u64,
     pub(crate) tally: Tally,
-    pub(crate) targets: Vec<OfTarget>,
+    pub(crate) targets: Vec<TargetTally>,
     // How long each cycle took that has a row for each command, from the first request to the last row.
     pub(crate) spans: Vec<u64>,
     // How many cycles have an answer of a good quality for each command.
@@ -25,29 +25,24 @@ pub(crate) struct Summary {
     cycle: u64,
     first: Option<u64>,
     last: u64,
-    // For each command of a cycle, which cycle it was answered well in last, counted over all nights.
+    // For each command of a cycle, by its place: the number of the cycle of its last row, counted over all nights, if it was answered
+    // well there, and else 0.
     good: Vec<u64>,
+    // How many cycles began, over all nights.
     count: u64,
 }
 
 // The place of a target among these; behind them, if it isn't one of them.
-fn place_of(targets: &[OfTarget], target: u32) -> usize {
-    match targets.iter().position(|of| of.target == target) {
+fn place_of(targets: &[TargetTally], target: u32) -> usize {
+    match targets.iter().position(|tally| tally.target == target) {
         Some(place) => place,
         None => targets.len(),
     }
 }
 
-// Whether a command that ended so has an answer of a good quality.
-fn is_good(ending: Ending<'_>) -> bool {
-    match ending.quality() {
-        Some(quality) => quality.is_good(),
-        None => false,
-    }
-}
-
 impl Summary {
-    /// Nothing was counted, and a cycle has this many commands.
+    /// A summary in which nothing was counted yet, of cycles with this many commands. It fails if memory is refused, as `note` and
+    /// `finish` do.
     pub(crate) fn new(alloc: Global, commands: usize) -> Result<Summary, AllocError> {
         Ok(Summary {
             rows: 0,
@@ -63,7 +58,7 @@ impl Summary {
         })
     }
 
-    /// Counts a row.
+    /// Counts a row. At the first row of a cycle the cycle before it is finished.
     pub(crate) fn note(
         &mut self,
         stamp: Stamp,
@@ -82,11 +77,11 @@ impl Summary {
             self.first = None;
             self.count = self.count.saturating_add(1);
         }
-        self.note_row(stamp, is_good(ending));
+        self.note_row(stamp, is_well(ending));
         Ok(())
     }
 
-    // Notes a row of the cycle that is going on.
+    // Notes a row of the cycle that is going on, and whether its command was answered well (`good`).
     fn note_row(&mut self, stamp: Stamp, good: bool) {
         if let Some(sent) = stamp.sent {
             if self.first.is_none() {
@@ -100,20 +95,21 @@ impl Summary {
         }
     }
 
-    // Counts a row of a target.
+    // Counts a row of a target, which gets a tally at its first row.
     fn count_target(&mut self, target: u32, ending: Ending<'_>) -> Result<(), AllocError> {
         let place = place_of(self.targets.as_slice(), target);
-        if let Some(of) = self.targets.get_mut(place) {
-            of.tally.count(ending);
+        if let Some(target) = self.targets.get_mut(place) {
+            target.tally.count(ending);
             return Ok(());
         }
         let mut tally = Tally::new();
         tally.count(ending);
-        self.targets.push(OfTarget { target, tally })?;
+        self.targets.push(TargetTally { target, tally })?;
         Ok(())
     }
 
-    /// Counts the cycle that is going on, if one is: it has a row for each command.
+    /// Ends the cycle that is going on, if there is one, once it has a row for each command: counts how long it took, and whether it is
+    /// whole.
     pub(crate) fn finish(&mut self) -> Result<(), AllocError> {
         if self.cycle == 0 {
             return Ok(());
@@ -129,7 +125,7 @@ impl Summary {
         Ok(())
     }
 
-    /// Leaves the cycle that is going on: the station was killed in it, or gave up.
+    /// Ends the cycle that is going on, and doesn't count it: the run ended in it before it was done.
     pub(crate) fn leave(&mut self) {
         self.cycle = 0;
     }

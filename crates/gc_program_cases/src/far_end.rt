@@ -1,7 +1,7 @@
 //! The far end of a case: a connection of one process, at which a simulator answers while the station waits, and a clock that
 //! goes only as it waits. So no case waits, and each moment is known.
 
-use gc_cases::Told;
+use gc_cases::{Told, in_use};
 use gc_console::{Oddities, run_exec};
 use gc_lines::{FromReader, ToWriter};
 use std::alloc::Global;
@@ -24,7 +24,7 @@ const NO_WAIT: u64 = 10;
 pub struct Seen {
     // How many milliseconds have passed.
     pub elapsed: u64,
-    // How many connections were made.
+    // How many connections were tried, with those that were refused.
     pub opened: u32,
     // What came, with a `>` wherever the station waited after it.
     pub heard: Told,
@@ -43,28 +43,28 @@ impl Seen {
         }
     }
 
-    // This much time passes.
+    // Lets this many milliseconds pass.
     fn pass(&mut self, millis: u64) {
         self.elapsed = self.elapsed.saturating_add(millis);
     }
 
-    // Counts one more connection, and returns how many were made.
-    fn open(&mut self) -> u64 {
+    // Counts one more attempt to connect, and returns how many there were.
+    fn count_attempt(&mut self) -> u64 {
         self.opened = self.opened.saturating_add(1);
         u64::from(self.opened)
     }
 }
 
-// Both ends of a connection, the station's first. They are a pair of Unix sockets, because what is written to one can be read at
-// the other at once. No read of either waits.
+// Makes a connection, and returns both ends, the station's first. They are a pair of Unix sockets, because what is written to one can be
+// read at the other at once. No read of either waits.
 pub fn both_ends(net: &impl Net) -> io::Result<(TcpStream, TcpStream)> {
     let ends = UnixStream::pair(net)?;
-    open_both(&ends)?;
+    unblock_both(&ends)?;
     Ok(streams_of(ends))
 }
 
-// Has no read of these two ends wait.
-fn open_both(ends: &(UnixStream, UnixStream)) -> io::Result<()> {
+// Sets these two ends so that no read of them waits.
+fn unblock_both(ends: &(UnixStream, UnixStream)) -> io::Result<()> {
     ends.0.set_nonblocking(true)?;
     ends.1.set_nonblocking(true)
 }
@@ -106,25 +106,26 @@ impl<'a, 'b> FarEnd<'a, 'b> {
         Ok(u64::try_from(wait.as_millis()).unwrap_or(u64::MAX))
     }
 
-    // Counts one more connection, and returns how many were made.
-    fn count(&self) -> io::Result<u64> {
+    // Counts one more attempt to connect, and returns how many there were. The error is that `seen` is in use.
+    fn count_attempt(&self) -> io::Result<u64> {
         match self.seen.try_borrow_mut() {
-            Ok(mut seen) => Ok(seen.open()),
+            Ok(mut seen) => Ok(seen.count_attempt()),
             Err(_) => Err(in_use()),
         }
     }
 
-    // Answers the requests of a piece, after an echo of it if the line echoes, and returns whether there were any.
+    // Answers the requests of a piece, after an echo of it if the line echoes. Returns whether there were any, and `false` if the echo
+    // can't be sent.
     fn answers(&self, piece: &[u8]) -> bool {
         let mut far = &self.ends.1;
         if self.odd.echoes && far.write_all(piece).is_err() {
             return false;
         }
-        self.serves(piece)
+        self.serve_piece(piece)
     }
 
-    // Has a simulator answer the requests of a piece, and returns whether there were any.
-    fn serves(&self, piece: &[u8]) -> bool {
+    // Has a simulator answer the requests of a piece. Returns whether there were any, and `false` if a reply can't be sent.
+    fn serve_piece(&self, piece: &[u8]) -> bool {
         let mut source = FromReader::new(piece);
         let mut sink = ToWriter::new(Changing {
             stream: &self.ends.1,
@@ -136,8 +137,8 @@ impl<'a, 'b> FarEnd<'a, 'b> {
         }
     }
 
-    // The moment of the clock. If the station has waited in a read before it asks, that wait is played first. After `until`
-    // milliseconds the clock can't be read.
+    // The moment of the clock. If the station has waited in a read before it asks for the moment, that wait is played first. The error:
+    // more than `until` milliseconds have passed, or the station's time-out can't be read.
     fn moment(&self, seen: &mut Seen) -> io::Result<Duration> {
         let patience = self.patience()?;
         if patience > NO_WAIT {
@@ -149,8 +150,8 @@ impl<'a, 'b> FarEnd<'a, 'b> {
         Ok(Duration::from_millis(seen.elapsed))
     }
 
-    // Plays a wait of the station: what it sent is noted and answered, which takes the time of an answer; otherwise the whole
-    // wait passes.
+    // Plays a wait of the station of at most `millis` milliseconds. What the station sent is noted and answered, which takes the time of
+    // an answer. If there is nothing to answer, the whole wait passes.
     fn wait(&self, seen: &mut Seen, millis: u64) {
         let mut buf = [0; 256];
         let mut far = &self.ends.1;
@@ -160,7 +161,8 @@ impl<'a, 'b> FarEnd<'a, 'b> {
         }
     }
 
-    // Notes a piece that came, and answers it, or lets the wait of the station pass.
+    // Notes a piece that came, and answers it, which takes the time of an answer. If nothing is answered, `millis` milliseconds pass, the
+    // station's whole wait.
     fn hear(&self, piece: &[u8], seen: &mut Seen, millis: u64) {
         seen.heard.bytes(piece);
         seen.heard.text(">");
@@ -171,7 +173,7 @@ impl<'a, 'b> FarEnd<'a, 'b> {
     }
 }
 
-// A line that changes each CR to LF, if it is bare.
+// The far end's stream, over which a CR is sent as LF if the line is `bare`.
 #[derive(Drop)]
 struct Changing<'a> {
     stream: &'a TcpStream,
@@ -179,7 +181,7 @@ struct Changing<'a> {
 }
 
 impl<'a> Write for Changing<'a> {
-    // Writes each byte, and a CR as LF where the line is bare.
+    // Writes each byte, and a CR as LF if the line is bare.
     fn write(&mut self, buf: &[u8]) -> io::Result<usize> {
         let mut stream = self.stream;
         for b in buf {
@@ -192,11 +194,6 @@ impl<'a> Write for Changing<'a> {
     fn flush(&mut self) -> io::Result<()> {
         Ok(())
     }
-}
-
-// The error of a call that comes while another one is made, and of a clock that can't be read.
-pub fn in_use() -> io::Error {
-    io::Error::from(ErrorKind::ResourceBusy)
 }
 
 impl<'a, 'b> Clock for FarEnd<'a, 'b> {
@@ -216,7 +213,7 @@ impl<'a, 'b> Clock for FarEnd<'a, 'b> {
         }
     }
 
-    // This much time passes, at once.
+    // Lets this much time pass by the clock, and returns at once.
     fn sleep(&self, duration: Duration) {
         if let Ok(mut seen) = self.seen.try_borrow_mut() {
             seen.pass(u64::try_from(duration.as_millis()).unwrap_or(u64::MAX));
@@ -234,15 +231,15 @@ impl<'a, 'b> Net for FarEnd<'a, 'b> {
         Err(io::Error::from(ErrorKind::Unsupported))
     }
 
-    // Counts the connection, and makes none: a station connects with a time-out.
+    // Counts the attempt, and makes no connection: a station connects with a time-out.
     fn connect(&self, _addr: SocketAddr) -> io::Result<TcpStream> {
-        let _ = self.count()?;
+        let _ = self.count_attempt()?;
         Err(io::Error::from(ErrorKind::Unsupported))
     }
 
     // Refuses the first connections, as many as `refused` says. Each further one is the station's end of the same connection.
     fn connect_timeout(&self, _addr: SocketAddr, _timeout: Duration) -> io::Result<TcpStream> {
-        if self.count()? <= self.refused {
+        if self.count_attempt()? <= self.refused {
             return Err(io::Error::from(ErrorKind::ConnectionRefused));
         }
         self.ends.0.try_clone()

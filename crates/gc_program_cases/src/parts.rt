@@ -1,10 +1,13 @@
-//! The parts of the output and of the messages that a case asks for: texts that stand in them, how often, and how the messages begin and
-//! end. What isn't as the case has it is reported, with the messages.
+//! The parts of the output and of the messages that a case asks for: texts that occur in them, how often, and how the messages begin
+//! and end. What isn't as the case has it is reported, with the messages.
 
 use gc_cases::{Case, Told, bytes_of};
 use std::alloc::Global;
 
-/// Reports each part that a case asks for and that the output or the messages lack, and after these parts the messages.
+// The most texts that a case has under one key.
+const MOST_PARTS: usize = 16;
+
+/// Reports each part that a case asks for and that the output or the messages, `told`, lack, and after these parts the messages.
 pub fn tell_parts(alloc: Global, case: &Case<'_>, output: &str, told: &Told, wrong: &mut Told) {
     let mut missing = Told::new(alloc);
     let messages = str::from_utf8(told.as_bytes()).unwrap_or("no text");
@@ -18,7 +21,7 @@ pub fn tell_parts(alloc: Global, case: &Case<'_>, output: &str, told: &Told, wro
     case.tell_told("wrong", &missing, wrong);
 }
 
-// Adds all parts that the output or the messages lack.
+// Adds to `missing` each part that the case asks for and that the output or the messages lack.
 fn add_all(alloc: Global, case: &Case<'_>, output: &str, messages: &str, missing: &mut Told) {
     add_missing(alloc, case, "has", output, missing);
     add_missing(alloc, case, "tells", messages, missing);
@@ -28,9 +31,9 @@ fn add_all(alloc: Global, case: &Case<'_>, output: &str, messages: &str, missing
     add_length(case, messages.len() as u64, missing);
 }
 
-// Adds each text under a key that isn't in what came.
+// Adds to `missing` each text under `key` that doesn't occur in what came.
 fn add_missing(alloc: Global, case: &Case<'_>, key: &str, came: &str, missing: &mut Told) {
-    for place in 0..16 {
+    for place in 0..MOST_PARTS {
         let Some(value) = case.value_at(key, place) else {
             break;
         };
@@ -48,9 +51,9 @@ fn add_part(key: &str, value: &str, missing: &mut Told) {
     missing.text(" ");
 }
 
-// Adds each text that the messages don't have as often as a case says.
+// Adds to `missing` each value under `counts` whose text the messages don't have as often as it says.
 fn add_miscounted(alloc: Global, case: &Case<'_>, messages: &str, missing: &mut Told) {
-    for place in 0..16 {
+    for place in 0..MOST_PARTS {
         let Some(value) = case.value_at("counts", place) else {
             break;
         };
@@ -60,13 +63,14 @@ fn add_miscounted(alloc: Global, case: &Case<'_>, messages: &str, missing: &mut 
     }
 }
 
-// Whether a text occurs in the messages as often as the word before it says.
+// Whether the text in `value`, behind its first word, occurs in the messages as often as that word says. If memory runs out, `missing`
+// notes that it lacks a part.
 fn is_counted(alloc: Global, value: &str, messages: &str, missing: &mut Told) -> bool {
     let (count, text) = value.split_once(' ').unwrap_or(("", value));
     count.parse::<usize>().ok() == Some(count_of(alloc, text, messages, missing))
 }
 
-// How often the text that a value spells occurs in what came.
+// How often the text that a value spells occurs in what came. If memory runs out, it returns 0, and `missing` notes that it lacks a part.
 fn count_of(alloc: Global, value: &str, came: &str, missing: &mut Told) -> usize {
     match bytes_of(alloc, value) {
         Ok(bytes) => count_in(bytes.as_slice(), came),

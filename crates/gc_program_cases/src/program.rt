@@ -4,7 +4,7 @@
 
 use crate::far_end::{FarEnd, Seen, both_ends};
 use crate::said::{Said, tell_seen};
-use gc_cases::{Case, Player, Told, cut_word, input_of};
+use gc_cases::{Case, Player, Told, cut_word, input_of, port_of};
 use gc_console::{Oddities, Standard, Streams, run_program};
 use std::alloc::{AllocError, Global};
 use std::cell::RefCell;
@@ -13,6 +13,9 @@ use std::fs::{File, Files};
 use std::io::{self, ErrorKind, Read};
 use std::net::{Net, SocketAddr, TcpListener, TcpStream};
 use std::time::Clock;
+
+// An hour in milliseconds: how long the clock of a far end can be read, if the case doesn't say `until`.
+const HOUR: u64 = 3_600_000;
 
 /// Plays `.program`.
 pub struct Program;
@@ -28,15 +31,7 @@ impl Player for Program {
     }
 }
 
-// The port of a listener; 0 if the system doesn't say.
-fn port_of(listener: &TcpListener) -> u16 {
-    match listener.local_addr() {
-        Ok(addr) => addr.port(),
-        Err(_) => 0,
-    }
-}
-
-// The listener, so that its port stays in use; `None` if the port is to be free.
+// The listener, for a caller that keeps its port in use; `None`, and the listener is closed, if the case wants the port free.
 fn held(case: &Case<'_>, listener: TcpListener) -> Option<TcpListener> {
     if case.has("port", "free") {
         return None;
@@ -44,7 +39,7 @@ fn held(case: &Case<'_>, listener: TcpListener) -> Option<TcpListener> {
     Some(listener)
 }
 
-// Plays a case in which this port is meant by `PORT`.
+// Plays a case in which `PORT` stands for this port.
 fn play_at(rt: &HostRuntime, case: &Case<'_>, port: u16, wrong: &mut Told) {
     let mut digits = Told::new(rt.alloc());
     digits.display(&port);
@@ -61,7 +56,8 @@ fn play_named(rt: &HostRuntime, case: &Case<'_>, port: &str, wrong: &mut Told) {
     tell_seen(rt.alloc(), case, seen.get_mut(), wrong);
 }
 
-// Runs the program over the system, or at the far end that a case has.
+// Runs the program over the system, or, if the case has `far`, at a far end. `far` is the milliseconds that an answer there takes, or
+// another word for a far end that gives no answers. What came there is noted in `seen`.
 fn run_case(rt: &HostRuntime, case: &Case<'_>, port: &str, seen: &RefCell<Seen>, said: &mut Said) {
     match case.value("far") {
         "" => run(rt, rt.alloc(), case, port, said),
@@ -69,15 +65,16 @@ fn run_case(rt: &HostRuntime, case: &Case<'_>, port: &str, seen: &RefCell<Seen>,
     }
 }
 
-// What the line of a case does to what is sent over it.
+// What the line of a case does to what is sent over it: `echoes`, `bare`, or nothing.
 fn oddities_of(case: &Case<'_>) -> Oddities {
-    let mut odd = Oddities::none();
-    odd.echoes = case.has("line", "echoes");
-    odd.bare = case.has("line", "bare");
-    odd
+    Oddities {
+        echoes: case.has("line", "echoes"),
+        bare: case.has("line", "bare"),
+    }
 }
 
-// Runs the program at a far end whose answers take this many milliseconds; None: there are none.
+// Runs the program at a far end whose answers take `answer` milliseconds. `None`: it gives no answers. If the connection can't
+// be made, the program isn't run.
 fn run_far(
     rt: &HostRuntime,
     case: &Case<'_>,
@@ -97,7 +94,8 @@ fn run_far(
     }
 }
 
-// The far end that a case has.
+// The far end that a case has, over the connection with these two ends. Its answers take `answer` milliseconds; `None`: it gives none.
+// What comes there is noted in `seen`.
 fn far_end_of<'a, 'b>(
     case: &Case<'_>,
     answer: Option<u64>,
@@ -108,14 +106,14 @@ fn far_end_of<'a, 'b>(
         ends,
         seen,
         answer,
-        until: case.number("until", 3_600_000),
+        until: case.number("until", HOUR),
         refused: case.number("refused", 0),
         silent: case.number("silent", u64::MAX),
         odd: oddities_of(case),
     }
 }
 
-// Runs the program over this runtime.
+// Runs the program over this runtime with the case's input. If memory runs out for the input, the program isn't run.
 fn run<R: Net<Listener = TcpListener, Stream = TcpStream> + Clock + Files<File = File>>(
     rt: &R,
     alloc: Global,
@@ -128,7 +126,8 @@ fn run<R: Net<Listener = TcpListener, Stream = TcpStream> + Clock + Files<File =
     }
 }
 
-// Runs the program with this input.
+// Runs the program with this input and the case's words and streams. `said` takes the output, the messages and the status, which is
+// `None` if the run ended with an error of the system.
 fn run_on<R: Net<Listener = TcpListener, Stream = TcpStream> + Clock + Files<File = File>>(
     rt: &R,
     alloc: Global,
@@ -149,7 +148,7 @@ fn run_on<R: Net<Listener = TcpListener, Stream = TcpStream> + Clock + Files<Fil
     said.status = run_program(rt, alloc, standard_of(case), words, streams).ok();
 }
 
-// Which standard streams are open.
+// Which standard streams of a case are open, and whether its messages go to a terminal.
 fn standard_of(case: &Case<'_>) -> Standard {
     let closed = case.value("closed");
     Standard {
@@ -160,7 +159,7 @@ fn standard_of(case: &Case<'_>) -> Standard {
     }
 }
 
-// The words after the program's name, or why they can't be read.
+// The program's name and the words of a case after it, or the error that the program gets in their place (`!no memory`, `!no text`).
 fn words_of(alloc: Global, case: &Case<'_>, port: &str) -> io::Result<Args> {
     match case.value("words") {
         "!no memory" => Err(io::Error::from(ErrorKind::OutOfMemory)),
@@ -169,14 +168,14 @@ fn words_of(alloc: Global, case: &Case<'_>, port: &str) -> io::Result<Args> {
     }
 }
 
-// The program's name, and after it these words, which have spaces between. `PORT` stands for the port.
+// The program's name, and after it these words, which have spaces between. `PORT` stands for the port. `Err`: memory ran out.
 fn split_words(alloc: Global, words: &str, port: &str) -> Result<Args, AllocError> {
     let mut all = Vec::new(alloc);
     push_words(alloc, words, port, &mut all)?;
     Ok(all.into_iter())
 }
 
-// Appends the program's name and these words.
+// Appends the program's name and these words, the port in place of `PORT`.
 fn push_words(
     alloc: Global,
     words: &str,
@@ -187,18 +186,18 @@ fn push_words(
     let mut rest = words;
     for _ in 0..words.len() {
         let (word, behind) = cut_word(rest);
-        push_word(alloc, named(word, port), all)?;
+        push_word(alloc, port_or_word(word, port), all)?;
         rest = behind;
     }
     Ok(())
 }
 
-// A word, and the port if it stands for it.
-fn named<'a>(word: &'a str, port: &'a str) -> &'a str {
+// The port if the word is `PORT`, and otherwise the word itself.
+fn port_or_word<'a>(word: &'a str, port: &'a str) -> &'a str {
     if word == "PORT" { port } else { word }
 }
 
-// Appends a word, if there is one.
+// Appends a word, unless it is empty.
 fn push_word(alloc: Global, word: &str, all: &mut Vec<String>) -> Result<(), AllocError> {
     if !word.is_empty() {
         all.push(String::from_str(alloc, word)?)?;

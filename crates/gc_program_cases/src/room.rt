@@ -1,4 +1,4 @@
-//! Standard output of a case: it has room for this many bytes.
+//! Standard output of a case, with room for a number of bytes.
 
 use std::alloc::Global;
 use std::io::{self, Write};
@@ -11,7 +11,7 @@ pub struct Room {
 }
 
 impl Room {
-    /// Nothing was written yet, and there is room for this many bytes.
+    /// An output to which nothing was written yet, with room for `left` bytes.
     pub fn new(alloc: Global, left: u64) -> Room {
         Room {
             bytes: Vec::new(alloc),
@@ -21,7 +21,7 @@ impl Room {
 }
 
 impl Write for Room {
-    // Takes the bytes that there is room for, 0 if there is none.
+    // Stores as many of the bytes as there is room for, and returns how many: 0 once there is no room.
     fn write(&mut self, buf: &[u8]) -> io::Result<usize> {
         let left = usize::try_from(self.left).unwrap_or(usize::MAX);
         let taken = buf.get(..left).unwrap_or(buf);

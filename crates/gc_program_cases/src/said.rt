@@ -1,5 +1,5 @@
 //! What came of a run of the program, and what a case asks of it: its `status`, the `output` and the `messages`; of a far end
-//! what was `heard` there, how often a connection was `opened`, the time that `elapsed`, and the `files` that were to be
+//! what was `heard` there, how often a connection was tried (`opened`), the time that `elapsed`, and the `files` that were to be
 //! opened. `any` status and `any` output will do. If a case has `has`, its output isn't compared whole, and if it has `tells`,
 //! `begins`, `ends` or `counts`, its messages aren't. What it doesn't have of a far end isn't compared.
 
@@ -13,7 +13,7 @@ use std::process::ExitCode;
 /// What came of a run.
 #[derive(Drop)]
 pub struct Said {
-    /// None: it couldn't be run.
+    /// `None`: it couldn't be run, or ended with an error of the system.
     pub status: Option<ExitCode>,
     pub output: Room,
     pub messages: Vec<u8>,
@@ -23,7 +23,7 @@ pub struct Said {
 const WAITS: &str = ": waits until eight null procedures are answered, one after the other";
 
 impl Said {
-    /// Nothing yet, with this much room for the output.
+    /// What came of no run, with room for `room` bytes of output.
     pub fn new(alloc: Global, room: u64) -> Said {
         Said {
             status: None,
@@ -38,11 +38,11 @@ impl Said {
         let mut told = Told::new(alloc);
         self.tell_messages(alloc, case, port, &mut told);
         case.tell("status", self.status_text(case).as_bytes(), wrong);
-        case.tell("output", self.compared(case), wrong);
+        case.tell("output", self.compared_output(case), wrong);
         self.tell_messages_and_parts(alloc, case, &told, wrong);
     }
 
-    // The status in a digit, and `any` if any will do.
+    // The status in a digit; `any` if the case takes any; or that the program couldn't be run.
     fn status_text(&self, case: &Case<'_>) -> &'static str {
         match self.status {
             Some(_) if case.has("status", "any") => "any",
@@ -52,7 +52,7 @@ impl Said {
     }
 
     // What is compared with the case's `output`: the whole output, none of it if the case has `has`, and `any` if any will do.
-    fn compared(&self, case: &Case<'_>) -> &[u8] {
+    fn compared_output(&self, case: &Case<'_>) -> &[u8] {
         if case.has("output", "any") {
             return b"any";
         }
@@ -63,7 +63,8 @@ impl Said {
         }
     }
 
-    // Reports the messages, with `PORT` for the port; those of a station at a far end without the line at the start.
+    // Appends the messages to `told`: of a case without a far end with `PORT` for the port; of one with a far end without the lines that
+    // end in `WAITS`, or, if it has a terminal, as they are.
     fn tell_messages(&self, alloc: Global, case: &Case<'_>, port: &str, told: &mut Told) {
         let messages = str::from_utf8(self.messages.as_slice()).unwrap_or("no text");
         if case.has("far", "") {
@@ -71,12 +72,12 @@ impl Said {
         } else if case.has("terminal", "yes") {
             told.text(messages);
         } else {
-            tell_without_start(messages, told);
+            tell_without_waits(messages, told);
         }
     }
 
-    // Reports where the messages came otherwise: compared whole, or not at all if the case asks for parts (such a case has no
-    // `messages`). Then reports each part that the output or the messages lack.
+    // Compares the messages, `told`, with the case's `messages`; but a case that asks for parts of the messages must have no `messages`,
+    // and is reported if it has. Then reports each part that the output or the messages lack.
     fn tell_messages_and_parts(
         &self,
         alloc: Global,
@@ -84,7 +85,7 @@ impl Said {
         told: &Told,
         wrong: &mut Told,
     ) {
-        if are_parts(case) {
+        if asks_for_parts(case) {
             case.tell("messages", b"", wrong);
         } else {
             case.tell_told("messages", told, wrong);
@@ -94,7 +95,7 @@ impl Said {
     }
 }
 
-// An exit status in a digit.
+// An exit status in a digit: `2` for each other than 0 and 1.
 fn text_of(status: ExitCode) -> &'static str {
     if status == ExitCode::SUCCESS {
         return "0";
@@ -105,7 +106,7 @@ fn text_of(status: ExitCode) -> &'static str {
     "2"
 }
 
-// Messages with `PORT` for the port.
+// Appends messages to `told`, with `PORT` for the port.
 fn tell_named(alloc: Global, messages: &str, port: &str, told: &mut Told) {
     match messages.replace(alloc, port, "PORT") {
         Ok(named) => told.text(named.as_str()),
@@ -113,8 +114,8 @@ fn tell_named(alloc: Global, messages: &str, port: &str, told: &mut Told) {
     }
 }
 
-// The lines of messages but the one at the start.
-fn tell_without_start(messages: &str, told: &mut Told) {
+// Appends the lines of messages, except those that end in `WAITS`.
+fn tell_without_waits(messages: &str, told: &mut Told) {
     for line in messages.lines() {
         if !line.ends_with(WAITS) {
             told.text(line);
@@ -124,7 +125,7 @@ fn tell_without_start(messages: &str, told: &mut Told) {
 }
 
 // Whether a case asks for parts of the messages.
-fn are_parts(case: &Case<'_>) -> bool {
+fn asks_for_parts(case: &Case<'_>) -> bool {
     ["tells", "begins", "ends", "counts"]
         .iter()
         .any(|key| case.value(key) != "")
@@ -132,14 +133,14 @@ fn are_parts(case: &Case<'_>) -> bool {
 
 /// Reports what came at a far end, for each key that a case has.
 pub fn tell_seen(alloc: Global, case: &Case<'_>, seen: &Seen, wrong: &mut Told) {
-    tell_asked(case, "heard", &seen.heard, wrong);
+    compare_if_asked(case, "heard", &seen.heard, wrong);
     tell_number(alloc, case, "opened", u64::from(seen.opened), wrong);
     tell_number(alloc, case, "elapsed", seen.elapsed, wrong);
-    tell_asked(case, "files", &seen.files, wrong);
+    compare_if_asked(case, "files", &seen.files, wrong);
 }
 
-// Reports what came, if a case asks for it; `nothing` stands for no bytes.
-fn tell_asked(case: &Case<'_>, key: &str, came: &Told, wrong: &mut Told) {
+// Compares what came with the case's value under this key, if it has one; `nothing` stands for no bytes.
+fn compare_if_asked(case: &Case<'_>, key: &str, came: &Told, wrong: &mut Told) {
     if case.has(key, "") {
         return;
     }
@@ -150,9 +151,9 @@ fn tell_asked(case: &Case<'_>, key: &str, came: &Told, wrong: &mut Told) {
     }
 }
 
-// Reports a number, if a case asks for it.
+// Compares a number with the case's value under this key, if it has one.
 fn tell_number(alloc: Global, case: &Case<'_>, key: &str, number: u64, wrong: &mut Told) {
     let mut digits = Told::new(alloc);
     digits.display(&number);
-    tell_asked(case, key, &digits, wrong);
+    compare_if_asked(case, key, &digits, wrong);
 }

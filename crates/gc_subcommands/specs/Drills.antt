@@ -1,9 +1,9 @@
--- What becomes of a schedule that a source gives, and how that is reported: this project's own. `told` is what had been written
+-- How a schedule that a source gives is played, and how that is reported: this project's own. `told` is what had been written
 -- on the messages before, and `told'` what has been written now.
 use Rattle.std.specs.Prelude.{◌≡◌, ℕ, ◌<◌, ◌⊎◌, Bool, true, List, Option, None, Result}
 use Rattle.std.specs.Io.KnownBytes.{Consumes, Appends, IsAtEnd}
 use Rattle.gc_messages.specs.Refusals.{range_line}
-use Rattle.gc_subcommands.specs.Scenes.{AreUnused, RefusesScene, IsOfScene}
+use Rattle.gc_subcommands.specs.Scenes.{AreUnused, RefusesScene, IsSimulatorUnlessNamed}
 use Rattle.gc_subcommands.specs.declared.drill.Drilling.{Drilling}
 use Rattle.gc_engines.specs.Drill.{drill_text_on, DrillsAs, source_failed, sink_failed}
 use Rattle.gc_engines.specs.SceneDrill.{scene_drill_text}
@@ -15,9 +15,9 @@ use Rattle.gc_texts.specs.Faults.{run_fault_text, Tells}
 use Rattle.gc_texts.specs.declared.fault.RunFault.{RunFault}
 use Rattle.gc_world.specs.declared.event.Event.{Event}
 
--- a source gave bytes as a schedule for an instrument with this opening state, and the status and the messages tell what came of
--- it. `text` is what is written of events that are played, by the opening state, the width, the events, and whether totals are
--- written: `drill_text_on` for the table's instrument, `scene_drill_text` for that of a scene with rules
+-- a source gave bytes, which were played as a schedule on an instrument with this opening state, or refused; and the status and the
+-- messages report how that ended. `text` is what is written of events that are played, by the opening state, the width, the events,
+-- and whether totals are written: `drill_text_on` for the table's instrument, `scene_drill_text` for that of a scene with rules
 pub record TellsSchedule {S : Type 0} (text : S → ℕ → List Event → Bool → List ℕ) (start : S) (asked : Drilling) (old new : Ports) (status : ℕ) (told told' : Option (List ℕ)) : Type 0 where
   pub end : Result (Unit {0}) RunFault
   pub given : List ℕ
@@ -37,11 +37,11 @@ pub record RefusesWidth (old new : Ports) (status : ℕ) (told told' : Option (L
 abbrev pub TellsWithin : {S : Type 0} → (text : S → ℕ → List Event → Bool → List ℕ) → S → Drilling → Ports → Ports → ℕ → Option (List ℕ) → Option (List ℕ) → Type 0
 TellsWithin text start asked old new status told told' = RefusesWidth old new status told told' ⊎ TellsSchedule text start asked old new status told told'
 
--- the scene or the width was refused, or the schedule was played on the instrument of the scene, and how that ended is reported; it has rules only
--- where a scene is named
+-- the scene or the width was refused, or the schedule was played on the instrument of the scene, and how that ended is reported; the
+-- instrument has rules only where a scene is named
 abbrev pub TellsDrill : Drilling → Ports → Ports → ℕ → Option (List ℕ) → Option (List ℕ) → Type 0
 TellsDrill asked old new status told told' =
-    RefusesScene asked.scene old new status told told' ⊎ (((start : State) × IsOfScene asked.scene start × TellsWithin drill_text_on start asked old new status told told')
+    RefusesScene asked.scene old new status told told' ⊎ (((start : State) × IsSimulatorUnlessNamed asked.scene start × TellsWithin drill_text_on start asked old new status told told')
     ⊎ ((asked.scene ≡ None → ⊥) × ((start : SceneState) × TellsWithin scene_drill_text start asked old new status told told')))
 
 -- the sink took the output of the events of the schedule that a source gave. `text` is as in `TellsSchedule`
@@ -49,12 +49,12 @@ abbrev pub PlaysWhole : {S : Type 0} → (text : S → ℕ → List Event → Bo
 PlaysWhole text start asked old new = (given : List ℕ) × Consumes old.remaining new.remaining given
     × ((events : List Event) × IsSchedule given events × Appends old.taken new.taken (text start asked.width events asked.totals))
 
--- the sink took the output of the schedule's events on the instrument of the scene, which is the simulator where none is named, and has rules only where
--- one is
+-- the sink took the output of the schedule's events on the instrument of the scene, which is the simulator where no scene is named,
+-- and has rules only where one is named
 abbrev pub PlaysScene : Drilling → Ports → Ports → Type 0
-PlaysScene asked old new = ((start : State) × IsOfScene asked.scene start × PlaysWhole drill_text_on start asked old new)
+PlaysScene asked old new = ((start : State) × IsSimulatorUnlessNamed asked.scene start × PlaysWhole drill_text_on start asked old new)
     ⊎ ((asked.scene ≡ None → ⊥) × ((start : SceneState) × PlaysWhole scene_drill_text start asked old new))
 
 -- the source was read to its end: the last read was the end, and the source has no byte left
-abbrev pub AreReadWhole : Ports → Ports → Type 0
-AreReadWhole old new = IsAtEnd new.remaining × (new.ended ≡ true) × (old.reads < new.reads)
+abbrev pub ReadsWholeSource : Ports → Ports → Type 0
+ReadsWholeSource old new = IsAtEnd new.remaining × (new.ended ≡ true) × (old.reads < new.reads)

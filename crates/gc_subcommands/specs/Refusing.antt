@@ -7,7 +7,7 @@ use Rattle.gc_texts.specs.Faults.{run_fault_text, fault_line}
 use Rattle.gc_texts.specs.declared.fault.RunFault.{RunFault}
 use Rattle.gc_texts.specs.declared.fault.RunFault.TheVariants.{Schedule}
 
--- the reason by itself
+-- the fault for which a scene was refused: for a faulty line that of a line that doesn't parse, with its number
 abbrev pub refusal_fault : Refusal → RunFault
 refusal_fault (Fault fault) = fault
 refusal_fault (Line line trouble) = Schedule line

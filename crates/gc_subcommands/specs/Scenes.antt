@@ -20,5 +20,5 @@ pub record RefusesScene {Name : Type 0} (scene : Option Name) (old new : Ports) 
   pub named : scene ≡ None → ⊥
 
 -- where no scene is named the instrument is the simulator
-abbrev pub IsOfScene : {Name : Type 0} → Option Name → State → Type 0
-IsOfScene scene start = scene ≡ None → start ≡ simulator_opening
+abbrev pub IsSimulatorUnlessNamed : {Name : Type 0} → Option Name → State → Type 0
+IsSimulatorUnlessNamed scene start = scene ≡ None → start ≡ simulator_opening

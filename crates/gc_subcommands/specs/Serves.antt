@@ -1,7 +1,7 @@
 -- How `exec` and `check` report how their loop over frames ended: this project's own. `told` is what had been written on the
 -- messages before, and `told'` what has been written now. 4294967295 is the most reads that a u32 counts.
 use Rattle.std.specs.Prelude.{◌≡◌, ℕ, ◌+◌, ◌<◌, ◌⊎◌, ◌↔◌, Bool, true, false, List, Option, None, Result}
-use Rattle.gc_subcommands.specs.Scenes.{RefusesScene, IsOfScene}
+use Rattle.gc_subcommands.specs.Scenes.{RefusesScene, IsSimulatorUnlessNamed}
 use Rattle.gc_engines.specs.Checking.{IsChecking}
 use Rattle.gc_engines.specs.LogChecking.{IsCheckingLog}
 use Rattle.gc_instrument.specs.Serving.{IsServing}
@@ -23,10 +23,11 @@ pub record TellsServing {S : Type 0} (Serves : S → S → Ports → Ports → �
   pub serves : Serves start after old new 4294967295 end
   pub tells : Tells fault_text end status told told'
 
--- the scene was refused, or its instrument served a source, and how that ended is reported; it has rules only where a scene is named
+-- the scene was refused, or its instrument served a source, and how that ended is reported; the instrument has rules only
+-- where a scene is named
 abbrev pub TellsExec : {Name : Type 0} → Option Name → Ports → Ports → ℕ → Option (List ℕ) → Option (List ℕ) → Type 0
 TellsExec scene old new status told told' =
-    RefusesScene scene old new status told told' ⊎ (((start : State) × IsOfScene scene start × TellsServing IsServing start old new status told told')
+    RefusesScene scene old new status told told' ⊎ (((start : State) × IsSimulatorUnlessNamed scene start × TellsServing IsServing start old new status told told')
     ⊎ ((scene ≡ None → ⊥) × ((start : SceneState) × TellsServing IsSceneServing start old new status told told')))
 
 -- a log (`true`) or a stream (`false`) was checked, with this result

@@ -14,15 +14,16 @@ abbrev pub IsStaged : List ℕ → Staged → Type 0
 IsStaged text (Plain state) = IsScene text state
 IsStaged text (Ruled state) = IsStillScene text state
 
--- the text is a scene, and this is the opening state of its instrument for one who has a clock
+-- the text is a scene, maybe with delays, and this is the opening state of its instrument for `serve`, which has a clock
 abbrev pub IsTimed : List ℕ → Timed → Type 0
 IsTimed text (Still staged) = IsStaged text staged
 IsTimed text (Slow state) = IsTimedScene text state
 
--- why a text sets up no instrument: it is no scene without rules for this reason, or none with rules
+-- why a text sets up no instrument: for this reason it is no scene without rules, or no scene with rules
 abbrev pub StagedFault : List ℕ → RunFault → Type 0
 StagedFault text fault = SceneFault text fault ⊎ SceneFaultOf IsStillLine text fault
 
--- why a text sets up no instrument for one who has a clock
+-- why a text sets up no instrument for `serve`, which has a clock: for this reason it is no scene without delays, or no scene
+-- with them
 abbrev pub TimedStagedFault : List ℕ → RunFault → Type 0
 TimedStagedFault text fault = StagedFault text fault ⊎ TimedFault text fault

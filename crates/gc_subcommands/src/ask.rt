@@ -7,7 +7,7 @@ use clap::Command;
 use gc_ask::ask_at;
 use gc_lines::{Sink, Source};
 use gc_links::Place;
-use gc_messages::{report_end, tell_place};
+use gc_messages::report_end_at;
 use gc_words::help::COMMANDS;
 use gc_words::{Argument, PLACE, command_of};
 use std::alloc::{AllocError, Global};
@@ -32,7 +32,8 @@ pub fn ask_command<'a>(alloc: Global, name: &'a str) -> Result<Command<'a>, Allo
     )
 }
 
-/// Asks the commands of a source at a place, and reports how that ended.
+/// Asks the commands of a source at a place, writes a line for each settlement into a sink, and reports how that ended, with status 0
+/// or 1.
 pub fn ask_place<
     R: Net<Listener = TcpListener, Stream = TcpStream> + Files<File = File> + Clock,
     S: Source,
@@ -49,10 +50,5 @@ pub fn ask_place<
     ensures { IfOk result (λ status. exit_status status ≤ 1) }
 {
     let end = ask_at(rt, alloc, place, source, sink, u32::MAX);
-    let ended = report_end(end, messages);
-    if let Err(fault) = end {
-        // If this line can't be written, the fault's line is written all the same.
-        let _ = tell_place(place, fault, messages);
-    }
-    ended
+    report_end_at(place, end, messages)
 }

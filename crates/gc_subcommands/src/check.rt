@@ -33,7 +33,7 @@ pub fn check_command<'a>(alloc: Global, name: &'a str) -> Result<Command<'a>, Al
     )
 }
 
-/// Checks a log where `log` is set, else a stream, and reports how that ended.
+/// Checks a log where `log` is set, else a stream, and reports how that ended, with status 0 or 1.
 pub fn check<S: Source, K: Sink, E: Write>(
     log: bool,
     source: &mut S,

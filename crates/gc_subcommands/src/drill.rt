@@ -2,7 +2,7 @@
 
 ghost use Rattle.std.specs.Prelude.{◌≡◌, ◌≤◌, IfOk};
 ghost use Rattle.std.specs.Process.{exit_status};
-ghost use Rattle.gc_subcommands.specs.Drills.{TellsSchedule, TellsWithin, TellsDrill, PlaysWhole, PlaysScene, AreReadWhole};
+ghost use Rattle.gc_subcommands.specs.Drills.{TellsSchedule, TellsWithin, TellsDrill, PlaysWhole, PlaysScene, ReadsWholeSource};
 ghost use Rattle.gc_lines.specs.Answering.{ports_of};
 
 use crate::drilled::Drilled;
@@ -65,7 +65,8 @@ pub fn drilling_of<'a>(words: &ArgMatches<'a>) -> Drilling<'a> {
     }
 }
 
-/// Reads the scene, plays a schedule on its instrument, and reports how that ended.
+/// Reads the scene, plays the schedule of the source on its instrument, and reports how that ended: with status 0, 1, or 2 for a width
+/// out of its range.
 pub fn drill_scene<R: Files, S: Source, K: Sink, E: Write>(
     rt: &R,
     alloc: Global,
@@ -90,7 +91,7 @@ pub fn drill_scene<R: Files, S: Source, K: Sink, E: Write>(
         (ports_of S.Source source.new K.Sink sink.new)) }
 
     // Status 0 only where the last read was the end, and the source has no byte left.
-    ensures whole { IfOk result (λ status. exit_status status ≡ 0 → AreReadWhole
+    ensures whole { IfOk result (λ status. exit_status status ≡ 0 → ReadsWholeSource
         (ports_of S.Source source.old K.Sink sink.old)
         (ports_of S.Source source.new K.Sink sink.new)) }
     ensures bound { IfOk result (λ status. exit_status status ≤ 2) }
@@ -132,7 +133,7 @@ fn drill_within<I: Drilled, S: Source, K: Sink, E: Write>(
         (ports_of S.Source source.new K.Sink sink.new)) }
 
     // Status 0 only where the last read was the end, and the source has no byte left.
-    ensures whole { IfOk result (λ status. exit_status status ≡ 0 → AreReadWhole
+    ensures whole { IfOk result (λ status. exit_status status ≡ 0 → ReadsWholeSource
         (ports_of S.Source source.old K.Sink sink.old)
         (ports_of S.Source source.new K.Sink sink.new)) }
     ensures bound { IfOk result (λ status. exit_status status ≤ 2) }
@@ -146,7 +147,7 @@ fn drill_within<I: Drilled, S: Source, K: Sink, E: Write>(
     drill(alloc, instrument, drilling, source, sink, messages)
 }
 
-// Plays a schedule, and reports how that ended.
+// Plays the schedule of the source on an instrument, and reports how that ended, with status 0 or 1.
 fn drill<I: Drilled, S: Source, K: Sink, E: Write>(
     alloc: Global,
     instrument: I,
@@ -170,7 +171,7 @@ fn drill<I: Drilled, S: Source, K: Sink, E: Write>(
         (ports_of S.Source source.new K.Sink sink.new)) }
 
     // Status 0 only where the last read was the end, and the source has no byte left.
-    ensures whole { IfOk result (λ status. exit_status status ≡ 0 → AreReadWhole
+    ensures whole { IfOk result (λ status. exit_status status ≡ 0 → ReadsWholeSource
         (ports_of S.Source source.old K.Sink sink.old)
         (ports_of S.Source source.new K.Sink sink.new)) }
     ensures bound { IfOk result (λ status. exit_status status ≤ 1) }

@@ -1,9 +1,8 @@
 //! An instrument on which a schedule is played: that of the execution table, or that of a scene with rules.
 
-ghost use Rattle.std.specs.Prelude.{◌≡◌, ◌+◌, ◌<◌, ◌≤◌, ℕ, List, Bool, length, true};
-ghost use Rattle.std.specs.Io.KnownBytes.{Consumes, IsAtEnd};
-ghost use Rattle.gc_engines.specs.Drill.{DrillsAs, is_read_whole, source_failed, sink_failed};
-ghost use Rattle.gc_texts.specs.Texts.{end_reads};
+ghost use Rattle.std.specs.Prelude.{◌≡◌, ◌≤◌, ℕ, List, Bool};
+ghost use Rattle.gc_engines.specs.Drill.{DrillsAs, HasEndedIfWhole, source_failed, sink_failed};
+ghost use Rattle.gc_texts.specs.WholeTexts.{Gave, input_of};
 ghost use Rattle.gc_world.specs.declared.event.Event.{Event};
 
 use gc_client::WINDOW;
@@ -14,7 +13,7 @@ use gc_scenes::SceneInstrument;
 use gc_texts::RunFault;
 use std::alloc::Global;
 
-/// What plays the events of a schedule.
+/// An instrument on which the events of a schedule can be played.
 pub(crate) trait Drilled: Drop {
     /// What is written of events that are played on it, with a window of this width, and with the line of totals if that is asked for.
     ghost text: { Self → ℕ → List Event → Bool → List ℕ };
@@ -31,11 +30,9 @@ pub(crate) trait Drilled: Drop {
     ) -> Result<(), RunFault>
         requires least { 1 ≤ width }
         requires most { width ≤ WINDOW }
-        ensures drills { (given : List ℕ) × Consumes (S.remaining source.old) (S.remaining source.new) given
-            × (S.reads source.new ≤ S.reads source.old + length given + end_reads (S.ended source.new))
-            × DrillsAs (text self width) given totals (K.taken sink.old) (K.taken sink.new) result }
-        ensures whole { is_read_whole result ≡ true
-            → IsAtEnd (S.remaining source.new) × (S.ended source.new ≡ true) × (S.reads source.old < S.reads source.new) }
+        ensures drills { Gave (input_of S.Source source.old) (input_of S.Source source.new) (λ given.
+            DrillsAs (text self width) given totals (K.taken sink.old) (K.taken sink.new) result) }
+        ensures whole { HasEndedIfWhole (input_of S.Source source.old) (input_of S.Source source.new) result }
         ensures source { S.failed source.new ≡ source_failed result (S.failed source.old) }
         ensures sink { K.failed sink.new ≡ sink_failed result (K.failed sink.old) };
 }

@@ -34,7 +34,7 @@ pub fn exec_command<'a>(alloc: Global, name: &'a str) -> Result<Command<'a>, All
     )
 }
 
-/// Reads the scene, serves with its instrument, and reports how that ended.
+/// Reads the scene, answers the requests of the source with its instrument, and reports how that ended, with status 0 or 1.
 pub fn exec_scene<R: Files, S: Source, K: Sink, E: Write>(
     rt: &R,
     alloc: Global,
@@ -71,7 +71,7 @@ pub fn exec_scene<R: Files, S: Source, K: Sink, E: Write>(
     }
 }
 
-// Serves with the instrument, and reports how that ended.
+// Answers the requests of the source with the instrument, and reports how that ended, with status 0 or 1.
 fn exec<S: Source, K: Sink, E: Write>(
     mut instrument: Instrument,
     source: &mut S,
@@ -101,7 +101,7 @@ fn exec<S: Source, K: Sink, E: Write>(
     report_served(serve(&mut instrument, source, sink, u32::MAX), messages)
 }
 
-// Serves with the instrument of a scene with rules, and reports how that ended.
+// Answers the requests of the source with the instrument of a scene with rules, and reports how that ended, with status 0 or 1.
 fn exec_ruled<S: Source, K: Sink, E: Write>(
     mut instrument: SceneInstrument,
     source: &mut S,

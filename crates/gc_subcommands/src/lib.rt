@@ -1,5 +1,5 @@
-//! The subcommands: which one the words of the command line ask for, and for each but `station` its words and the function that
-//! runs it.
+//! The subcommands: which one the words of the command line ask for, and for each but `station` and `rehearse` its words and the
+//! function that runs it.
 #![tactic(auto)]
 
 pub mod ask;

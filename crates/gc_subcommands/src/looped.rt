@@ -31,8 +31,8 @@ pub fn loop_command<'a>(alloc: Global, name: &'a str) -> Result<Command<'a>, All
     )
 }
 
-/// Asks over a connection to the instrument of a scene, which is read first, or to the simulator where no scene is named, and
-/// reports how that ended.
+/// Asks the commands of a source over a connection to the instrument of a scene, which is read first, or to the simulator where no
+/// scene is named; writes a line for each settlement into a sink, and reports how that ended, with status 0 or 1.
 pub fn loop_port<
     R: Net<Listener = TcpListener, Stream = TcpStream> + Files,
     S: Source,
@@ -55,15 +55,12 @@ pub fn loop_port<
         Ok(Staged::Ruled(instrument)) => {
             loop_on(rt, alloc, scene, instrument, source, sink, messages)
         }
-        Err(refusal) => {
-            let ended = refusal.tell(messages);
-            let _ = tell_scene(scene, messages);
-            ended
-        }
+        Err(refusal) => refusal.tell_with_file(scene, messages),
     }
 }
 
-// Asks over a connection to this instrument, that of the scene if one is named, and reports how that ended.
+// Asks the commands of a source over a connection to this instrument, that of the scene if one is named, and reports how that ended. A
+// fault in the commands is also reported as one of standard input if a scene is named.
 fn loop_on<
     R: Net<Listener = TcpListener, Stream = TcpStream>,
     T: Answers + Drop,
@@ -89,16 +86,7 @@ fn loop_on<
     ended
 }
 
-/// Where a scene is named, writes after a fault's line that the fault is in the scene's file.
-pub(crate) fn tell_scene<E: Write>(scene: Option<&str>, messages: &mut E) -> io::Result<()> {
-    match scene {
-        Some(path) => writeln!(messages, "geocom: of the scene in {path}"),
-        None => Ok(()),
-    }
-}
-
-// Where a scene is named, so that two texts were read, writes after a fault's line that the fault is in the commands of
-// standard input.
+// Writes, if a scene is named and so two texts were read, that the fault is in the commands of standard input.
 fn tell_commands<E: Write>(scene: Option<&str>, messages: &mut E) -> io::Result<()> {
     match scene {
         Some(_) => writeln!(messages, "geocom: of the commands of standard input"),

@@ -21,7 +21,8 @@ pub(crate) enum Refusal {
 }
 
 impl Refusal {
-    /// The refusal of a scene's text for this reason. `has_clock` says whether the scene is that of one who has a clock.
+    /// The refusal of a scene's text for this reason. `has_clock` says whether the scene is for an instrument with a clock, as that of
+    /// `serve`.
     pub(crate) fn of(fault: RunFault, text: &[u8], has_clock: bool) -> Refusal
         ensures { refusal_fault result ≡ fault }
     {
@@ -30,16 +31,6 @@ impl Refusal {
                 Refusal::Line(line, scene_trouble_of(line_at(text, line), has_clock))
             }
             _ => Refusal::Fault(fault),
-        }
-    }
-
-    /// The reason by itself.
-    pub(crate) fn fault(self) -> RunFault
-        ensures { result ≡ refusal_fault self }
-    {
-        match self {
-            Refusal::Fault(fault) => fault,
-            Refusal::Line(line, _) => RunFault::Schedule { line },
         }
     }
 
@@ -55,6 +46,29 @@ impl Refusal {
                 Ok(ExitCode::from(1))
             }
         }
+    }
+
+    /// Reports the refusal as `tell` does, with status 1, and then writes a line with the path of the scene's file (`scene`), if one is
+    /// named.
+    pub(crate) fn tell_with_file<E: Write>(
+        self,
+        scene: Option<&str>,
+        messages: &mut E,
+    ) -> io::Result<ExitCode>
+        ensures { IfOk result (λ status. exit_status status ≡ 1) }
+    {
+        let ended = self.tell(messages);
+        // If this line can't be written, the fault's line is written all the same.
+        let _ = tell_file(scene, messages);
+        ended
+    }
+}
+
+// Writes in which file the scene is that was refused; nothing if no file is named.
+fn tell_file<E: Write>(scene: Option<&str>, messages: &mut E) -> io::Result<()> {
+    match scene {
+        Some(path) => writeln!(messages, "geocom: of the scene in {path}"),
+        None => Ok(()),
     }
 }
 

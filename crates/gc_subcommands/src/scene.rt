@@ -29,7 +29,7 @@ pub(crate) enum Staged {
     Ruled(SceneInstrument),
 }
 
-/// The instrument that a scene sets up for one who has a clock: also one whose replies take time, where a line says so.
+/// The instrument that a scene sets up for `serve`, which has a clock: also one whose replies take time, where a line says so.
 #[derive(Drop)]
 pub(crate) enum Timed {
     /// One whose replies take no time.
@@ -102,7 +102,7 @@ fn ruled_text(alloc: Global, text: &[u8]) -> Result<Staged, RunFault>
     }
 }
 
-/// The instrument of the scene in a file for one who has a clock, or the simulator if no file is named.
+/// The instrument of the scene in a file for `serve`, which has a clock, or the simulator if no file is named.
 ///
 /// The faults are those of `staged_of`. Of a scene with delays they are those of `read_timed_scene`.
 pub(crate) fn timed_of<R: Files>(
@@ -121,7 +121,7 @@ pub(crate) fn timed_of<R: Files>(
     timed_in(alloc, &mut FromReader::new(file))
 }
 
-// The instrument of the scene that a source gives, for one who has a clock.
+// The instrument of the scene that a source gives, for `serve`, which has a clock.
 fn timed_in<S: Source>(alloc: Global, source: &mut S) -> Result<Timed, Refusal>
     // The whole of what the source gave is its text.
     ensures found { IfOk result (λ timed. (text : List ℕ) × Consumes (S.remaining source.old) (S.remaining source.new) text

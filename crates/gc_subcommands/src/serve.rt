@@ -4,7 +4,6 @@
 ghost use Rattle.std.specs.Prelude.{◌≤◌, IfOk};
 ghost use Rattle.std.specs.Process.{exit_status};
 
-use crate::looped::tell_scene;
 use crate::scene::{Staged, Timed, timed_of};
 use clap::{ArgMatches, Command};
 use gc_ask::{
@@ -12,7 +11,7 @@ use gc_ask::{
     serve_device, serve_tcp,
 };
 use gc_links::Place;
-use gc_messages::{Standard, refuse_numbers, report_end, tell_place};
+use gc_messages::{Standard, refuse_numbers, report_end, report_end_at};
 use gc_scenes::SlowInstrument;
 use gc_texts::RunFault;
 use gc_words::help::KEPT;
@@ -146,11 +145,7 @@ fn serve_scene<
             serve_with(rt, serving, &mut instrument, None, messages)
         }
         Ok(Timed::Slow(slow)) => serve_slow(rt, serving, slow, messages),
-        Err(refusal) => {
-            let ended = refusal.tell(messages);
-            let _ = tell_scene(serving.scene, messages);
-            ended
-        }
+        Err(refusal) => refusal.tell_with_file(serving.scene, messages),
     }
 }
 
@@ -168,7 +163,8 @@ fn serve_slow<
     serve_with(rt, serving, &mut instrument, Some(&clock), messages)
 }
 
-// Serves or keeps a place with an instrument.
+// Serves a place with an instrument, or keeps it (`keep_place`) where `serving.idle` is set. `clock`: that of an instrument whose
+// replies take time.
 fn serve_with<
     R: Net<Listener = TcpListener, Stream = TcpStream> + Clock + Files<File = File>,
     I: Simulates,
@@ -242,7 +238,7 @@ fn serve_place<
         Some(Endpoint::Device(_)) if connections > MOST_CONNECTIONS => refuse_numbers(messages),
         Some(Endpoint::Device(path)) => {
             let end = serve_device(rt, path, connections, instrument, clock, u32::MAX);
-            tell_served(place, end, messages)
+            report_end_at(place, end, messages)
         }
     }
 }
@@ -271,7 +267,8 @@ fn serve_address<
     )
 }
 
-// Keeps a port or a device, and reports how that ended. Numbers out of their range are refused here, as in `serve_place`.
+// Serves a port or a device, goes on after a connection that fails (`--keep`), and reports how that ended. On a port a
+// connection is closed after `idle` seconds without a byte. Numbers out of their range are refused here, as in `serve_place`.
 fn keep_place<
     R: Net<Listener = TcpListener, Stream = TcpStream> + Clock + Files<File = File>,
     I: Simulates,
@@ -304,24 +301,8 @@ fn keep_place<
     };
     match kept {
         Ok(_) => Ok(ExitCode::SUCCESS),
-        Err(fault) => tell_served(place, Err(fault), messages),
+        Err(fault) => report_end_at(place, Err(fault), messages),
     }
-}
-
-// Reports how serving a place ended. After the line of some faults come the place and the reason (`tell_place`).
-fn tell_served<E: Write>(
-    place: Place<'_>,
-    end: Result<(), RunFault>,
-    messages: &mut E,
-) -> io::Result<ExitCode>
-    ensures { IfOk result (λ status. exit_status status ≤ 1) }
-{
-    let ended = report_end(end, messages);
-    if let Err(fault) = end {
-        // If this line can't be written, the fault's line is written all the same.
-        let _ = tell_place(place, fault, messages);
-    }
-    ended
 }
 
 // Whether this number of connections may be asked for: none given, or 1 to 1000.

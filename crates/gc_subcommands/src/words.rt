@@ -17,10 +17,13 @@ use std::alloc::{AllocError, Global};
 
 /// What a command line asks for. A scene is the name of its file, where one is named.
 pub enum Asked<'a> {
+    /// Answers requests with the instrument of the scene, or with the simulator.
     Exec { scene: Option<&'a str> },
     /// Checks a log where `log` is set, else a stream.
     Check { log: bool },
+    /// Plays a schedule.
     Drill(Drilling<'a>),
+    /// Serves a simulator on a port or a device.
     Serve(Serving<'a>),
     /// Rehearses a station.
     Rehearse(Rehearsal<'a>),
@@ -32,7 +35,7 @@ pub enum Asked<'a> {
     /// A number is missing that has a default.
     Unnumbered,
     /// A station's run would end for want of an answer before its second cycle is due.
-    Impatient,
+    StaleTooSoon,
 }
 
 /// What is to be asked over a connection: commands, once, of a simulator or at a place; or the commands of a station.
@@ -214,7 +217,7 @@ fn ask_asked<'a>(words: &ArgMatches<'a>) -> Asked<'a> {
 }
 
 // A station at a place, with its records and its log in files where the words name them. `Nowhere`: the words name no place.
-// `Unnumbered`: a number is missing, though it has a default; clap fills it in, but no clause of clap's says so. `Impatient`: the
+// `Unnumbered`: a number is missing, though it has a default; clap fills it in, but no clause of clap's says so. `StaleTooSoon`: the
 // run would end for want of an answer before its second cycle is due.
 fn station_asked<'a>(words: &ArgMatches<'a>) -> Asked<'a> {
     let Some(place) = named_place(words) else {
@@ -223,8 +226,8 @@ fn station_asked<'a>(words: &ArgMatches<'a>) -> Asked<'a> {
     let Some(station) = station_of(words) else {
         return Asked::Unnumbered;
     };
-    if station.choice.is_impatient() {
-        return Asked::Impatient;
+    if station.choice.is_stale_too_soon() {
+        return Asked::StaleTooSoon;
     }
     if words.get_flag("check") {
         return Asked::Over(Asking::Outline {
@@ -243,13 +246,13 @@ fn station_asked<'a>(words: &ArgMatches<'a>) -> Asked<'a> {
     })
 }
 
-// A rehearsal. `Unnumbered` and `Impatient` are as for a station.
+// A rehearsal. `Unnumbered` and `StaleTooSoon` are as for a station.
 fn rehearse_asked<'a>(words: &ArgMatches<'a>) -> Asked<'a> {
     let Some(rehearsal) = rehearsal_of(words) else {
         return Asked::Unnumbered;
     };
-    if rehearsal.station.choice.is_impatient() {
-        return Asked::Impatient;
+    if rehearsal.station.choice.is_stale_too_soon() {
+        return Asked::StaleTooSoon;
     }
     Asked::Rehearse(rehearsal)
 }

@@ -11,10 +11,10 @@ form_of_rows Csv = Csv
 form_of_rows Columns = Columns
 form_of_rows Json = Json
 
--- a station with its records as rows of a file, in `form_of_rows`, and without a header, which the file has already
+-- the settings of a station whose records are rows of a file: in `form_of_rows`, and without a header, which the file has already
 abbrev pub appended : Settings → Settings
 appended station = record station { layout = record station.layout { form = form_of_rows station.layout.form; headed = true } }
 
--- a station as a run that began at this moment
+-- the settings of a station whose run began at `run`, in milliseconds since 1970-01-01, UTC
 abbrev pub begun_at : ℕ → Settings → Settings
 begun_at run station = record station { layout = record station.layout { run = run } }

@@ -17,8 +17,8 @@ pub enum Takes {
     Unsigned(u64, u64),
 }
 
-/// A row: the name of an argument, what it takes and what help calls that, its default, the arguments that it needs, those that
-/// it can't stand beside, and its help. What may be missing is a list, which then is empty.
+/// A row: the name of an argument, what it takes and what help calls that, its default, the arguments that it needs, those that it
+/// excludes, and its help. A list is empty if there is no such value.
 #[derive(Clone, Copy)]
 pub struct Argument<'a> {
     pub name: &'a str,
@@ -50,7 +50,7 @@ pub const PLACE: Argument<'static> = Argument {
     ..FLAG
 };
 
-/// The place that the words name. `None`: they name none.
+/// The place that the argument WHERE names. `None`: there is no such argument, or it names no place.
 pub fn named_place<'a>(words: &ArgMatches<'a>) -> Option<Place<'a>> {
     match words.get_str("where") {
         Some(word) => place_of(word),
@@ -83,7 +83,7 @@ pub fn command_of<'a>(
         .args(args)
 }
 
-// The arguments of a table.
+// clap's arguments for the rows of a table, in their order.
 fn args_of<'a>(alloc: Global, table: &[Argument<'a>]) -> Result<Vec<Arg<'a>>, AllocError> {
     let mut args = Vec::new(alloc);
     for row in table {
@@ -92,7 +92,7 @@ fn args_of<'a>(alloc: Global, table: &[Argument<'a>]) -> Result<Vec<Arg<'a>>, Al
     Ok(args)
 }
 
-// The argument of a row.
+// clap's argument for a row: a positional one, or an option.
 fn arg_of<'a>(alloc: Global, row: &Argument<'a>) -> Result<Arg<'a>, AllocError> {
     match row.takes {
         Takes::Positional => Ok(positional_of(alloc, row)),

@@ -9,8 +9,10 @@ use clap::{ArgMatches, Command};
 use gc_rows::Form;
 use std::alloc::{AllocError, Global};
 
-// The options of `station`. A default is in its row alone: clap fills it in.
-// The place comes first, which is no option.
+// A second, in milliseconds: the options `--every` and `--stale` are in seconds.
+const SECOND: u64 = 1_000;
+
+// The arguments of `station`: the place, and then the options. A default is in its row alone: clap fills it in.
 pub(crate) const OPTIONS: &[Argument<'static>] = &[
     PLACE,
     Argument {
@@ -163,30 +165,30 @@ pub struct Choice {
     pub chained: bool,
     /// How far apart the cycles are due. 0: each begins when the one before it is done.
     pub every: u64,
-    /// How many cycles are measured.
+    /// How many cycles are measured. The greatest `u64`: without end.
     pub cycles: u64,
-    /// For how long nothing has to come over a new connection within a run before anything is sent on it, and how long the pause
-    /// before such a connection is.
+    /// How long the station pauses before it reconnects within a run, and for how long nothing may come over the new connection before
+    /// anything is sent on it.
     pub quiet: u64,
-    /// How many times in a row it reconnects.
+    /// How many times in a row it reconnects at most. The greatest `u32`: without end.
     pub retries: u32,
-    /// For how long it goes on without an answer of a good quality. 0: for as long as it takes.
+    /// For how long the run goes on without an answer of quality `ok` or `warning`. 0: without limit.
     pub stale: u64,
-    /// Whether a file is looked for that asks for the end of the run.
+    /// Whether the station looks for a file (`--until`) that asks for the end of the run.
     pub watched: bool,
-    /// Who watches.
+    /// Who watches, and so which signs of life are printed.
     pub watch: Watch,
 }
 
 impl Choice {
-    /// Whether the run would end for want of an answer before its second cycle is due.
-    pub fn is_impatient(self) -> bool {
+    /// Whether the run would end for want of an answer before its second cycle is due: `stale` is a bound, and below `every`.
+    pub fn is_stale_too_soon(self) -> bool {
         self.stale > 0 && self.stale < self.every
     }
 }
 
-/// What the options say, apart from those that name files. `None`: a number is missing, though it has a default; clap fills it
-/// in, but no clause of clap's says so.
+/// The settings of a station that the options ask for, without the paths of files. `None`: a number is missing, though it has a
+/// default; clap fills it in, but no clause of clap's says so.
 pub fn station_of(matches: &ArgMatches) -> Option<Settings> {
     Some(Settings {
         layout: Layout {
@@ -198,11 +200,11 @@ pub fn station_of(matches: &ArgMatches) -> Option<Settings> {
             width: matches.get_one::<u8>("width")?,
             deadline: matches.get_one::<u64>("deadline")?,
             chained: !matches.get_flag("unchained"),
-            every: matches.get_one::<u64>("every")?.saturating_mul(1000),
+            every: matches.get_one::<u64>("every")?.saturating_mul(SECOND),
             cycles: cycles_of(matches.get_one::<u64>("cycles")?),
             quiet: matches.get_one::<u64>("quiet")?,
             retries: retries_of(matches.get_one::<u32>("retries")?),
-            stale: matches.get_one::<u64>("stale")?.saturating_mul(1000),
+            stale: matches.get_one::<u64>("stale")?.saturating_mul(SECOND),
             watched: matches.get_str("until").is_some(),
             watch: if matches.get_flag("silent") {
                 Watch::Nobody

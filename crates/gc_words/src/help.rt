@@ -1,6 +1,6 @@
 //! The texts after the options of `--help`: what a command reads and writes, and the faults.
 
-/// What the help ends with.
+/// What the help of the program as a whole, `geocom --help`, ends with.
 pub const SCENES_AND_FAULTS: &str =
     "The simulated instrument of `exec`, `drill`, `loop` and `serve` has the serial number 123456, the name GEOCOM SIM, and the targets
   target 0.5 1.5 25.125
@@ -201,7 +201,7 @@ The file of --line says what happens, a word a line, each word once; `#` begins 
   lose P          P lines in a hundred are lost, 0 to 100, with at most three decimals
   repeat P        P in a hundred arrive twice, the copy directly behind
   hold P MS       at P in a hundred nothing passes for MS milliseconds, 0 to 86400000
-  close P         at P in a hundred the connection ends, and what is in flight is lost
+  close P         at P in a hundred the connection ends, and what is in flight is lost or, at half of them, arrives later
   refuse P MS     after P of a hundred closes connections are refused for MS milliseconds
   restart P       at P in a hundred requests that arrive the instrument restarts before it executes them
   kill N          the station is killed N times a night, 0 to 1000, at random, and begins again at once as a new run

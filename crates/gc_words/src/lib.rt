@@ -13,7 +13,7 @@ mod version;
 pub use arguments::{Argument, FLAG, PLACE, SCENE, Takes, command_of, named_place};
 pub use choice::{Choice, Watch, station_command, station_of};
 pub use layout::Layout;
-pub use rehearsal::{Rehearsal, rehearsal_of, rehearse_command};
+pub use rehearsal::{DAY, Rehearsal, rehearsal_of, rehearse_command};
 pub use settings::Settings;
 pub use site::{LogPlace, Recording, Site, log_of, recording_of};
 pub use version::VERSION;

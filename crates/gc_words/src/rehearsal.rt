@@ -7,8 +7,8 @@ use crate::settings::Settings;
 use clap::{ArgMatches, Command};
 use std::alloc::{AllocError, Global};
 
-// A day, in milliseconds: a night begins so long after the one before.
-const DAY: u64 = 86_400_000;
+/// A day, in milliseconds: a night begins so long after the one before.
+pub const DAY: u64 = 86_400_000;
 
 // The options of `rehearse` alone.
 const OWN: &[Argument<'static>] = &[
@@ -79,7 +79,7 @@ pub fn rehearse_command<'a>(alloc: Global, name: &'a str) -> Result<Command<'a>,
     )
 }
 
-// The arguments of `rehearse`.
+// The arguments of `rehearse`: its own, and then those of `station` that it shares.
 fn table_of(alloc: Global) -> Result<Vec<Argument<'static>>, AllocError> {
     let mut table = Vec::new(alloc);
     for row in OWN {
@@ -95,12 +95,7 @@ fn table_of(alloc: Global) -> Result<Vec<Argument<'static>>, AllocError> {
 
 // Whether an option of `station` is one of `rehearse`, too.
 fn is_shared(name: &str) -> bool {
-    for shared in SHARED {
-        if *shared == name {
-            return true;
-        }
-    }
-    false
+    SHARED.iter().any(|shared| *shared == name)
 }
 
 /// What is to be rehearsed: the files of the scene and of the line, where they are named, how many nights, with which seed, and the
@@ -115,12 +110,14 @@ pub struct Rehearsal<'a> {
 }
 
 impl<'a> Rehearsal<'a> {
-    /// How many cycles a night has.
+    /// How many cycles a night has: as many as were asked for, or else as many as are due in a day.
     pub fn cycles(&self) -> u64 {
         let choice = self.station.choice;
+        // `station_of` gives this number for 0, which asks for as many cycles as are due.
         if choice.cycles != u64::MAX {
             return choice.cycles;
         }
+        // clap refuses 0 seconds for `--every`, though no clause of clap's says so.
         if choice.every == 0 {
             return 0;
         }

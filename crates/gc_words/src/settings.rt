@@ -16,9 +16,9 @@ pub struct Settings {
 }
 
 impl Settings {
-    /// These settings, with a status line below the signs of life if the messages go to a terminal, unless no signs of life are
-    /// asked for.
-    pub fn watched(self, at_terminal: bool) -> Settings {
+    /// These settings, with a status line below the signs of life if the messages go to a terminal (`at_terminal`), unless the choice
+    /// has no signs of life.
+    pub fn with_status_line(self, at_terminal: bool) -> Settings {
         let mut station = self;
         if at_terminal && self.choice.watch == Watch::Lines {
             station.choice.watch = Watch::Terminal;

@@ -30,7 +30,7 @@ pub struct LogPlace<'a> {
     pub most: u64,
 }
 
-/// The log that the words of `station` ask for, if they ask for one.
+/// The log that the words of `station` ask for, if they ask for one. Without `--log-bytes` it has no bound.
 pub fn log_of<'a>(words: &ArgMatches<'a>) -> Option<LogPlace<'a>> {
     match words.get_str("log") {
         Some(path) => Some(LogPlace {

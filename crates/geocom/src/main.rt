@@ -1,4 +1,4 @@
-//! The program `geocom`: it looks which standard streams are open, and hands these, its words and the net to `gc_console`.
+//! The program `geocom`: it checks which standard streams are open, and hands these, its words and the net to `gc_console`.
 #![tactic(auto)]
 
 use gc_console::{Standard, Streams, run_program};

@@ -2,7 +2,7 @@ use Rattle.std.specs.Option.{is_some}
 use Rattle.std.proofs.Common.{inl, inr, refl, false, Err, Some, sym, ap, ◌∙◌}
 use Rattle.std.proofs.lemmas.Result.{IfOk-weaker}
 use Rattle.gc_measuring.specs.declared.stop.Stop.TheVariants.{Run}
-use Rattle.gc_measuring.proofs.Unbegun.{none_is_lost, sink_is_as_it_was}
+use Rattle.gc_measuring.proofs.Unbegun.{logged_if_none_lost, sink_is_as_it_was}
 use Rattle.gc_measuring.proofs.station.measure_at.Goals as goal
 
 pub returns-in-Err-clause-told : goal.returns-in-Err-clause-told
@@ -13,7 +13,7 @@ returns-in-Err-clause-told g c =
       between = c.args.streams.messages;
       behind = c.report_counts-ended.new.messages;
       is_lost = false;
-      logged = none_is_lost _;
+      logged = logged_if_none_lost _;
       ran = inr (c.in-Err.fault, refl, c.in-Err.ensures.fault, refl, refl, refl, refl, refl);
       fails = sink_is_as_it_was _ _ _ c.in-Err.ensures.fault;
       counts = told;
@@ -29,7 +29,7 @@ returns-in-None-clause-told g c =
       between = t.between;
       behind = c.measure_over-streams.result.0.messages;
       is_lost = false;
-      logged = none_is_lost _;
+      logged = logged_if_none_lost _;
       ran = inl (record {
         told = c.measure_over-streams.new.link.link.history.acts;
         is = ap (λ l. Some l.history.acts) c.into_link.ensures;
