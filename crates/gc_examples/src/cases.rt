@@ -21,7 +21,7 @@ use std::io;
 use texts::Texts;
 use world::World;
 
-/// Plays the cases of a folder, and says whether each came to what it expects.
+/// Plays the cases of a folder, prints what differs from what a case expects, and returns whether nothing does.
 pub fn play_cases(rt: &HostRuntime, folder: &str) -> io::Result<bool> {
     let mut are_right = play_folder(rt, folder, ".engines", &Engines)?;
     are_right &= play_folder(rt, folder, ".failing", &Failing)?;

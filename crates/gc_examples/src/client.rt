@@ -1,5 +1,4 @@
-//! The client's parts, once: a window on the heap, and a client that takes no memory. Each function says whether all came as it
-//! should.
+//! The client's parts, once: a window on the heap, and a client that takes no memory.
 
 use crate::outcome::Outcome;
 use arrayvec::ArrayVec;
@@ -8,7 +7,7 @@ use gc_client::{Client, Heard, Hearing, Outcome as End, Ring, Settlement, Slots,
 use gc_lines::{Line, LineFault, append};
 use std::alloc::Global;
 
-/// A ring is made, and is an empty window.
+/// Makes a ring: `Exact` if it is an empty window, `NoMemory` if memory ran out for it, and else `Other`.
 pub fn ring(alloc: Global) -> Outcome {
     match Ring::new(alloc) {
         Ok(ring) => Outcome::of_answer(ring.len() == 0),
@@ -16,8 +15,8 @@ pub fn ring(alloc: Global) -> Outcome {
     }
 }
 
-/// Each method of a client with `Slots`, none of which takes memory: two requests are sent, the first times out, and its
-/// reply is late; then the second is lost with a restart.
+/// Calls each method of a client with `Slots`, none of which takes memory: two requests are sent, the first times out, and its
+/// reply is late; then the second is lost with a restart. Returns `Exact` if all came as it should, and else `Other`.
 pub fn client() -> Outcome {
     let mut client = Client::new(Slots::new());
     Outcome::of_answer(
@@ -49,7 +48,7 @@ fn hears_replies(client: &mut Client<Slots>) -> bool {
         return false;
     };
     let mut settled = ArrayVec::new();
-    ends(late.as_slice(), 1, Call::NullProc, End::Late)
+    is_only_settlement(late.as_slice(), 1, Call::NullProc, End::Late)
         && client.hear(reply.as_slice(), &mut settled) == Hearing::Stray
         && client.hear(b"hello", &mut settled) == Hearing::Unread(LineFault::Signature)
 }
@@ -59,12 +58,12 @@ fn restarts(client: &mut Client<Slots>) -> bool {
     let waiting = (client.waiting(), client.next_id());
     let lost = client.restart();
     waiting == (1, 2)
-        && ends(lost.as_slice(), 2, Call::InstrumentNo, End::Lost)
+        && is_only_settlement(lost.as_slice(), 2, Call::InstrumentNo, End::Lost)
         && (client.waiting(), client.next_id()) == (0, 0)
 }
 
-// Whether these are exactly one settlement, with this target, call and outcome.
-fn ends(settled: &[Settlement<Call>], target: u32, call: Call, outcome: End) -> bool {
+// Whether `settled` is exactly one settlement, with this target, call and outcome.
+fn is_only_settlement(settled: &[Settlement<Call>], target: u32, call: Call, outcome: End) -> bool {
     let wanted = Settlement {
         target,
         call,

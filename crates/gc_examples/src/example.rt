@@ -9,11 +9,12 @@ use std::{fs, io};
 pub struct Example {
     /// The engine, and its input.
     pub setup: Setup,
+    /// What the engine has to write.
     pub expected: Vec<u8>,
 }
 
 impl Example {
-    /// Reads the example whose input has this name. `None`: no input has such a name.
+    /// Reads the example whose input is the file of this name. `None`: no input has such a name. The error: one of its files can't be read.
     pub fn find(rt: &HostRuntime, name: &str) -> io::Result<Option<Example>> {
         match parts_of(name) {
             Some((engine, stem, ending)) => Ok(Some(read(rt, engine, name, stem, ending)?)),
@@ -21,8 +22,8 @@ impl Example {
         }
     }
 
-    /// In which pieces the input gives another output than the expected one: whole, in single bytes, or cut in two somewhere.
-    /// Empty: it gives the expected output in any of them.
+    /// In words, in which pieces the input gives another output than the expected one: whole, in single bytes, or cut in two
+    /// somewhere. Empty if it gives the expected output in all of them.
     pub fn fault(&self, alloc: Global) -> &'static str {
         let whole = self.setup.run(alloc, &[]);
         if !whole.wrote(self.expected.as_slice()) {
@@ -32,7 +33,7 @@ impl Example {
     }
 }
 
-// The engine of an input's name, the name's stem, and how the name of the output ends.
+// The engine of an input's name, the name's stem, and how the name of the output ends. `None`: no input has such a name.
 fn parts_of(name: &str) -> Option<(Engine, &str, &'static str)> {
     let (stem, ending) = name.split_once('.')?;
     match ending {
@@ -45,7 +46,7 @@ fn parts_of(name: &str) -> Option<(Engine, &str, &'static str)> {
     }
 }
 
-// Reads the two files of an example, and the scene of one that a scene's instrument answers.
+// Reads an example: `input`, the file `STEM` and `ending` with its output, and, if a scene's instrument answers it, the scene `STEM.scene`.
 fn read(
     rt: &HostRuntime,
     engine: Engine,

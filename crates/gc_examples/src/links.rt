@@ -7,7 +7,8 @@ use gc_probes::{PieceSink, PieceSource, Pipe};
 use gc_texts::RunFault;
 use std::alloc::Global;
 
-/// Asks two commands over a link that gives a stray and then the two answers.
+/// Asks two commands over a link that gives a stray and then the two answers. Returns `Exact` if both requests
+/// were sent and both answers written, `NoMemory` or `PortLacksMemory` if memory ran out, and else `Other`.
 pub fn ask(alloc: Global) -> Outcome {
     let sent = b"%R1Q,5003,0:\r\n%R1Q,0,1:\r\n";
     let told = b"0 7 answered %R1P,0,0:0,123456\n1 8 answered %R1P,0,1:0\n";
@@ -31,7 +32,8 @@ pub fn ask(alloc: Global) -> Outcome {
     }
 }
 
-/// Loops three commands over two pipes. Where memory ran out the pipes have to be empty: nothing was sent.
+/// Asks three commands of the simulator over two pipes, and returns `Exact` if the three answers were written, `NoMemory` or
+/// `PortLacksMemory` if memory ran out, and else `Other`. With `NoMemory` the pipes are empty, because nothing was sent.
 pub fn loop_commands(alloc: Global) -> Outcome {
     let told =
         b"0 7 answered %R1P,0,0:0,123456\n1 8 answered %R1P,0,1:0\n2 9 answered %R1P,0,2:0,1\n";

@@ -19,19 +19,20 @@ use once::play_once;
 use std::process::ExitCode;
 use std::{env, io};
 
-// Plays each example of the folder whole and in all cuts, and says whether each gave what was expected.
+// Plays each example of the folder whole and in all cuts, prints a line for each, and returns whether each gave what was expected.
 fn play_cuts(rt: &HostRuntime, names: &[String]) -> io::Result<bool> {
     let mut is_right = true;
     for name in names {
         if let Some(example) = Example::find(rt, name.as_str())? {
-            is_right &= tell_cuts(rt, name.as_str(), example.fault(rt.alloc()))?;
+            is_right &= print_cuts(rt, name.as_str(), example.fault(rt.alloc()))?;
         }
     }
     Ok(is_right)
 }
 
-// Prints the line of an example, and says whether there is no fault.
-fn tell_cuts(rt: &HostRuntime, name: &str, fault: &str) -> io::Result<bool> {
+// Prints the line of an example. `fault` is empty if the example gave what was expected in all cuts, and otherwise says in which pieces
+// it didn't. Returns whether `fault` is empty.
+fn print_cuts(rt: &HostRuntime, name: &str, fault: &str) -> io::Result<bool> {
     if fault.is_empty() {
         println!(rt; "{name}: as expected, whole and in all cuts")?;
         return Ok(true);
@@ -40,13 +41,14 @@ fn tell_cuts(rt: &HostRuntime, name: &str, fault: &str) -> io::Result<bool> {
     Ok(false)
 }
 
-// Plays the examples, whole, cut and once, and the cases. The status is 1 where anything came otherwise than expected.
+// Plays the examples, whole, cut and once, and the cases; with the word `once` only the examples, once. The status is 1 if anything
+// gave another output than the expected one.
 fn main(rt: HostRuntime) -> io::Result<ExitCode> {
     let words: Vec<String> = env::args(&rt)?.collect(rt.alloc())?;
     let names = names_of(&rt, ".", "")?;
     let is_once = words.get(1).is_some_and(|word| word.as_str() == "once");
-    let are_cut = is_once || play_cuts(&rt, names.as_slice())?;
-    let are_right = play_once(&rt, names.as_slice())?;
-    let are_cases = is_once || play_cases(&rt, "cases")?;
-    Ok(ExitCode::from(u8::from(!(are_cut && are_right && are_cases))))
+    let are_cuts_right = is_once || play_cuts(&rt, names.as_slice())?;
+    let is_once_right = play_once(&rt, names.as_slice())?;
+    let are_cases_right = is_once || play_cases(&rt, "cases")?;
+    Ok(ExitCode::from(u8::from(!(are_cuts_right && is_once_right && are_cases_right))))
 }

@@ -11,7 +11,7 @@ pub enum Outcome {
     Exact,
     /// Memory ran out, and nothing was sent or written.
     NoMemory,
-    /// The fault of a port of the tests that couldn't store what it was given.
+    /// A port of the tests ran out of memory for what it was given.
     PortLacksMemory,
     /// Anything else.
     Other,
@@ -30,7 +30,9 @@ impl fmt::Display for Outcome {
 }
 
 impl Outcome {
-    /// The outcome of a run that should have written this, by its end and what the sink took.
+    /// The outcome of a run that should have written `expected`, by how it ended and what the sink took: `Exact` if it ended well with
+    /// `expected`; `NoMemory` if memory ran out before it wrote; `PortLacksMemory` if memory ran out for the sink, after a first part of
+    /// `expected`; and else `Other`.
     pub fn of(end: Result<(), RunFault>, sink: &PieceSink, expected: &[u8]) -> Outcome {
         match end {
             Ok(()) if sink.taken() == expected => Outcome::Exact,
@@ -42,7 +44,7 @@ impl Outcome {
         }
     }
 
-    /// The outcome of a call that answered, rightly or not.
+    /// The outcome of a call that gave an answer: `Exact` if it is right, and otherwise `Other`.
     pub fn of_answer(is_right: bool) -> Outcome {
         if is_right {
             Outcome::Exact

@@ -19,12 +19,13 @@ use Rattle.gc_texts.specs.Logs.{escaped}
 use Rattle.gc_texts.specs.declared.wish.Wish.{Wish}
 use Rattle.gc_texts.specs.declared.quality.Quality.{Quality}
 use Rattle.gc_texts.specs.declared.quality.Quality.TheVariants as quality
-use Rattle.gc_rows.specs.JsonLines.{Member, Text, Number, Texts, ending_members, item_members, answer_members, quantity_members, attempt_members, sent_members, values_members, what_members, without_zeros, worded_members}
+use Rattle.gc_rows.specs.JsonLines.{Member, Text, Number, Texts, ending_members, item_members, answer_members, quantity_members, attempt_members, sent_members, values_members, command_members, without_zeros, quality_members}
 use Rattle.gc_rows.specs.Items.{split_items}
 use Rattle.gc_rows.specs.Laws.{members_read, texts_read}
 use Rattle.gc_rows.specs.Quantities.{column_of, quantity_names}
 use Rattle.gc_rows.specs.Rows.{code_of, com_of, moment_text, procedure_of, values_of}
 use Rattle.gc_rows.specs.declared.when.When.{When}
+use Rattle.gc_world.proofs.Options.{some_is}
 use Rattle.gc_promise.specs.Objects.{text_of}
 use Rattle.gc_promise.proofs.Plain.{moment_plain}
 
@@ -65,14 +66,14 @@ find_both key (Texts name texts ∷ xs) ys =
 abbrev pub LacksAll : List Member → List (List ℕ) → Type 0
 LacksAll ms keys = AllByRecursion (λ (key : List ℕ). find key ms ≡ None) keys
 
--- the names of members of a record that aren't quantities
-abbrev pub firsts : List (List ℕ)
-firsts = codes "cycle" ∷ codes "place" ∷ codes "target" ∷ codes "procedure" ∷ codes "outcome" ∷ codes "rc_com" ∷ codes "rc" ∷ codes "values" ∷ codes "sent" ∷ []
+-- the names under which something is looked up among the members of a record before those for quantities
+abbrev pub early_names : List (List ℕ)
+early_names = codes "cycle" ∷ codes "place" ∷ codes "target" ∷ codes "procedure" ∷ codes "outcome" ∷ codes "rc_com" ∷ codes "rc" ∷ codes "values" ∷ codes "sent" ∷ []
 
--- no member for a quantity of this answer has one of the names of `firsts`. `came` are the parameters of the reply, as its line
+-- no member for a quantity of this answer has one of the names of `early_names`. `came` are the parameters of the reply, as its line
 -- has them
 abbrev IsApart : Call → Answer → List ℕ → Type 0
-IsApart call answer came = LacksAll (values_members (column_of call answer) (answer_fields answer).values came) firsts
+IsApart call answer came = LacksAll (values_members (column_of call answer) (answer_fields answer).values came) early_names
 
 -- `IsApart` holds of an answer that is a whole number
 long_apart : (call : Call) (n : ℤ) (came : List ℕ) → IsApart call (Long n) came
@@ -95,18 +96,18 @@ answer_apart call (Angles hz v) came = (refl, (refl, (refl, (refl, (refl, (refl,
 answer_apart call (Measured hz v distance) came = (refl, (refl, (refl, (refl, (refl, (refl, (refl, (refl, (refl, tt)))))))))
 answer_apart call (MeasuredMode hz v distance mode) came = (refl, (refl, (refl, (refl, (refl, (refl, (refl, (refl, (refl, tt)))))))))
 
--- the member for a reply's items has none of the names of `firsts`
-items_apart : (items : Option (List (List ℕ))) → LacksAll (item_members items) firsts
+-- the member for a reply's items has none of the names of `early_names`
+items_apart : (items : Option (List (List ℕ))) → LacksAll (item_members items) early_names
 items_apart None = (refl, (refl, (refl, (refl, (refl, (refl, (refl, (refl, (refl, tt)))))))))
 items_apart (Some texts) = (refl, (refl, (refl, (refl, (refl, (refl, (refl, (refl, (refl, tt)))))))))
 
--- no member for an answer's quantity or items has one of the names of `firsts`
-columns_apart : (asked : Asked) (answer : Answer) (line : List ℕ) → LacksAll (answer_members asked answer line) firsts
+-- no member for an answer's quantity or items has one of the names of `early_names`
+columns_apart : (asked : Asked) (answer : Answer) (line : List ℕ) → LacksAll (answer_members asked answer line) early_names
 columns_apart (Table call) answer line = answer_apart call answer (values_of line)
 columns_apart (Raw raw) answer line = items_apart (split_items (values_of line))
 
--- no member for a quantity or for items has one of the names of `firsts`
-pub quantities_apart : (call : Asked) (end : End) → LacksAll (quantity_members call end) firsts
+-- no member for a quantity or for items has one of the names of `early_names`
+pub quantities_apart : (call : Asked) (end : End) → LacksAll (quantity_members call end) early_names
 quantities_apart call (Answered quality (Some answer) line) = columns_apart call answer line
 quantities_apart call (Answered quality None line) = (refl, (refl, (refl, (refl, (refl, (refl, (refl, (refl, (refl, tt)))))))))
 quantities_apart call (Unreadable line fault) = (refl, (refl, (refl, (refl, (refl, (refl, (refl, (refl, (refl, tt)))))))))
@@ -116,12 +117,13 @@ quantities_apart call Lost = (refl, (refl, (refl, (refl, (refl, (refl, (refl, (r
 quantities_apart call Skipped = (refl, (refl, (refl, (refl, (refl, (refl, (refl, (refl, (refl, tt)))))))))
 quantities_apart call Missed = (refl, (refl, (refl, (refl, (refl, (refl, (refl, (refl, (refl, tt)))))))))
 
--- the member for a quality has none of the names of `firsts`, and no name of a quantity
-pub worded_apart : (word : List ℕ) → LacksAll (worded_members word) firsts
+-- the member for a quality has none of the names of `early_names`
+pub worded_apart : (word : List ℕ) → LacksAll (quality_members word) early_names
 worded_apart [] = (refl, (refl, (refl, (refl, (refl, (refl, (refl, (refl, (refl, tt)))))))))
 worded_apart (b ∷ bs) = (refl, (refl, (refl, (refl, (refl, (refl, (refl, (refl, (refl, tt)))))))))
 
-pub worded_without : (word : List ℕ) → LacksAll (worded_members word) quantity_names
+-- the member for a quality has no name of a quantity
+pub worded_without : (word : List ℕ) → LacksAll (quality_members word) quantity_names
 worded_without [] =
     (refl, (refl, (refl, (refl, (refl, (refl, (refl, (refl, (refl, (refl, (refl, (refl, (refl, (refl, (refl, (refl, (refl, (refl, (refl, (refl, (refl, (refl, (refl, (refl, tt))))))))))))))))))))))))
 worded_without (b ∷ bs) =
@@ -133,8 +135,8 @@ lacks_both xs ys [] a b = tt
 lacks_both xs ys (key ∷ keys) a b =
     (find_both key xs ys ∙ ap (λ (o : Option json.Json). later_or o (find key xs)) b.0 ∙ ap (later_or None) a.0, lacks_both xs ys keys a.1 b.1)
 
--- the attempt has none of the names of `firsts`
-pub attempt_apart : (when : When) → LacksAll (attempt_members when) firsts
+-- the attempt has none of the names of `early_names`
+pub attempt_apart : (when : When) → LacksAll (attempt_members when) early_names
 attempt_apart when = (refl, (refl, (refl, (refl, (refl, (refl, (refl, (refl, (refl, tt)))))))))
 
 -- the attempt has no name of a quantity
@@ -150,35 +152,39 @@ items_without (Some texts) =
     (refl, (refl, (refl, (refl, (refl, (refl, (refl, (refl, (refl, (refl, (refl, (refl, (refl, (refl, (refl, (refl, (refl, (refl, (refl, (refl, (refl, (refl, (refl, (refl, tt))))))))))))))))))))))))
 
 -- the word of a quality is found under `quality`, if there is one
-pub worded_found : (o : Option Quality) → text_of (find (codes "quality") (worded_members (quality_text o))) ≡ quality_text o
+pub worded_found : (o : Option Quality) → text_of (find (codes "quality") (quality_members (quality_text o))) ≡ quality_text o
 worded_found (Some quality.Fine) = refl
 worded_found (Some quality.Warning) = refl
 worded_found (Some quality.Refused) = refl
 worded_found None = refl
 
--- no member for a quantity or for items has the name `quality`
+-- no member for a whole number that answers a call has the name `quality`
 long_unqualified : (call : Call) (n : ℤ) (came : List ℕ) → find (codes "quality") (values_members (column_of call (Long n)) (answer_fields (Long n)).values came) ≡ None
 long_unqualified GetFace n came = refl
 long_unqualified GetPrism n came = refl
 long_unqualified call n came = refl
 
+-- no member for an answer's quantities has the name `quality`
 answer_unqualified : (call : Call) (answer : Answer) (came : List ℕ) → find (codes "quality") (values_members (column_of call answer) (answer_fields answer).values came) ≡ None
 answer_unqualified call (Long n) came = long_unqualified call n came
 answer_unqualified call answer came = refl
 
+-- the member for a reply's items hasn't the name `quality`
 items_unqualified : (items : Option (List (List ℕ))) → find (codes "quality") (item_members items) ≡ None
 items_unqualified None = refl
 items_unqualified (Some texts) = refl
 
+-- no member for an answer's quantities or items has the name `quality`
 columns_unqualified : (asked : Asked) (answer : Answer) (line : List ℕ) → find (codes "quality") (answer_members asked answer line) ≡ None
 columns_unqualified (Table call) answer line = answer_unqualified call answer (values_of line)
 columns_unqualified (Raw raw) answer line = items_unqualified (split_items (values_of line))
 
+-- no member for a quantity or for items has the name `quality`, however the command ended
 pub quantities_unqualified : (call : Asked) (end : End) → find (codes "quality") (quantity_members call end) ≡ None
 quantities_unqualified call (Answered quality (Some answer) line) = columns_unqualified call answer line
 quantities_unqualified call end = refl
 
--- no member on how a command ended, on the command, or on when has the name `quality`
+-- no member on how a command ended has the name `quality`
 pub ending_unqualified : (end : End) → find (codes "quality") (ending_members end) ≡ None
 ending_unqualified (Answered quality answer line) = refl
 ending_unqualified (Unreadable line fault) = refl
@@ -188,10 +194,12 @@ ending_unqualified Lost = refl
 ending_unqualified Skipped = refl
 ending_unqualified Missed = refl
 
-pub what_unqualified : (command : Wish) (name : List ℕ) → find (codes "quality") (what_members command name) ≡ None
+-- no member on a command has the name `quality`
+pub what_unqualified : (command : Wish) (name : List ℕ) → find (codes "quality") (command_members command name) ≡ None
 what_unqualified command [] = refl
 what_unqualified command (b ∷ bs) = refl
 
+-- no member on when and where has the name `quality`
 pub moment_unqualified : (sent : Option ℕ) (time cycle place : List ℕ)
     → find (codes "quality") (sent_members sent ++ (Text (codes "time") time ∷ Number (codes "cycle") cycle ∷ Number (codes "place") place ∷ [])) ≡ None
 moment_unqualified None time cycle place = refl
@@ -225,12 +233,12 @@ ending_without Missed =
     (refl, (refl, (refl, (refl, (refl, (refl, (refl, (refl, (refl, (refl, (refl, (refl, (refl, (refl, (refl, (refl, (refl, (refl, (refl, (refl, (refl, (refl, (refl, (refl, tt))))))))))))))))))))))))
 
 -- no member on a command has the name `cycle`, `place` or `sent`
-pub what_apart : (command : Wish) (name : List ℕ) → LacksAll (what_members command name) (codes "cycle" ∷ codes "place" ∷ codes "sent" ∷ [])
+pub what_apart : (command : Wish) (name : List ℕ) → LacksAll (command_members command name) (codes "cycle" ∷ codes "place" ∷ codes "sent" ∷ [])
 what_apart command [] = (refl, (refl, (refl, tt)))
 what_apart command (b ∷ bs) = (refl, (refl, (refl, tt)))
 
 -- no member on a command has the name of a quantity
-pub what_without : (command : Wish) (name : List ℕ) → LacksAll (what_members command name) quantity_names
+pub what_without : (command : Wish) (name : List ℕ) → LacksAll (command_members command name) quantity_names
 what_without command [] =
     (refl, (refl, (refl, (refl, (refl, (refl, (refl, (refl, (refl, (refl, (refl, (refl, (refl, (refl, (refl, (refl, (refl, (refl, (refl, (refl, (refl, (refl, (refl, (refl, tt))))))))))))))))))))))))
 what_without command (b ∷ bs) =
@@ -263,8 +271,8 @@ sent_found (Some utc) time cycle place = moment_plain (Some utc)
 
 -- the target and the procedure are found among the members on a command
 pub what_found : (command : Wish) (name : List ℕ)
-    → (find (codes "target") (what_members command name) ≡ Some (json.number (decimal command.target)))
-    × (find (codes "procedure") (what_members command name) ≡ Some (json.number (decimal (procedure_of command.call))))
+    → (find (codes "target") (command_members command name) ≡ Some (json.number (decimal command.target)))
+    × (find (codes "procedure") (command_members command name) ≡ Some (json.number (decimal (procedure_of command.call))))
 what_found command [] = (refl, refl)
 what_found command (b ∷ bs) = (refl, refl)
 
@@ -284,15 +292,11 @@ pub record IsFound (ms : List Member) (line : List ℕ) : Type 0 where
   pub rc : find (codes "rc") ms ≡ Some (json.number (without_zeros (code_of line)))
   pub values : find (codes "values") ms ≡ Some (json.string (escaped (values_of line)))
 
--- two lines are equal where `Some` of the one equals `Some` of the other
-some_line : (x y : List ℕ) → Some x ≡ Some y → x ≡ y
-some_line x y e = cc
-
 -- the codes and parameters of the line that ended a command are found among the members on its ending
 pub line_found : (end : End) (line : List ℕ) → line_of end ≡ Some line → IsFound (ending_members end) line
-line_found (Answered quality answer l) line e = subst (IsFound (ending_members (Answered quality answer l))) (some_line l line e) (record { rc_com = refl; rc = refl; values = refl })
-line_found (Unreadable l fault) line e = subst (IsFound (ending_members (Unreadable l fault))) (some_line l line e) (record { rc_com = refl; rc = refl; values = refl })
-line_found (Elsewhere l) line e = subst (IsFound (ending_members (Elsewhere l))) (some_line l line e) (record { rc_com = refl; rc = refl; values = refl })
+line_found (Answered quality answer l) line e = subst (IsFound (ending_members (Answered quality answer l))) (some_is l line e) (record { rc_com = refl; rc = refl; values = refl })
+line_found (Unreadable l fault) line e = subst (IsFound (ending_members (Unreadable l fault))) (some_is l line e) (record { rc_com = refl; rc = refl; values = refl })
+line_found (Elsewhere l) line e = subst (IsFound (ending_members (Elsewhere l))) (some_is l line e) (record { rc_com = refl; rc = refl; values = refl })
 line_found Late line e = cc
 line_found Lost line e = cc
 line_found Skipped line e = cc

@@ -19,29 +19,29 @@ use Rattle.gc_words.specs.declared.layout.Layout.{Layout}
 use Rattle.gc_measuring.specs.Measuring.{when_of, text_in}
 
 -- bytes that end in a line feed
-record Ends (xs : List ℕ) : Type 0 where
+record EndsInLineFeed (xs : List ℕ) : Type 0 where
   some : has_feed xs ≡ true
   is : whole xs ≡ xs
 
 -- bytes that end in a line feed still do so whatever comes before them
-more : (xs ys : List ℕ) → Ends ys → Ends (xs ++ ys)
+more : (xs ys : List ℕ) → EndsInLineFeed ys → EndsInLineFeed (xs ++ ys)
 more xs ys ends = record { some = feed_behind xs ys ends.some; is = whole_behind xs ys ends.some ∙ ap (λ (l : List ℕ). xs ++ l) ends.is }
 
 -- a line feed alone ends in a line feed
-feed : Ends (codes "\n")
+feed : EndsInLineFeed (codes "\n")
 feed = record { some = refl; is = refl }
 
 -- the end of an object ends in a line feed
-brace : Ends (codes "}\n")
+brace : EndsInLineFeed (codes "}\n")
 brace = record { some = refl; is = refl }
 
 -- a row ends in a line feed
-row : (fields : List (List ℕ)) → Ends (row_of fields)
+row : (fields : List (List ℕ)) → EndsInLineFeed (row_of fields)
 row [] = feed
 row (first ∷ others) = more (field_text first ++ behind_commas others) (codes "\n") feed
 
 -- the text of a record ends in a line feed, in each form
-record_ends : (form : Form) (when : When) (name : List ℕ) (command : Wish) (end : End) → Ends (record_text form when name command end)
+record_ends : (form : Form) (when : When) (name : List ℕ) (command : Wish) (end : End) → EndsInLineFeed (record_text form when name command end)
 record_ends Lines when name command end =
     more (stamp_text when.stamp.utc ++ codes " " ++ decimal when.stamp.turn.place ++ codes " " ++ decimal command.target ++ ending_text end) (codes "\n") feed
 record_ends Csv when name command end = row (row_fields false when name command end)

@@ -36,14 +36,14 @@ use Rattle.gc_field.specs.Instrument as instrument
 use Rattle.gc_field.specs.Shown.{AreShownAs, shown}
 use Rattle.gc_field.specs.Witness.{at, replies}
 use Rattle.gc_field.proofs.Witness.{asked_each, run_on, units}
-use Rattle.gc_promise.specs.Eventful.{IsEventful, acts, anew_acts, anew_turns, before, begins_acts, begins_turns, breaks_acts, breaks_moves}
+use Rattle.gc_promise.specs.Eventful.{IsEventful, acts, anew_acts, anew_turns, at_start, begins_acts, begins_turns, breaks_acts, breaks_moves}
 use Rattle.gc_promise.specs.Eventful.{chain_acts, chain_moves, commands, first_stretch, front, last_stretch, left, plan, pointed, records, reporting, runs, scope, tally}
 use Rattle.gc_promise.proofs.TrueReadings.{patched, patched_same}
 use Rattle.gc_field.proofs.Once.{true_is_not}
 
 -- `reporting` is an instrument
-is : IsAnInstrument reporting AnyState instrument.nothing
-is =
+reporting_is : IsAnInstrument reporting AnyState instrument.nothing
+reporting_is =
     record {
       hears = λ line. refl;
       replies = λ s id call good small. ap id_in (reply_back (record { rc_com = 0; id = Some id; rc = 0; params = s }) (record { rc_com = lit< tt; id = small; rc = lit< tt }));
@@ -88,7 +88,7 @@ all_parts =
     ∷ []
 
 -- what the line does in the first synchronization shows these turns
-begins_are : shown reporting begins_turns (begins before) ≡ begins_shown
+begins_are : shown reporting begins_turns (begins at_start) ≡ begins_shown
 unfolding is_elsewhere is_near header_at reply_at digits rounded
 begins_are = refl
 
@@ -100,7 +100,7 @@ anew_are = refl
 -- What happens on the line is possible.
 
 -- the turns of the first synchronization are possible
-begins_possible : AreTurns reporting AnyState instrument.nothing begins_turns (begins before)
+begins_possible : AreTurns reporting AnyState instrument.nothing begins_turns (begins at_start)
 unfolding is_elsewhere is_near header_at reply_at digits rounded
 begins_possible = (tt, (refl, (tt, (tt, (tt, (tt, (tt, (tt, (tt, (tt, (tt, (tt, ((tt, refl), units 24)))))))))))))
 
@@ -163,86 +163,86 @@ made = record { front = take 3 breaks_moves; later = drop 4 breaks_moves; split 
 
 module _ (reads : Asked → List ℕ → Reading) where
   -- the scope in which `patched` says what replies say
-  abbrev told : Scope
-  told = scope (patched reads)
+  abbrev patched_scope : Scope
+  patched_scope = scope (patched reads)
 
   -- after the earlier acts, the later ones are a run
-  abbrev RunsBehind : List Act → List Act → Type 0
-  RunsBehind earlier later = Runs plan commands (state_after plan commands told earlier) later
+  abbrev RunsAfter : List Act → List Act → Type 0
+  RunsAfter earlier later = Runs plan commands (state_after plan commands patched_scope earlier) later
 
   -- the acts until the second connection is made are a run
-  begins_runs : RunsBehind [] (take 16 begins_acts)
+  begins_runs : RunsAfter [] (take 16 begins_acts)
   unfolding is_elsewhere is_near header_at reply_at digits rounded
   begins_runs = (tt, (tt, (tt, (tt, (refl, (tt, (refl, (tt, (tt, (tt, (refl, (tt, (tt, (tt, (refl, (tt, tt))))))))))))))))
 
   -- after the acts until the second connection is made, those by which all eight null procedures are answered are a run
-  answers_eight : RunsBehind (take 16 begins_acts) (drop 16 begins_acts)
+  answers_eight : RunsAfter (take 16 begins_acts) (drop 16 begins_acts)
   unfolding is_elsewhere is_near header_at reply_at digits rounded
   answers_eight =
       (refl, (tt, (tt, (refl, (tt, (tt, (refl, (tt, (tt, (refl, (tt, (tt, (refl, (tt, (tt, (refl, (tt, (tt, (refl, (tt, (tt, (refl, (tt, (tt, tt))))))))))))))))))))))))
 
   -- after the synchronization, the acts until command 1 is skipped are a run
-  breaks_runs : RunsBehind begins_acts (take 8 breaks_acts)
+  breaks_runs : RunsAfter begins_acts (take 8 breaks_acts)
   unfolding is_elsewhere is_near header_at reply_at digits rounded
   breaks_runs = (tt, (refl, (tt, (tt, (refl, (tt, (tt, (tt, tt))))))))
 
   -- after the acts until command 1 is skipped, those until seven requests have timed out are a run
-  gives_up_runs : RunsBehind (begins_acts ++ take 8 breaks_acts) (drop 8 breaks_acts)
+  gives_up_runs : RunsAfter (begins_acts ++ take 8 breaks_acts) (drop 8 breaks_acts)
   unfolding is_elsewhere is_near header_at reply_at digits rounded
   gives_up_runs =
       (refl, (tt, (refl, (tt, (refl, (tt, (refl, (tt, (refl, (tt, (tt, (refl, (tt, (tt, (refl, (tt, (tt, (refl, (tt, (tt, (tt, (refl, (tt, (tt, (tt, tt)))))))))))))))))))))))))
 
   -- after the acts until seven requests have timed out, those until the fourth connection is made are a run
-  anew_runs : RunsBehind front (take 16 anew_acts)
+  anew_runs : RunsAfter front (take 16 anew_acts)
   unfolding is_elsewhere is_near header_at reply_at digits rounded
   anew_runs = (tt, (refl, (tt, (tt, (refl, (tt, (tt, (refl, (tt, (tt, (refl, (tt, (tt, (tt, (refl, (tt, tt))))))))))))))))
 
   -- after the acts until the fourth connection is made, those by which the other six null procedures are answered are a run
-  answers_six : RunsBehind (front ++ take 16 anew_acts) (drop 16 anew_acts)
+  answers_six : RunsAfter (front ++ take 16 anew_acts) (drop 16 anew_acts)
   unfolding is_elsewhere is_near header_at reply_at digits rounded
   answers_six = (refl, (tt, (tt, (refl, (tt, (tt, (refl, (tt, (tt, (refl, (tt, (tt, (refl, (tt, (tt, (refl, (tt, (tt, tt))))))))))))))))))
 
   -- after the new synchronization, the acts by which the second cycle is missed and the third begins are a run
-  misses_runs : RunsBehind (front ++ anew_acts) (take 9 chain_acts)
+  misses_runs : RunsAfter (front ++ anew_acts) (take 9 chain_acts)
   unfolding is_elsewhere is_near header_at reply_at digits rounded
   misses_runs = (tt, (tt, (tt, (tt, (tt, (tt, (tt, (tt, (tt, tt)))))))))
 
   -- after the acts with which the third cycle begins, those until its last request is cut are a run
-  answers_runs : RunsBehind (front ++ (anew_acts ++ take 9 chain_acts)) (take 14 (drop 9 chain_acts))
+  answers_runs : RunsAfter (front ++ (anew_acts ++ take 9 chain_acts)) (take 14 (drop 9 chain_acts))
   unfolding is_elsewhere is_near header_at reply_at digits rounded
   answers_runs =
       (refl, (tt, (tt, (refl, (tt, (refl, (tt, (refl, (tt, (refl, (tt, (refl, (tt, ((refl, lit< tt), tt))))))))))))))
 
   -- after the acts until the last request is cut, those until the end are a run
-  late_runs : RunsBehind (front ++ (anew_acts ++ take 23 chain_acts)) (drop 23 chain_acts)
+  late_runs : RunsAfter (front ++ (anew_acts ++ take 23 chain_acts)) (drop 23 chain_acts)
   unfolding is_elsewhere is_near header_at reply_at digits rounded
   late_runs = (refl, (tt, (tt, (tt, (refl, (tt, (tt, (tt, (tt, (refl, (tt, (tt, (refl, tt)))))))))))))
 
   -- all acts of the run are a run
-  pub all_run : RunsBehind [] acts
+  pub all_run : RunsAfter [] acts
   unfolding is_elsewhere is_near header_at reply_at digits rounded
   all_run =
-      run_on plan commands (opening plan told) front (anew_acts ++ chain_acts)
-      (run_on plan commands (opening plan told) begins_acts breaks_acts
-      (run_on plan commands (opening plan told) (take 16 begins_acts) (drop 16 begins_acts) begins_runs answers_eight)
-      (run_on plan commands (state_after plan commands told begins_acts) (take 8 breaks_acts) (drop 8 breaks_acts) breaks_runs gives_up_runs))
-      (run_on plan commands (state_after plan commands told front) anew_acts chain_acts
-      (run_on plan commands (state_after plan commands told front) (take 16 anew_acts) (drop 16 anew_acts) anew_runs answers_six)
-      (run_on plan commands (state_after plan commands told (front ++ anew_acts)) (take 9 chain_acts) (drop 9 chain_acts) misses_runs
-      (run_on plan commands (state_after plan commands told (front ++ (anew_acts ++ take 9 chain_acts))) (take 14 (drop 9 chain_acts)) (drop 23 chain_acts) answers_runs late_runs)))
+      run_on plan commands (opening plan patched_scope) front (anew_acts ++ chain_acts)
+      (run_on plan commands (opening plan patched_scope) begins_acts breaks_acts
+      (run_on plan commands (opening plan patched_scope) (take 16 begins_acts) (drop 16 begins_acts) begins_runs answers_eight)
+      (run_on plan commands (state_after plan commands patched_scope begins_acts) (take 8 breaks_acts) (drop 8 breaks_acts) breaks_runs gives_up_runs))
+      (run_on plan commands (state_after plan commands patched_scope front) anew_acts chain_acts
+      (run_on plan commands (state_after plan commands patched_scope front) (take 16 anew_acts) (drop 16 anew_acts) anew_runs answers_six)
+      (run_on plan commands (state_after plan commands patched_scope (front ++ anew_acts)) (take 9 chain_acts) (drop 9 chain_acts) misses_runs
+      (run_on plan commands (state_after plan commands patched_scope (front ++ (anew_acts ++ take 9 chain_acts))) (take 14 (drop 9 chain_acts)) (drop 23 chain_acts) answers_runs late_runs)))
 
   -- the parts of the run are these
-  parts_are : parts_of plan commands (opening plan told) acts ≡ all_parts
+  parts_are : parts_of plan commands (opening plan patched_scope) acts ≡ all_parts
   unfolding is_elsewhere is_near header_at reply_at digits rounded
   parts_are = refl
 
   -- the records of the run are these
-  written : (state_after plan commands told acts).records ≡ records
+  written : (state_after plan commands patched_scope acts).records ≡ records
   unfolding is_elsewhere is_near header_at reply_at digits rounded
   written = refl
 
   -- the station resynchronizes where seven requests have timed out
-  begins_anew : IsResynchronizing plan commands told front (Told (at 345))
+  begins_anew : IsResynchronizing plan commands patched_scope front (Told (at 345))
   unfolding is_elsewhere is_near header_at reply_at digits rounded
   begins_anew = record { resynchronizes = record { renews = refl; moment = at 345; told = refl; seven = refl; given_up = refl }; word = refl; client = refl }
 
@@ -251,13 +251,13 @@ module _ (reads : Asked → List ℕ → Reading) where
   unfolding is_elsewhere is_near header_at reply_at digits rounded
   computed =
       record {
-        is = is;
+        is_instrument = reporting_is;
         field =
             record {
               runs = all_run;
               lines = record { ids = (lit< tt, tt); good = tt };
               none = none_here;
-              shown = subst (AreShownAs reporting before runs) (sym parts_are) (begins_are, refl, (anew_are, refl, (refl, refl, tt)));
+              shown = subst (AreShownAs reporting at_start runs) (sym parts_are) (begins_are, refl, (anew_are, refl, (refl, refl, tt)));
               possible = ((begins_possible, breaks_possible), ((anew_possible, chain_possible), ((tt, refl), tt)));
             };
         over = refl;

@@ -7,7 +7,6 @@ use Rattle.std.specs.Fmt.{decimal}
 use Rattle.std.specs.List.{AllByRecursion}
 use Rattle.std.specs.Str.{bytes_eq}
 use Rattle.std.proofs.lemmas.Bool.{cond_both, eqb-true}
-use Rattle.std.proofs.lemmas.Grind.{flat_map-append}
 use Rattle.json.specs.Find.{get_member, later_or}
 use Rattle.json.specs.Json as json
 use Rattle.gc_lines.specs.Numbers.{IsNumber}
@@ -27,24 +26,25 @@ use Rattle.gc_catalogue.specs.declared.asked.Asked.TheVariants.{Table, Raw}
 use Rattle.gc_catalogue.specs.declared.call.Call.{Call}
 use Rattle.gc_catalogue.specs.declared.call.Call.TheVariants.{GetFace, GetPrism}
 use Rattle.gc_texts.specs.Endings.{End, Answered, word_of, line_of, quality_of, quality_text}
-use Rattle.gc_texts.specs.Logs.{escape, escaped}
+use Rattle.gc_texts.specs.Logs.{escaped}
 use Rattle.gc_texts.specs.Stamps.{stamp_text}
 use Rattle.gc_texts.specs.declared.wish.Wish.{Wish}
 use Rattle.gc_texts.specs.declared.quality.Quality.{Quality}
 use Rattle.gc_texts.specs.declared.quality.Quality.TheVariants as quality
-use Rattle.gc_rows.specs.JsonLines.{Member, Text, ending_members, item_members, json_members, last_members, more_members, quantity_members, attempt_members, values_members, what_members, when_members, without_zeros, worded_members}
+use Rattle.gc_rows.specs.JsonLines.{Member, Text, ending_members, item_members, json_members, last_members, members_after_ending, quantity_members, attempt_members, values_members, command_members, when_members, without_zeros, quality_members}
 use Rattle.gc_rows.specs.Items.{split_items}
 use Rattle.gc_rows.specs.Laws.{record_read}
 use Rattle.gc_rows.specs.Quantities.{column_of, quantity_names, quantity_text}
 use Rattle.gc_rows.specs.Rows.{code_of, com_of, moment_text, procedure_of, values_of}
-use Rattle.gc_rows.specs.Told.{names_from}
+use Rattle.gc_rows.specs.ProcedureQuantities.{names_from}
 use Rattle.gc_rows.specs.declared.when.When.{When}
-use Rattle.gc_rows.proofs.Told.{have_their_names}
+use Rattle.gc_rows.proofs.ProcedureQuantities.{have_their_names}
+use Rattle.gc_station.proofs.Lists.{all_at}
 use Rattle.gc_promise.specs.Fields.{quantity_in, under}
 use Rattle.gc_promise.specs.Objects.{text_of}
-use Rattle.gc_promise.proofs.Names.{IsAnswerTo, all_at, texts_of, word_plain}
-use Rattle.gc_promise.proofs.Plain.{decimal_plain, digits_plain}
-use Rattle.gc_promise.proofs.Apart.{find, later_none, find_both, LacksAll, firsts, quantities_apart, worded_apart, worded_without, lacks_both, attempt_apart, attempt_without, items_without, worded_found, quantities_unqualified, ending_unqualified, what_unqualified, moment_unqualified, ending_apart, ending_without, what_apart, what_without, moment_without, moment_found, moments_found, sent_found, what_found, outcome_found, line_found}
+use Rattle.gc_promise.proofs.Names.{IsAnswerTo, texts_of, word_plain}
+use Rattle.gc_promise.proofs.Plain.{decimal_plain, digits_plain, plain_both}
+use Rattle.gc_promise.proofs.Apart.{find, later_none, find_both, LacksAll, early_names, quantities_apart, worded_apart, worded_without, lacks_both, attempt_apart, attempt_without, items_without, worded_found, quantities_unqualified, ending_unqualified, what_unqualified, moment_unqualified, ending_apart, ending_without, what_apart, what_without, moment_without, moment_found, moments_found, sent_found, what_found, outcome_found, line_found}
 
 -- A code without its zeros is the same number.
 
@@ -62,10 +62,6 @@ zeros_gone (b ∷ c ∷ rest) n is =
           record { some = omega arith; few = let few = at_zero.few in omega (arith, few); digits = at_zero.digits.1; value = at_zero.value; bound = at_zero.bound }
 
 -- Numbers are unchanged.
-
--- where escaping changes nothing in either of two texts, it changes nothing in the two joined
-plain_both : (xs ys : List ℕ) → escaped xs ≡ xs → escaped ys ≡ ys → escaped (xs ++ ys) ≡ xs ++ ys
-plain_both xs ys a b = flat_map-append escape xs ys ∙ ap (λ (l : List ℕ). l ++ escaped ys) a ∙ ap (λ (l : List ℕ). xs ++ l) b
 
 -- escaping changes nothing in a minus sign, if there is one
 minus_plain : (negative : Bool) → escaped (minus_where negative) ≡ minus_where negative
@@ -183,14 +179,14 @@ module _ (call : Call) (name : List ℕ) (k : ℕ) (is : slice_get quantity_name
   -- `IsUnder` holds of each answer that isn't an instrument's name
   number_under : (answer : Answer) (came : List ℕ) → ((bytes : List ℕ) → answer ≡ Name bytes → ⊥) → IsUnder answer came
   number_under answer came other =
-      all_at (AreUnder call answer came) quantity_names (answer_under call answer came other) k name is
+      all_at (AreUnder call answer came) quantity_names k name (answer_under call answer came other) is
       ∙ under_plain name (names_from (column_of call answer) (answer_fields answer).values) (texts_of answer) (texts_plain answer other)
 
   -- `IsUnder` holds of each answer
   is_under : (answer : Answer) (came : List ℕ) → IsUnder answer came
   is_under (Name bytes) came =
-      all_at (λ (n : List ℕ). text_of (find n (values_members 17 (value.Text bytes ∷ []) came)) ≡ escaped (under n (codes "instrument" ∷ []) (bytes ∷ []))) quantity_names
-      (name_under call bytes came) k name is
+      all_at (λ (n : List ℕ). text_of (find n (values_members 17 (value.Text bytes ∷ []) came)) ≡ escaped (under n (codes "instrument" ∷ []) (bytes ∷ []))) quantity_names k name
+      (name_under call bytes came) is
   is_under Nothing came = number_under Nothing came (λ bytes e. cc)
   is_under (Short n) came = number_under (Short n) came (λ bytes e. cc)
   is_under (Version release version subversion) came = number_under (Version release version subversion) came (λ bytes e. cc)
@@ -210,7 +206,7 @@ member_stands (Table call) name k is quality answer line of =
     is_under call name k is answer (values_of line) ∙ ap (λ (names : List (List ℕ)). escaped (under name names (texts_of answer))) (have_their_names call answer of)
 member_stands (Raw raw) name k is quality answer line of =
     let items = item_members (split_items (values_of line)) in
-    ap text_of (all_at (λ (n : List ℕ). find n items ≡ None) quantity_names (items_without (split_items (values_of line))) k name is)
+    ap text_of (all_at (λ (n : List ℕ). find n items ≡ None) quantity_names k name (items_without (split_items (values_of line))) is)
 
 -- All members of a record.
 
@@ -219,15 +215,17 @@ module _ (when : When) (text : List ℕ) (command : Wish) (end : End) where
   abbrev quantities : List Member
   quantities = quantity_members command.call end
 
-  -- the member for the quality, if it was answered, and after it the one for the attempt
+  -- the member for the quality; none if the record has no quality
   abbrev worded : List Member
-  worded = worded_members (quality_text (quality_of end))
+  worded = quality_members (quality_text (quality_of end))
 
+  -- the members after the quantities: for the quality and for the attempt
   abbrev last : List Member
   last = last_members when end
 
+  -- the members for the record's quantities, and those after them
   abbrev more : List Member
-  more = more_members when command.call end
+  more = members_after_ending when command.call end
 
   -- the members on how the command ended
   abbrev ending : List Member
@@ -235,7 +233,7 @@ module _ (when : When) (text : List ℕ) (command : Wish) (end : End) where
 
   -- the members on the command
   abbrev what : List Member
-  what = what_members command text
+  what = command_members command text
 
   -- the members on when and where
   abbrev moments : List Member
@@ -265,10 +263,10 @@ module _ (when : When) (text : List ℕ) (command : Wish) (end : End) where
       ∙ ap (later_or (later_or a b)) ec)
       ∙ ap (later_or (later_or (later_or a b) c)) ed)
 
-  -- no member for a quantity, for the quality or for the attempt has one of the names of `firsts`
-  abbrev apart : LacksAll more firsts
-  apart = lacks_both quantities last firsts (quantities_apart command.call end)
-      (lacks_both worded (attempt_members when) firsts (worded_apart (quality_text (quality_of end))) (attempt_apart when))
+  -- no member for a quantity, for the quality or for the attempt has one of the names of `early_names`
+  abbrev apart : LacksAll more early_names
+  apart = lacks_both quantities last early_names (quantities_apart command.call end)
+      (lacks_both worded (attempt_members when) early_names (worded_apart (quality_text (quality_of end))) (attempt_apart when))
 
   -- under `sent` the object has when the record's request was sent
   pub member_sent : at_member (codes "sent") ≡ moment_text when.stamp.sent
@@ -355,30 +353,30 @@ module _ (when : When) (text : List ℕ) (command : Wish) (end : End) where
       found_at (codes "attempt") (Some (json.number (decimal when.stamp.turn.attempt))) (find (codes "attempt") ending) (find (codes "attempt") what) (find (codes "attempt") moments)
       attempt_found refl refl refl
 
-  module _ (name : List ℕ) (k : ℕ) (is : slice_get quantity_names k ≡ Some name) where
-    -- no name of a quantity is `run`
-    none_started : AllByRecursion (λ (n : List ℕ). started n ≡ None) quantity_names
-    none_started =
-        (refl, (refl, (refl, (refl, (refl, (refl, (refl, (refl, (refl, (refl, (refl, (refl, (refl, (refl, (refl, (refl, (refl, (refl, (refl, (refl, (refl, (refl, (refl, (refl, tt))))))))))))))))))))))))
+  -- no name of a quantity is `run`
+  none_started : AllByRecursion (λ (n : List ℕ). started n ≡ None) quantity_names
+  none_started =
+      (refl, (refl, (refl, (refl, (refl, (refl, (refl, (refl, (refl, (refl, (refl, (refl, (refl, (refl, (refl, (refl, (refl, (refl, (refl, (refl, (refl, (refl, (refl, (refl, tt))))))))))))))))))))))))
 
+  module _ (name : List ℕ) (k : ℕ) (is : slice_get quantity_names k ≡ Some name) where
     -- a name of a quantity isn't `run`
     not_started : started name ≡ None
-    not_started = all_at (λ (n : List ℕ). started n ≡ None) quantity_names none_started k name is
+    not_started = all_at (λ (n : List ℕ). started n ≡ None) quantity_names k name none_started is
 
     -- the quality and the attempt have other names than the quantities
     in_quantities : find name more ≡ find name quantities
     in_quantities =
         find_both name quantities last
-        ∙ ap (λ (o : Option json.Json). later_or o (find name quantities)) (all_at (λ (n : List ℕ). find n last ≡ None) quantity_names
-        (lacks_both worded (attempt_members when) quantity_names (worded_without (quality_text (quality_of end))) (attempt_without when)) k name is)
+        ∙ ap (λ (o : Option json.Json). later_or o (find name quantities)) (all_at (λ (n : List ℕ). find n last ≡ None) quantity_names k name
+        (lacks_both worded (attempt_members when) quantity_names (worded_without (quality_text (quality_of end))) (attempt_without when)) is)
 
     -- what is under the name of a quantity is among the quantities
     pub member_quantity : at_member name ≡ text_of (find name quantities)
     member_quantity =
         found_at name (find name quantities) None None None in_quantities
-        (all_at (λ (n : List ℕ). find n ending ≡ None) quantity_names (ending_without end) k name is)
-        (all_at (λ (n : List ℕ). find n what ≡ None) quantity_names (what_without command text) k name is)
-        (all_at (λ (n : List ℕ). find n moments ≡ None) quantity_names
-        (moment_without when.stamp.sent (stamp_text when.stamp.utc) (decimal when.stamp.cycle) (decimal when.stamp.turn.place)) k name is)
+        (all_at (λ (n : List ℕ). find n ending ≡ None) quantity_names k name (ending_without end) is)
+        (all_at (λ (n : List ℕ). find n what ≡ None) quantity_names k name (what_without command text) is)
+        (all_at (λ (n : List ℕ). find n moments ≡ None) quantity_names k name
+        (moment_without when.stamp.sent (stamp_text when.stamp.utc) (decimal when.stamp.cycle) (decimal when.stamp.turn.place)) is)
         ∙ ap (λ (o : Option json.Json). text_of (later_or (later_or (later_or (later_or (find name quantities) None) None) None) o)) not_started
         ∙ ap text_of (last_found (find name quantities))

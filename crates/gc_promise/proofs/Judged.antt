@@ -13,18 +13,18 @@ use Rattle.gc_texts.specs.declared.quality.Quality.TheVariants as quality
 use Rattle.gc_texts.proofs.ZeroReplies.{zero_reads}
 use Rattle.gc_station.specs.Qualities.{answer_in, IsRefusal, IsOfQuality}
 use Rattle.gc_station.specs.Scopes.{AreReadings}
-use Rattle.gc_promise.specs.Fields.{quality_in, taken}
+use Rattle.gc_promise.specs.Fields.{quality_in, quantity_source}
 
--- a reading that has an answer is that answer
-pub told_some : (told : Reading) (answer : Answer) → answer_in told ≡ Some answer → told ≡ reading.Value answer
-told_some (reading.Value a) answer e = let same : a ≡ answer = cc in ap reading.Value same
-told_some (reading.Refused code) answer e = cc
-told_some (reading.ComFault code) answer e = cc
-told_some (reading.Unreadable fault) answer e = cc
+-- where `answer_in` gives an answer of a reading, the reading is that answer
+pub value_if_some : (told : Reading) (answer : Answer) → answer_in told ≡ Some answer → told ≡ reading.Value answer
+value_if_some (reading.Value a) answer e = let same : a ≡ answer = cc in ap reading.Value same
+value_if_some (reading.Refused code) answer e = cc
+value_if_some (reading.ComFault code) answer e = cc
+value_if_some (reading.Unreadable fault) answer e = cc
 
--- a reading that has no answer isn't one
-pub told_none : (told : Reading) → answer_in told ≡ None → (answer : Answer) → told ≡ reading.Value answer → ⊥
-told_none told none answer is = let bad : Some answer ≡ None = sym (ap answer_in is) ∙ none in cc
+-- where `answer_in` gives none of a reading, the reading is no answer
+pub no_value_if_none : (told : Reading) → answer_in told ≡ None → (answer : Answer) → told ≡ reading.Value answer → ⊥
+no_value_if_none told none answer is = let bad : Some answer ≡ None = sym (ap answer_in is) ∙ none in cc
 
 -- a refusal that isn't accepted has the quality of a refusal, and no answer
 refused_in : (accepted : Codes) (x : Reading) → IsRefusal accepted x → (quality_in accepted x ≡ quality.Refused) × (answer_in x ≡ None)
@@ -34,36 +34,40 @@ refused_in accepted (reading.ComFault code) is = (refl, refl)
 refused_in accepted (reading.Unreadable fault) is = absurd is
 
 module _ (reads : Asked → List ℕ → Reading) (are : AreReadings reads) (accepted : Codes) (call : Asked) (line : List ℕ) (reply : ReplyFields) (is_reply : IsReply line reply)
-    (said told : Reading) (is_said : IsAskedReading call reply said) (is_told : IsAskedReading call (taken (quality_in accepted said) reply) told) where
-  -- what the line says, and what it would say with return code 0
+    (said told : Reading) (is_said : IsAskedReading call reply said) (is_told : IsAskedReading call (quantity_source (quality_in accepted said) reply) told) where
+  -- what the line says is what its reply says
   line_says : (x : Reading) → IsAskedReading call reply x → reads call line ≡ x
   line_says x is = are call line x (record { reply = reply; is_reply = is_reply; is_reading = is })
 
+  -- what the line says as if its return code were 0 is what the reply with return code 0 says
   zeroed_says : (x : Reading) → IsAskedReading call (record reply { rc = 0 }) x → reads call (as_zero line) ≡ x
   zeroed_says x is = are call (as_zero line) x (zero_reads call line reply x is_reply is)
 
-  -- the quality of an answer is that of what its line says, and its values are those of what is recorded
+  -- q is the quality of an answer whose line says `said`, and `values` are the values of `told`, the reading from which a row has its
+  -- quantities
   pub record IsJudged (q : Quality) (values : Option Answer) : Type 0 where
     pub quality_is : q ≡ quality_in accepted said
     pub values_are : values ≡ answer_in told
 
-  -- what is recorded of a line that isn't a warning is what it says
-  told_as_said : (q : Quality) → quality_in accepted said ≡ q → (taken q reply ≡ reply) → reads call line ≡ told
-  told_as_said q is same = line_says told (subst (λ (r : ReplyFields). IsAskedReading call r told) (ap (λ (k : Quality). taken k reply) is ∙ same) is_told)
+  -- where the quality doesn't change the fields of the reply (`quantity_source`), the reading from which quantities are taken is what
+  -- the line says
+  quantity_reading_is : (q : Quality) → quality_in accepted said ≡ q → (quantity_source q reply ≡ reply) → reads call line ≡ told
+  quantity_reading_is q is same = line_says told (subst (λ (r : ReplyFields). IsAskedReading call r told) (ap (λ (k : Quality). quantity_source k reply) is ∙ same) is_told)
 
+  -- an answer that is of this quality and these values, by the line, has the quality and the values of the two readings
   pub judged : (q : Quality) (values : Option Answer) → IsOfQuality reads accepted call q values line → IsJudged q values
   judged quality.Fine values (answer, has, value) =
       let is : said ≡ reading.Value answer = sym (line_says said is_said) ∙ value in
       let fine : quality_in accepted said ≡ quality.Fine = ap (quality_in accepted) is in
-      let same : told ≡ reading.Value answer = sym (told_as_said quality.Fine fine refl) ∙ value in
+      let same : told ≡ reading.Value answer = sym (quantity_reading_is quality.Fine fine refl) ∙ value in
       record { quality_is = sym fine; values_are = has ∙ sym (ap answer_in same) }
   judged quality.Warning values (code, refusal, listed, has) =
       let is : said ≡ reading.Refused code = sym (line_says said is_said) ∙ refusal in
       let warned : quality_in accepted said ≡ quality.Warning = ap (quality_in accepted) is ∙ ap (λ b. if b then quality.Warning else quality.Refused) listed in
-      let same : reads call (as_zero line) ≡ told = zeroed_says told (subst (λ (k : Quality). IsAskedReading call (taken k reply) told) warned is_told) in
+      let same : reads call (as_zero line) ≡ told = zeroed_says told (subst (λ (k : Quality). IsAskedReading call (quantity_source k reply) told) warned is_told) in
       record { quality_is = sym warned; values_are = has ∙ ap answer_in same }
   judged quality.Refused values (none, refusal) =
       let is : reads call line ≡ said = line_says said is_said in
       let both = refused_in accepted said (subst (IsRefusal accepted) is refusal) in
-      let same : told ≡ said = sym (told_as_said quality.Refused both.0 refl) ∙ is in
+      let same : told ≡ said = sym (quantity_reading_is quality.Refused both.0 refl) ∙ is in
       record { quality_is = sym both.0; values_are = none ∙ sym (ap answer_in same ∙ both.1) }

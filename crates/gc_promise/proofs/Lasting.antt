@@ -6,10 +6,10 @@ use Rattle.std.specs.Prelude.{not, if◌then◌else◌}
 use Rattle.std.specs.Io.KnownBytes.{Appends}
 use Rattle.gc_catalogue.specs.declared.answer.Reading.{Reading}
 use Rattle.gc_catalogue.specs.declared.asked.Asked.{Asked}
-use Rattle.gc_files.specs.Failing.{Sides, Event, Ran, Failed, feeds, settled, one, sides_after, runs_of, Occur, IsFound, is_trusted}
+use Rattle.gc_files.specs.Failing.{Sides, Event, Ran, Failed, feeds, settled, same_sides, sides_after, runs_of, Occur, IsFound, IsTrusted}
 use Rattle.gc_files.specs.Files.{Step, Life, content, MayLeave}
 use Rattle.gc_files.specs.Rows.{whole, table, cuts_none, appended}
-use Rattle.gc_files.specs.Runs.{synced, Run, lines, IsRun, life_after, rows_of, Counts, HasRows}
+use Rattle.gc_files.specs.Runs.{synced, Run, lines, IsRun, life_after, rows_of, AreRowCounts, HasRows}
 use Rattle.gc_files.specs.Sinks.{steps_in, taken_in, is_durable}
 use Rattle.gc_files.proofs.Adding.{appended_two}
 use Rattle.gc_files.proofs.Failing.{tables_outlast_failures}
@@ -29,12 +29,13 @@ use Rattle.gc_words.specs.declared.settings.Settings.{Settings}
 use Rattle.gc_measuring.specs.declared.stop.Stop.{Stop}
 use Rattle.gc_lines.specs.declared.ports.Source.{Ghosts as Source}
 use Rattle.gc_lines.specs.declared.ports.Sink.{Ghosts as Sink}
-use Rattle.gc_measuring.specs.Measuring.{Places, Measures, course_of, Course, text_in, front_text, RunsBehind}
-use Rattle.gc_promise.specs.Lasting.{RunOfFile, IsRunOfFile, AppendsAreRuns, Moment, IsMoment, rows_by, AreLeft, Opens, RowsOutlastCrashes, doubted_by, Ending, Stopped, Unsynced, Ends, sides_ended, doubt_of, sides_from, RowsOutlastFailures}
+use Rattle.gc_measuring.specs.Measuring.{PortsSeen, Measures, course_of, Course, text_in, front_text, RunsBehind}
+use Rattle.gc_world.proofs.Options.{some_is}
+use Rattle.gc_promise.specs.Lasting.{RunOfFile, IsRunOfFile, AppendsAreRuns, Moment, IsMoment, rows_by, AreLeft, Opens, RowsOutlastCrashes, doubted_by, Ending, Stopped, Unsynced, MayEnd, sides_ended, doubt_of, sides_from, RowsOutlastFailures}
 use Rattle.gc_promise.proofs.Ended.{text_whole}
 use Rattle.gc_promise.proofs.Pieces.{pieces, rows_left, whole_rest}
 use Rattle.gc_promise.proofs.Seen.{At, kept_at, seen_at, Fronted, fronted, texts_whole}
-use Rattle.gc_promise.proofs.Staying.{run_by, is_run, happen_two, life_two, parted, cuts_first, occur_two, sides_two, runs_two}
+use Rattle.gc_promise.proofs.Staying.{run_by, is_run, happen_two, life_two, splits_at_run, cuts_first, occur_two, sides_two, runs_two}
 
 -- What the clauses say.
 
@@ -47,25 +48,21 @@ between_is course (Some bytes) headed front =
 
 -- What `append_at` reports is a run of a file.
 
--- two values are equal where `Some` of the one equals `Some` of the other
-same_file : {A : Type 0} (x y : A) → ◌≡◌ {A = Option A} (Some x) (Some y) → x ≡ y
-same_file x y is = cc
-
 -- no act was made between these places, or there is a run of this file between them, with these acts
-abbrev Found : (R : Type 0) → Places → Places → List Act → Followed R → Type 0
+abbrev Found : (R : Type 0) → PortsSeen → PortsSeen → List Act → Followed R → Type 0
 Found R old new told file =
     (new.turns ≡ old.turns)
-    ⊎ ((run : RunOfFile R) × IsRunOfFile run × (run.file ≡ file) × (run.told ≡ told) × (run.old.turns ≡ old.turns) × (run.new.turns ≡ new.turns))
+    ⊎ ((run : RunOfFile R) × IsRunOfFile run × (run.file ≡ file) × (run.recorded ≡ told) × (run.old.turns ≡ old.turns) × (run.new.turns ≡ new.turns))
 
 -- if a station measured over a link that had recorded no acts, into a file that had taken no bytes, there is a run of the file with
 -- these acts and bytes, or no act was made
-found : {R : Type 0} (station : Settings) (given : List ℕ) (old new : Places) (end : Result Tally Stop) (told : List Act) (file : Followed R)
+found : {R : Type 0} (station : Settings) (given : List ℕ) (old new : PortsSeen) (end : Result Tally Stop) (told : List Act) (file : Followed R)
     → station.layout.headed ≡ true → old.acts ≡ Some [] → new.acts ≡ Some told → old.taken ≡ Some [] → new.taken ≡ Some (bytes_in file)
     → Measures given station 18446744073709551615 old new end → Found R old new told file
 found station given old new end told file headed none acts fresh took (inl (stop, is, refuses, unused)) = inl unused.turns
 found station given old new end told file headed none acts fresh took (inr (setup, tasks, names, gives, inl front)) = inl front.turns
 found station given old new end told file headed none acts fresh took (inr (setup, tasks, names, gives, inr behind)) = inr (
-  record { course = course_of station 18446744073709551615 setup tasks names; old = old; new = new; end = end; told = told; file = file },
+  record { course = course_of station 18446744073709551615 setup tasks names; old = old; new = new; end = end; recorded = told; file = file },
   record { headed = headed; none = none; acts = acts; fresh = fresh; took = took; ran = behind },
   refl,
   refl,
@@ -77,7 +74,7 @@ found station given old new end told file headed none acts fresh took (inr (setu
 pub appends_are_runs : {S R : Type 0} (source : Source S) (sink : Sink (Followed R)) (K E : Type 0) → ((f : Followed R) → sink.taken f ≡ Some (bytes_in f)) → AppendsAreRuns source sink K E
 appends_are_runs source sink K E taken lasts shown has_log station old new file acts turns turns' status tells = elim tells.run.ran [
   | inl ran ↦
-      let it = same_file file tells.ended.output tells.filed.left in
+      let it = some_is file tells.ended.output tells.filed.left in
       let m = ran.measured in
       elim (found (begun_at m.0 (words.appended station)) m.1.0 _ _ tells.run.end ran.told file refl refl refl tells.filed.fresh
       (subst (λ f. sink.taken f ≡ Some (bytes_in file)) it (taken file)) m.1.2) [
@@ -105,11 +102,11 @@ module _ {R : Type 0} (m : Moment R) (is : IsMoment m) (reads : Asked → List �
   none_between = between_is m.run.course ran.between is.run.headed (subst (λ (t : Option (List ℕ)). Appends t ran.between (front_text m.run.course.layout)) is.run.fresh ran.front)
 
   -- the run kept up: at each of its turns, what the acts before it settled was kept
-  keeps : KeepsUp m.run.course.plan m.run.course.tasks scope text (Some []) (Some m.run.told) (Some []) m.run.old.turns m.run.new.turns (closing_at ran.end)
+  keeps : KeepsUp m.run.course.plan m.run.course.tasks scope text (Some []) (Some m.run.recorded) (Some []) m.run.old.turns m.run.new.turns (closing_at ran.end)
   keeps = rw (← is.run.none, ← is.run.acts, ← none_between) (ran.keeps.0 reads are)
 
   -- what the file took in the end is what the run wrote
-  took : runs.Ran m.run.course.plan m.run.course.tasks scope text (Some []) (Some m.run.told) (Some []) (Some (bytes_in m.run.file)) ran.end
+  took : runs.Ran m.run.course.plan m.run.course.tasks scope text (Some []) (Some m.run.recorded) (Some []) (Some (bytes_in m.run.file)) ran.end
   took = rw (← is.run.none, ← is.run.acts, ← is.run.took, ← none_between) (ran.ran.0 reads are)
 
   -- the moment's turn is one of the run's turns, and all that the acts before it settled was kept then
@@ -123,8 +120,8 @@ module _ {R : Type 0} (m : Moment R) (is : IsMoment m) (reads : Asked → List �
   settled_by = seen_at m.run.course.plan m.run.course.tasks scope text m.turn seen.front m.done (bytes_in m.was) seen.kept is.seen.done is.seen.taken
 
   -- what the file took in the end is a front of all rows
-  end : Fronted m.run.course.plan m.run.course.tasks scope text m.run.told (bytes_in m.run.file)
-  end = fronted m.run.course.plan m.run.course.tasks scope text m.run.told (bytes_in m.run.file) ran.end took
+  end : Fronted m.run.course.plan m.run.course.tasks scope text m.run.recorded (bytes_in m.run.file)
+  end = fronted m.run.course.plan m.run.course.tasks scope text m.run.recorded (bytes_in m.run.file) ran.end took
 
   -- the rows of what any acts settle end in a line feed, unless there is none
   rows_whole : (acts : List Act) → whole (rows_by m.run.course reads acts) ≡ rows_by m.run.course reads acts
@@ -210,7 +207,7 @@ module _ {R : Type 0} (m : Moment R) (is : IsMoment m) (reads : Asked → List �
   abbrev run : List Step → Run
   run steps = run_by steps m.calls taken (taken ++ rest) None
 
-  -- with an opening of a file that held these bytes, it is a run by the laws on files of rows
+  -- with the calls of an opening of a file that held these bytes, `run` is a run as the laws on files of rows have one
   runs_so : (head held : List ℕ) (steps : List Step) → Opens head held steps → IsRun head held (run steps)
   runs_so head held steps opens =
       let none : cuts_none ((steps_in m.was.rows ++ since) ++ is.reached.rest) ≡ true = subst (λ (l : List Step). cuts_none l ≡ true) calls_are m.run.file.rows.only_appends in
@@ -230,13 +227,13 @@ rows_outlast_crashes m is reads are head first heads earlier happen steps opens 
     let now = runs_so m is reads are head (content life) steps opens in
     let all = happen_two head (settled first) earlier (one_run ∷ []) happen (now, tt, tt) in
     let there = subst (λ (l : Life). MayLeave l.start l.steps found) (sym (life_two (settled first) earlier (one_run ∷ []))) may in
-    let p = parted head (table head first) found earlier [] one_run (tables_last head first heads (earlier ++ one_run ∷ []) all found there) in
-    (p.counts, lines (take p.count one_run.rows), p.first, left_of m is reads are p.count p.least, p.is ∙ last p.counts' p.others _)
+    let p = splits_at_run head (table head first) found earlier [] one_run (tables_last head first heads (earlier ++ one_run ∷ []) all found there) in
+    (p.counts, lines (take p.count one_run.rows), p.first, left_of m is reads are p.count p.least, p.is ∙ no_rows_of_none p.counts' p.others _)
   where
-    -- no runs have no rows
-    last : (counts : List ℕ) → Counts [] counts → (l : List ℕ) → l ++ rows_of [] counts ≡ l
-    last [] cs l = append-nil l
-    last (n ∷ counts) cs l = absurd cs
+    -- the rows of an empty list of runs are empty, so appending them changes nothing
+    no_rows_of_none : (counts : List ℕ) → AreRowCounts [] counts → (l : List ℕ) → l ++ rows_of [] counts ≡ l
+    no_rows_of_none [] cs l = append-nil l
+    no_rows_of_none (n ∷ counts) cs l = absurd cs
 
 -- how the run ends, as an event
 abbrev event_of : Run → Ending → Event
@@ -251,19 +248,19 @@ rows_outlast_failures m is reads are head first heads earlier occur trusted step
     let event = event_of one_run ending in
     let now = runs_so m is reads are head (content sides.read) steps opens in
     let behind = occurs head sides (doubted_by false earlier) one_run ending later trusted now ends then_ in
-    let all = occur_two head (one (settled first)) false earlier (event ∷ later) occur behind in
-    let there = subst (λ (s : Sides). IsFound s found) (sym (sides_two (one (settled first)) earlier (event ∷ later) ∙ event_sides sides one_run ending later)) is_found in
+    let all = occur_two head (same_sides (settled first)) false earlier (event ∷ later) occur behind in
+    let there = subst (λ (s : Sides). IsFound s found) (sym (sides_two (same_sides (settled first)) earlier (event ∷ later) ∙ event_sides sides one_run ending later)) is_found in
     let has = tables_outlast_failures head first heads (earlier ++ event ∷ later) all found there in
-    let p = parted head (table head first) found (runs_of earlier) (runs_of later) one_run
+    let p = splits_at_run head (table head first) found (runs_of earlier) (runs_of later) one_run
     (subst (λ (rs : List Run). HasRows head (table head first) rs found) (runs_two earlier (event ∷ later) ∙ ap (λ (rs : List Run). runs_of earlier ++ rs) (event_runs one_run ending later)) has) in
     (p.counts, lines (take p.count one_run.rows), p.counts', p.first, left_of m is reads are p.count p.least, p.others, p.is)
   where
     -- a run that ends in this way, in a file that isn't in doubt, and events that may occur after that, may occur as events
     occurs : (head : List ℕ) (sides : Sides) (doubted : Bool) (run : Run) (ending : Ending) (later : List Event) → doubted ≡ false → IsRun head (content sides.read) run
-        → Ends sides run.steps ending → Occur is_trusted head (sides_ended sides run.steps ending) (doubt_of ending) later
-        → Occur is_trusted head sides doubted (event_of run ending ∷ later)
+        → MayEnd sides run.steps ending → Occur IsTrusted head (sides_ended sides run.steps ending) (doubt_of ending) later
+        → Occur IsTrusted head sides doubted (event_of run ending ∷ later)
     occurs head sides doubted run Stopped later trusted is ends then_ =
-        (trusted, is, subst (λ (d : Bool). Occur is_trusted head (sides_ended sides run.steps Stopped) d later) (sym trusted) then_)
+        (trusted, is, subst (λ (d : Bool). Occur IsTrusted head (sides_ended sides run.steps Stopped) d later) (sym trusted) then_)
     occurs head sides doubted run (Unsynced read disk) later trusted is ends then_ = (trusted, is, ends.0, ends.1, then_)
 
     -- after a run that ends in this way, as an event, the file is as its calls and its ending leave it

@@ -1,5 +1,5 @@
 -- What is under a name in the row of a record.
-use Rattle.std.proofs.Common.{◌≡◌, ◌||◌, ℕ, ℤ, zero, suc, Bool, true, false, List, [], ◌∷◌, ◌++◌, length, map, replicate, Option, Some, None, if◌then◌else◌, refl, sym, ap, ◌∙◌, subst, arith}
+use Rattle.std.proofs.Common.{◌≡◌, ◌||◌, ℕ, ℤ, Bool, true, false, List, [], ◌∷◌, ◌++◌, length, map, replicate, Option, Some, None, if◌then◌else◌, refl, sym, ap, ◌∙◌, arith}
 use Rattle.std.specs.Prelude.{codes, nat_eq, not, slice_get}
 use Rattle.std.specs.Cmp.Lexicographic.{pointwise}
 use Rattle.std.specs.Fmt.{decimal}
@@ -25,10 +25,11 @@ use Rattle.gc_texts.specs.declared.quality.Quality.{Quality}
 use Rattle.gc_texts.specs.declared.quality.Quality.TheVariants as quality
 use Rattle.gc_rows.specs.Quantities.{column_of, quantity_names, quantity_text}
 use Rattle.gc_rows.specs.Records.{last_names}
-use Rattle.gc_rows.specs.Rows.{row_fields, moment_text, when_fields, what_fields, fault_field, reply_fields, more_fields, quantity_fields, last_fields, com_of, code_of, values_of, spread, answer_columns, procedure_of}
-use Rattle.gc_rows.specs.Told.{names_from}
+use Rattle.gc_rows.specs.Rows.{row_fields, moment_text, when_fields, command_fields, fault_field, reply_fields, fields_after_ending, quantity_fields, last_fields, com_of, code_of, values_of, spread, answer_columns, procedure_of}
+use Rattle.gc_rows.specs.ProcedureQuantities.{names_from}
 use Rattle.gc_rows.specs.declared.when.When.{When}
-use Rattle.gc_rows.proofs.Told.{have_their_names, quantities_fill}
+use Rattle.gc_rows.proofs.ProcedureQuantities.{have_their_names, quantities_fill}
+use Rattle.gc_station.proofs.Lists.{all_at}
 use Rattle.gc_promise.specs.Fields.{under, quantity_in}
 use Rattle.gc_promise.specs.Tables.{header}
 use Rattle.gc_promise.proofs.Plain.{decimal_plain, moment_plain}
@@ -54,7 +55,7 @@ quality_plain None = refl
 
 -- Columns after columns.
 
--- if a test passes or the others agree, a choice of the same first value agrees
+-- two choices by the same test (b), with the same first value, are equal if their second values are equal where the test fails
 pick : (b : Bool) (f x y : List ℕ) → (b ≡ false → x ≡ y) → (if b then f else x) ≡ (if b then f else y)
 pick true f x y same = refl
 pick false f x y same = same refl
@@ -157,13 +158,14 @@ module _ (when : When) (name : List ℕ) (command : Wish) (end : End) where
   -- the fields of a row, by the line of its reply
   abbrev by_line : Bool → Option (List ℕ) → List (List ℕ)
   by_line columns line =
-      stamp_text when.run ∷ (when_fields when ++ (what_fields command name ++ ((word_of end ∷ fault_field (fault_of end) ∷ reply_fields line) ++ more_fields columns when command.call end)))
+      stamp_text when.run ∷ (when_fields when ++ (command_fields command name ++ ((word_of end ∷ fault_field (fault_of end) ∷ reply_fields line) ++ fields_after_ending columns when command.call end)))
 
-  -- after the line's fields is what comes after the first thirteen columns: the quality and the attempt
+  -- in a row without quantities, the word of the quality is under `quality`
   last_alone : (line : Option (List ℕ)) → under (codes "quality") (header false) (map escaped (by_line false line)) ≡ escaped (quality_text (quality_of end))
   last_alone None = refl
   last_alone (Some line) = refl
 
+  -- in a row with quantities, what is under `quality` is under it in the quantities and the last fields
   last_behind : (line : Option (List ℕ)) → under (codes "quality") (header true) (map escaped (by_line true line))
       ≡ under (codes "quality") (quantity_names ++ last_names) (map escaped (quantity_fields command.call end ++ last_fields when end))
   last_behind None = refl
@@ -178,10 +180,12 @@ module _ (when : When) (name : List ℕ) (command : Wish) (end : End) where
       ∙ under_behind (codes "quality") quantity_names (map escaped (quantity_fields command.call end)) last_names (map escaped (last_fields when end)) (filled command.call end) no_quantity_is_quality
       ∙ quality_plain (quality_of end)
 
+  -- in a row without quantities, the attempt is under `attempt`
   attempt_alone : (line : Option (List ℕ)) → under (codes "attempt") (header false) (map escaped (by_line false line)) ≡ escaped (decimal when.stamp.turn.attempt)
   attempt_alone None = refl
   attempt_alone (Some line) = refl
 
+  -- in a row with quantities, what is under `attempt` is under it in the quantities and the last fields
   attempt_behind : (line : Option (List ℕ)) → under (codes "attempt") (header true) (map escaped (by_line true line))
       ≡ under (codes "attempt") (quantity_names ++ last_names) (map escaped (quantity_fields command.call end ++ last_fields when end))
   attempt_behind None = refl
@@ -214,17 +218,10 @@ module _ (when : When) (name : List ℕ) (command : Wish) (end : End) where
 
 -- Quantities.
 
--- what holds of each element of a list holds of the one at a place
-pub all_at : {X : Type 0} (P : X → Type 0) (xs : List X) → AllByRecursion P xs → (k : ℕ) (x : X) → slice_get xs k ≡ Some x → P x
-all_at P [] all zero x e = cc
-all_at P [] all (suc k) x e = cc
-all_at P (y ∷ ys) all zero x e = let same : y ≡ x = cc in subst P same all.0
-all_at P (y ∷ ys) all (suc k) x e = all_at P ys all.1 k x e
-
--- after the first thirteen columns are those of quantities, and those of the quality and the attempt
-thirteen : (a b c d e f g h i j k l m : List ℕ) (others : List (List ℕ))
+-- under each name of a quantity, a row of thirteen fields and `others` after them has what `others` have
+under_behind_thirteen : (a b c d e f g h i j k l m : List ℕ) (others : List (List ℕ))
     → AllByRecursion (λ (name : List ℕ). under name (header true) (a ∷ b ∷ c ∷ d ∷ e ∷ f ∷ g ∷ h ∷ i ∷ j ∷ k ∷ l ∷ m ∷ others) ≡ under name (quantity_names ++ last_names) others) quantity_names
-thirteen a b c d e f g h i j k l m others =
+under_behind_thirteen a b c d e f g h i j k l m others =
     (refl, (refl, (refl, (refl, (refl, (refl, (refl, (refl, (refl, (refl, (refl, (refl, (refl, (refl, (refl, (refl, (refl, (refl, (refl, (refl, (refl, (refl, (refl, (refl, tt))))))))))))))))))))))))
 
 module _ (when : When) (text : List ℕ) (command : Wish) where
@@ -236,10 +233,10 @@ module _ (when : When) (text : List ℕ) (command : Wish) where
 
   -- under the names of quantities a row that is put together of these parts has what its last part, `others`, has
   by_parts : (word fault first code values : List ℕ) (others : List (List ℕ)) → AllByRecursion (λ (name : List ℕ).
-      under name (header true) (map escaped (stamp_text when.run ∷ (when_fields when ++ (what_fields command text ++ (word ∷ fault ∷ first ∷ code ∷ values ∷ others)))))
+      under name (header true) (map escaped (stamp_text when.run ∷ (when_fields when ++ (command_fields command text ++ (word ∷ fault ∷ first ∷ code ∷ values ∷ others)))))
       ≡ under name (quantity_names ++ last_names) (map escaped others)) quantity_names
   by_parts word fault first code values others =
-      thirteen (escaped (stamp_text when.run)) (escaped (moment_text when.stamp.sent)) (escaped (stamp_text when.stamp.utc)) (escaped (decimal when.stamp.cycle))
+      under_behind_thirteen (escaped (stamp_text when.run)) (escaped (moment_text when.stamp.sent)) (escaped (stamp_text when.stamp.utc)) (escaped (decimal when.stamp.cycle))
       (escaped (decimal when.stamp.turn.place)) (escaped (decimal command.target)) (escaped text) (escaped (decimal (procedure_of command.call)))
       (escaped word) (escaped fault) (escaped first) (escaped code) (escaped values) (map escaped others)
 
@@ -262,106 +259,106 @@ texts_of answer = map quantity_text (answer_fields answer).values
 
 -- where `texts` are put into the columns of quantities from the column `first` on, the field under `name` is the text that
 -- is under this name among `names`
-abbrev Stand : ℕ → List (List ℕ) → List (List ℕ) → List ℕ → Type 0
-Stand first names texts name = under name quantity_names (map escaped (spread first texts)) ≡ escaped (under name names texts)
+abbrev IsPutUnder : ℕ → List (List ℕ) → List (List ℕ) → List ℕ → Type 0
+IsPutUnder first names texts name = under name quantity_names (map escaped (spread first texts)) ≡ escaped (under name names texts)
 
 -- if there are no texts, none are under the names of quantities
-none_stand : AllByRecursion (Stand 0 [] []) quantity_names
+none_stand : AllByRecursion (IsPutUnder 0 [] []) quantity_names
 none_stand =
     (refl, (refl, (refl, (refl, (refl, (refl, (refl, (refl, (refl, (refl, (refl, (refl, (refl, (refl, (refl, (refl, (refl, (refl, (refl, (refl, (refl, (refl, (refl, (refl, tt))))))))))))))))))))))))
 
 -- two angles are under their names
-two_stand : (a b : List ℕ) → AllByRecursion (Stand 0 (codes "hz_rad" ∷ codes "v_rad" ∷ []) (a ∷ b ∷ [])) quantity_names
+two_stand : (a b : List ℕ) → AllByRecursion (IsPutUnder 0 (codes "hz_rad" ∷ codes "v_rad" ∷ []) (a ∷ b ∷ [])) quantity_names
 two_stand a b =
     (refl, (refl, (refl, (refl, (refl, (refl, (refl, (refl, (refl, (refl, (refl, (refl, (refl, (refl, (refl, (refl, (refl, (refl, (refl, (refl, (refl, (refl, (refl, (refl, tt))))))))))))))))))))))))
 
 -- two angles and a distance are under their names
-three_stand : (a b c : List ℕ) → AllByRecursion (Stand 0 (codes "hz_rad" ∷ codes "v_rad" ∷ codes "distance_m" ∷ []) (a ∷ b ∷ c ∷ [])) quantity_names
+three_stand : (a b c : List ℕ) → AllByRecursion (IsPutUnder 0 (codes "hz_rad" ∷ codes "v_rad" ∷ codes "distance_m" ∷ []) (a ∷ b ∷ c ∷ [])) quantity_names
 three_stand a b c =
     (refl, (refl, (refl, (refl, (refl, (refl, (refl, (refl, (refl, (refl, (refl, (refl, (refl, (refl, (refl, (refl, (refl, (refl, (refl, (refl, (refl, (refl, (refl, (refl, tt))))))))))))))))))))))))
 
 -- two angles, a distance and a mode are under their names
-four_stand : (a b c d : List ℕ) → AllByRecursion (Stand 0 (codes "hz_rad" ∷ codes "v_rad" ∷ codes "distance_m" ∷ codes "mode" ∷ []) (a ∷ b ∷ c ∷ d ∷ [])) quantity_names
+four_stand : (a b c d : List ℕ) → AllByRecursion (IsPutUnder 0 (codes "hz_rad" ∷ codes "v_rad" ∷ codes "distance_m" ∷ codes "mode" ∷ []) (a ∷ b ∷ c ∷ d ∷ [])) quantity_names
 four_stand a b c d =
     (refl, (refl, (refl, (refl, (refl, (refl, (refl, (refl, (refl, (refl, (refl, (refl, (refl, (refl, (refl, (refl, (refl, (refl, (refl, (refl, (refl, (refl, (refl, (refl, tt))))))))))))))))))))))))
 
 -- the coordinates of a station and its instrument's height are under their names
-place_stand : (a b c d : List ℕ) → AllByRecursion (Stand 4 (codes "easting_m" ∷ codes "northing_m" ∷ codes "height_m" ∷ codes "instrument_height_m" ∷ []) (a ∷ b ∷ c ∷ d ∷ [])) quantity_names
+place_stand : (a b c d : List ℕ) → AllByRecursion (IsPutUnder 4 (codes "easting_m" ∷ codes "northing_m" ∷ codes "height_m" ∷ codes "instrument_height_m" ∷ []) (a ∷ b ∷ c ∷ d ∷ [])) quantity_names
 place_stand a b c d =
     (refl, (refl, (refl, (refl, (refl, (refl, (refl, (refl, (refl, (refl, (refl, (refl, (refl, (refl, (refl, (refl, (refl, (refl, (refl, (refl, (refl, (refl, (refl, (refl, tt))))))))))))))))))))))))
 
 -- a reflector's height is under its name
-reflector_stands : (a : List ℕ) → AllByRecursion (Stand 8 (codes "reflector_height_m" ∷ []) (a ∷ [])) quantity_names
+reflector_stands : (a : List ℕ) → AllByRecursion (IsPutUnder 8 (codes "reflector_height_m" ∷ []) (a ∷ [])) quantity_names
 reflector_stands a =
     (refl, (refl, (refl, (refl, (refl, (refl, (refl, (refl, (refl, (refl, (refl, (refl, (refl, (refl, (refl, (refl, (refl, (refl, (refl, (refl, (refl, (refl, (refl, (refl, tt))))))))))))))))))))))))
 
 -- a face is under its name
-face_stands : (a : List ℕ) → AllByRecursion (Stand 9 (codes "face" ∷ []) (a ∷ [])) quantity_names
+face_stands : (a : List ℕ) → AllByRecursion (IsPutUnder 9 (codes "face" ∷ []) (a ∷ [])) quantity_names
 face_stands a =
     (refl, (refl, (refl, (refl, (refl, (refl, (refl, (refl, (refl, (refl, (refl, (refl, (refl, (refl, (refl, (refl, (refl, (refl, (refl, (refl, (refl, (refl, (refl, (refl, tt))))))))))))))))))))))))
 
 -- a prism type is under its name
-prism_stands : (a : List ℕ) → AllByRecursion (Stand 10 (codes "prism_type" ∷ []) (a ∷ [])) quantity_names
+prism_stands : (a : List ℕ) → AllByRecursion (IsPutUnder 10 (codes "prism_type" ∷ []) (a ∷ [])) quantity_names
 prism_stands a =
     (refl, (refl, (refl, (refl, (refl, (refl, (refl, (refl, (refl, (refl, (refl, (refl, (refl, (refl, (refl, (refl, (refl, (refl, (refl, (refl, (refl, (refl, (refl, (refl, tt))))))))))))))))))))))))
 
 -- a temperature is under its name
-temperature_stands : (a : List ℕ) → AllByRecursion (Stand 11 (codes "temperature_c" ∷ []) (a ∷ [])) quantity_names
+temperature_stands : (a : List ℕ) → AllByRecursion (IsPutUnder 11 (codes "temperature_c" ∷ []) (a ∷ [])) quantity_names
 temperature_stands a =
     (refl, (refl, (refl, (refl, (refl, (refl, (refl, (refl, (refl, (refl, (refl, (refl, (refl, (refl, (refl, (refl, (refl, (refl, (refl, (refl, (refl, (refl, (refl, (refl, tt))))))))))))))))))))))))
 
 -- a number of places is under its name
-places_stand : (a : List ℕ) → AllByRecursion (Stand 12 (codes "places" ∷ []) (a ∷ [])) quantity_names
+places_stand : (a : List ℕ) → AllByRecursion (IsPutUnder 12 (codes "places" ∷ []) (a ∷ [])) quantity_names
 places_stand a =
     (refl, (refl, (refl, (refl, (refl, (refl, (refl, (refl, (refl, (refl, (refl, (refl, (refl, (refl, (refl, (refl, (refl, (refl, (refl, (refl, (refl, (refl, (refl, (refl, tt))))))))))))))))))))))))
 
 -- the three numbers of a version are under their names
-version_stands : (a b c : List ℕ) → AllByRecursion (Stand 13 (codes "release" ∷ codes "version" ∷ codes "subversion" ∷ []) (a ∷ b ∷ c ∷ [])) quantity_names
+version_stands : (a b c : List ℕ) → AllByRecursion (IsPutUnder 13 (codes "release" ∷ codes "version" ∷ codes "subversion" ∷ []) (a ∷ b ∷ c ∷ [])) quantity_names
 version_stands a b c =
     (refl, (refl, (refl, (refl, (refl, (refl, (refl, (refl, (refl, (refl, (refl, (refl, (refl, (refl, (refl, (refl, (refl, (refl, (refl, (refl, (refl, (refl, (refl, (refl, tt))))))))))))))))))))))))
 
 -- a serial number is under its name
-serial_stands : (a : List ℕ) → AllByRecursion (Stand 16 (codes "serial" ∷ []) (a ∷ [])) quantity_names
+serial_stands : (a : List ℕ) → AllByRecursion (IsPutUnder 16 (codes "serial" ∷ []) (a ∷ [])) quantity_names
 serial_stands a =
     (refl, (refl, (refl, (refl, (refl, (refl, (refl, (refl, (refl, (refl, (refl, (refl, (refl, (refl, (refl, (refl, (refl, (refl, (refl, (refl, (refl, (refl, (refl, (refl, tt))))))))))))))))))))))))
 
 -- an instrument's name is under its name
-name_stands : (a : List ℕ) → AllByRecursion (Stand 17 (codes "instrument" ∷ []) (a ∷ [])) quantity_names
+name_stands : (a : List ℕ) → AllByRecursion (IsPutUnder 17 (codes "instrument" ∷ []) (a ∷ [])) quantity_names
 name_stands a =
     (refl, (refl, (refl, (refl, (refl, (refl, (refl, (refl, (refl, (refl, (refl, (refl, (refl, (refl, (refl, (refl, (refl, (refl, (refl, (refl, (refl, (refl, (refl, (refl, tt))))))))))))))))))))))))
 
 -- the six parts of a date and time are under their names
 date_stands : (a b c d e f : List ℕ)
-    → AllByRecursion (Stand 18 (codes "year" ∷ codes "month" ∷ codes "day" ∷ codes "hour" ∷ codes "minute" ∷ codes "second" ∷ []) (a ∷ b ∷ c ∷ d ∷ e ∷ f ∷ [])) quantity_names
+    → AllByRecursion (IsPutUnder 18 (codes "year" ∷ codes "month" ∷ codes "day" ∷ codes "hour" ∷ codes "minute" ∷ codes "second" ∷ []) (a ∷ b ∷ c ∷ d ∷ e ∷ f ∷ [])) quantity_names
 date_stands a b c d e f =
     (refl, (refl, (refl, (refl, (refl, (refl, (refl, (refl, (refl, (refl, (refl, (refl, (refl, (refl, (refl, (refl, (refl, (refl, (refl, (refl, (refl, (refl, (refl, (refl, tt))))))))))))))))))))))))
 
 -- the texts of an answer to this call are under their names
-abbrev IsTold : Call → Answer → List ℕ → Type 0
-IsTold call answer = Stand (column_of call answer) (names_from (column_of call answer) (answer_fields answer).values) (texts_of answer)
+abbrev AreUnderTheirNames : Call → Answer → List ℕ → Type 0
+AreUnderTheirNames call answer = IsPutUnder (column_of call answer) (names_from (column_of call answer) (answer_fields answer).values) (texts_of answer)
 
 -- a whole number that answers this call is under the name that it has for the call
-long_told : (call : Call) (n : ℤ) → AllByRecursion (IsTold call (Long n)) quantity_names
-long_told GetFace n = face_stands (quantity_text (value.Long n))
-long_told GetPrism n = prism_stands (quantity_text (value.Long n))
-long_told call n = serial_stands (quantity_text (value.Long n))
+long_under_its_name : (call : Call) (n : ℤ) → AllByRecursion (AreUnderTheirNames call (Long n)) quantity_names
+long_under_its_name GetFace n = face_stands (quantity_text (value.Long n))
+long_under_its_name GetPrism n = prism_stands (quantity_text (value.Long n))
+long_under_its_name call n = serial_stands (quantity_text (value.Long n))
 
 -- the texts of each answer to each call are under their names
-answer_told : (call : Call) (answer : Answer) → AllByRecursion (IsTold call answer) quantity_names
-answer_told call Nothing = none_stand
-answer_told call (Short n) = places_stand (quantity_text (value.Short n))
-answer_told call (Version release version subversion) = version_stands (quantity_text (value.Short release)) (quantity_text (value.Short version)) (quantity_text (value.Short subversion))
-answer_told call (Long n) = long_told call n
-answer_told call (Name name) = name_stands name
-answer_told call (Date d) =
+answer_under_its_names : (call : Call) (answer : Answer) → AllByRecursion (AreUnderTheirNames call answer) quantity_names
+answer_under_its_names call Nothing = none_stand
+answer_under_its_names call (Short n) = places_stand (quantity_text (value.Short n))
+answer_under_its_names call (Version release version subversion) = version_stands (quantity_text (value.Short release)) (quantity_text (value.Short version)) (quantity_text (value.Short subversion))
+answer_under_its_names call (Long n) = long_under_its_name call n
+answer_under_its_names call (Name name) = name_stands name
+answer_under_its_names call (Date d) =
     date_stands (quantity_text (value.Short d.year)) (quantity_text (value.Byte d.month)) (quantity_text (value.Byte d.day))
     (quantity_text (value.Byte d.hour)) (quantity_text (value.Byte d.minute)) (quantity_text (value.Byte d.second))
-answer_told call (Temperature t) = temperature_stands (quantity_text (value.Double t))
-answer_told call (Place s) = place_stand (quantity_text (value.Double s.e0)) (quantity_text (value.Double s.n0)) (quantity_text (value.Double s.h0)) (quantity_text (value.Double s.hi))
-answer_told call (Height h) = reflector_stands (quantity_text (value.Double h))
-answer_told call (Angles hz v) = two_stand (quantity_text (value.Double hz)) (quantity_text (value.Double v))
-answer_told call (Measured hz v distance) = three_stand (quantity_text (value.Double hz)) (quantity_text (value.Double v)) (quantity_text (value.Double distance))
-answer_told call (MeasuredMode hz v distance mode) =
+answer_under_its_names call (Temperature t) = temperature_stands (quantity_text (value.Double t))
+answer_under_its_names call (Place s) = place_stand (quantity_text (value.Double s.e0)) (quantity_text (value.Double s.n0)) (quantity_text (value.Double s.h0)) (quantity_text (value.Double s.hi))
+answer_under_its_names call (Height h) = reflector_stands (quantity_text (value.Double h))
+answer_under_its_names call (Angles hz v) = two_stand (quantity_text (value.Double hz)) (quantity_text (value.Double v))
+answer_under_its_names call (Measured hz v distance) = three_stand (quantity_text (value.Double hz)) (quantity_text (value.Double v)) (quantity_text (value.Double distance))
+answer_under_its_names call (MeasuredMode hz v distance mode) =
     four_stand (quantity_text (value.Double hz)) (quantity_text (value.Double v)) (quantity_text (value.Double distance)) (quantity_text (value.Long mode))
 
 -- if all fields of quantities are empty, the field under each name of one is empty
@@ -383,9 +380,9 @@ answer_to (Raw raw) fields answer says = tt
 columns_told : (asked : Asked) (answer : Answer) (name : List ℕ) (k : ℕ) → slice_get quantity_names k ≡ Some name → IsAnswerTo asked answer
     → under name quantity_names (map escaped (answer_columns asked answer)) ≡ escaped (quantity_in asked (Value answer) name)
 columns_told (Table call) answer name k is of =
-    all_at (IsTold call answer) quantity_names (answer_told call answer) k name is
+    all_at (AreUnderTheirNames call answer) quantity_names k name (answer_under_its_names call answer) is
     ∙ ap (λ (names : List (List ℕ)). escaped (under name names (texts_of answer))) (have_their_names call answer of)
-columns_told (Raw raw) answer name k is of = all_at (λ (n : List ℕ). under n quantity_names (map escaped (replicate 24 [])) ≡ []) quantity_names blank k name is
+columns_told (Raw raw) answer name k is of = all_at (λ (n : List ℕ). under n quantity_names (map escaped (replicate 24 [])) ≡ []) quantity_names k name blank is
 
 module _ (when : When) (text : List ℕ) (command : Wish) (name : List ℕ) (k : ℕ) (is : slice_get quantity_names k ≡ Some name) where
   -- the field of a row under this name of a quantity
@@ -395,14 +392,14 @@ module _ (when : When) (text : List ℕ) (command : Wish) (name : List ℕ) (k :
   -- under this name a row has what the fields of its quantities have
   behind : (end : End) → field_of end ≡ under name quantity_names (map escaped (quantity_fields command.call end))
   behind end =
-      all_at (IsBehind when text command end) quantity_names (behind_others when text command end) k name is
+      all_at (IsBehind when text command end) quantity_names k name (behind_others when text command end) is
       ∙ ap (under name (quantity_names ++ last_names)) (map-append escaped (quantity_fields command.call end) (last_fields when end))
       ∙ under_front name quantity_names (map escaped (quantity_fields command.call end)) last_names (map escaped (last_fields when end)) (filled command.call end)
-      (all_at (λ key. IsAmong key quantity_names) quantity_names all_among k name is)
+      (all_at (λ key. IsAmong key quantity_names) quantity_names k name all_among is)
 
   -- if all fields of quantities are empty, the field under this name is empty
   none : under name quantity_names (map escaped (replicate 24 [])) ≡ []
-  none = all_at (λ (n : List ℕ). under n quantity_names (map escaped (replicate 24 [])) ≡ []) quantity_names blank k name is
+  none = all_at (λ (n : List ℕ). under n quantity_names (map escaped (replicate 24 [])) ≡ []) quantity_names k name blank is
 
   -- under the name of a quantity is the answer's quantity of that name
   pub quantity_stands : (quality : Quality) (answer : Answer) (line : List ℕ) → IsAnswerTo command.call answer

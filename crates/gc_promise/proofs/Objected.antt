@@ -25,7 +25,7 @@ use Rattle.gc_texts.specs.declared.wish.Wish.{Wish}
 use Rattle.gc_texts.specs.declared.name.Name.{Name}
 use Rattle.gc_texts.specs.declared.quality.Quality.{Quality}
 use Rattle.gc_rows.specs.JsonLines.{json_members, members_text, string_text}
-use Rattle.gc_rows.specs.Laws.{IsEnd, IsWhen, record_read}
+use Rattle.gc_rows.specs.Laws.{IsEndOfBytes, FitsIn64Bits, record_read}
 use Rattle.gc_rows.specs.Quantities.{quantity_names}
 use Rattle.gc_rows.specs.Records.{head_text, record_text}
 use Rattle.gc_rows.specs.Rows.{code_of, com_of}
@@ -56,15 +56,17 @@ use Rattle.gc_field.specs.Instrument.{IsAnInstrument, AnyState}
 use Rattle.gc_field.specs.Runs.{IsInField, IsOwnAnswer}
 use Rattle.gc_field.specs.Shown.{Stretch, stretches}
 use Rattle.gc_field.proofs.Joining.{run_faithful}
-use Rattle.gc_promise.specs.Fields.{IsOwn, IsReplied, Says, quality_in, quantity_in, taken}
+use Rattle.gc_world.proofs.Options.{some_is}
+use Rattle.gc_world.proofs.Places.{get_seen}
+use Rattle.gc_promise.specs.Fields.{IsOwn, IsReplied, HasReply, quality_in, quantity_in, quantity_source}
 use Rattle.gc_promise.specs.Objects.{AreOfBytes, AreOwnObjects, IsOwnObject, ObjectsAreTheirOwn, lines_text}
 use Rattle.gc_promise.specs.Tables.{acts_measured, records_in, scope_of}
 use Rattle.gc_promise.proofs.Finding.{at_member, member_attempt, member_cycle, member_outcome, member_place, member_procedure, member_quality, member_quantity, member_rc, member_rc_com, member_sent, member_stands, member_target, member_values, zeros_gone}
-use Rattle.gc_promise.proofs.Judged.{IsJudged, judged, told_none, told_some}
+use Rattle.gc_promise.proofs.Judged.{IsJudged, judged, no_value_if_none, value_if_some}
 use Rattle.gc_promise.proofs.Names.{answer_to}
 use Rattle.gc_promise.proofs.Owning.{a_reply, same_line}
 use Rattle.gc_promise.proofs.Setting.{never_sent, set_to}
-use Rattle.gc_promise.proofs.Tabled.{all_front, all_written, at_map, is_answered, line_in, nothing_in, some_same, without_quality}
+use Rattle.gc_promise.proofs.Tabled.{all_front, all_written, is_answered, line_in, nothing_in, without_quality}
 use Rattle.gc_promise.proofs.Taken.{Took, behind_took}
 use Rattle.gc_promise.proofs.Unbroken.{line_unbroken}
 
@@ -76,13 +78,14 @@ module _ (when : When) (text : List ℕ) (command : Wish) (name : List ℕ) (k :
     stands : (end : End) (quality : Quality) (values : Option Answer) (line : List ℕ) → end ≡ Answered quality values line → values ≡ answer_in told
         → at_member when text command end name ≡ escaped (quantity_in command.call told name)
     stands end quality values line e has = ap (λ (x : End). at_member when text command x name) e ∙ by_values values has where
+      -- the lemma above, by the values of the answer
       by_values : (values : Option Answer) → values ≡ answer_in told → at_member when text command (Answered quality values line) name ≡ escaped (quantity_in command.call told name)
       by_values (Some answer) has =
-          let value : told ≡ reading.Value answer = told_some told answer (sym has) in
+          let value : told ≡ reading.Value answer = value_if_some told answer (sym has) in
           member_quantity when text command (Answered quality (Some answer) line) name k is
           ∙ member_stands command.call name k is quality answer line (answer_to command.call fields answer (subst (IsAskedReading command.call fields) value is_told))
           ∙ ap (λ (x : Reading). escaped (quantity_in command.call x name)) (sym value)
-      by_values None has = member_quantity when text command (Answered quality None line) name k is ∙ sym (nothing_in command.call name told (told_none told (sym has)))
+      by_values None has = member_quantity when text command (Answered quality None line) name k is ∙ sym (nothing_in command.call name told (no_value_if_none told (sym has)))
 
   -- if the command isn't answered, the object has nothing under the name of a quantity
   none_stands : (end : End) → ((quality : Quality) (answer : Option Answer) (line : List ℕ) → end ≡ Answered quality answer line → ⊥) → at_member when text command end name ≡ []
@@ -112,17 +115,17 @@ module _ {State : Type 0} (ends : Ends State) (kept : State → Option KeptReply
 
   -- if a line with the fields of a reply answered the command, the object says what the line says
   says : (line : List ℕ) → answer_of r.end ≡ Some line → (x : ReplyFields) × IsReply line x → IsAsListed reads course.tasks r
-      → Says true at (accepted_at course.tasks r.place) r.command.call line
+      → HasReply true at (accepted_at course.tasks r.place) r.command.call line
   says line answered reply listed =
       let same = same_line r.end line answered in
       let said = reply_columns line reply.0 reply.1 in
       let accepted = accepted_at course.tasks r.place in
       let reading = each_asked_reply r.command.call reply.0 in
-      let told = each_asked_reply r.command.call (taken (quality_in accepted reading.0) reply.0) in
+      let told = each_asked_reply r.command.call (quantity_source (quality_in accepted reading.0) reply.0) in
       let by = judged reads are accepted r.command.call line reply.0 reply.1 reading.0 told.0 reading.1 told.1 in
       let judges : (quality : Quality) (values : Option Answer) (l : List ℕ) → r.end ≡ Answered quality values l
       → IsJudged reads are accepted r.command.call line reply.0 reply.1 reading.0 told.0 reading.1 told.1 quality values =
-      λ quality values l is. by quality values (subst (IsOfQuality reads accepted r.command.call quality values) (some_same l line (ap answer_of (sym is) ∙ answered)) (listed quality values l is)) in
+      λ quality values l is. by quality values (subst (IsOfQuality reads accepted r.command.call quality values) (some_is l line (ap answer_of (sym is) ∙ answered)) (listed quality values l is)) in
       let word = member_outcome when text r.command r.end in
       record {
         reply = reply.0;
@@ -130,16 +133,16 @@ module _ {State : Type 0} (ends : Ends State) (kept : State → Option KeptReply
         rc_com = subst (λ (t : List ℕ). IsNumber t reply.0.rc_com) (sym (member_rc_com when text r.command r.end line same)) (zeros_gone (com_of line) reply.0.rc_com said.rc_com);
         rc = subst (λ (t : List ℕ). IsNumber t reply.0.rc) (sym (member_rc when text r.command r.end line same)) (zeros_gone (code_of line) reply.0.rc said.rc);
         values = member_values when text r.command r.end line same ∙ ap escaped said.values;
-        said = reading.0;
-        is_said = reading.1;
+        answer_reading = reading.0;
+        is_answer_reading = reading.1;
         quality = λ answers.
             let e = is_answered r.end (sym word ∙ answers) in
             member_quality when text r.command r.end ∙ ap (λ (end : End). quality_text (quality_of end)) e.3 ∙ ap quality_word (judges e.0 e.1 e.2 e.3).quality_is;
-        told = told.0;
-        is_told = told.1;
+        quantity_reading = told.0;
+        is_quantity_reading = told.1;
         quantities = λ shows answers name quantity.
             let e = is_answered r.end (sym word ∙ answers) in
-            stands when text r.command name quantity.0 quantity.1 (taken (quality_in accepted reading.0) reply.0) told.0 told.1 r.end e.0 e.1 e.2 e.3 (judges e.0 e.1 e.2 e.3).values_are;
+            stands when text r.command name quantity.0 quantity.1 (quantity_source (quality_in accepted reading.0) reply.0) told.0 told.1 r.end e.0 e.1 e.2 e.3 (judges e.0 e.1 e.2 e.3).values_are;
       }
 
   -- the object of a record is its own, by what is known of the record
@@ -224,7 +227,7 @@ module _ {State : Type 0} (ends : Ends State) (kept : State → Option KeptReply
       let faithful = run_faithful ends AnyState kept is course.plan course.tasks (scope_of course reads) acts u rs there in
       let when = when_of course.layout.run r in
       let text = name_text r.command.target course.names in
-      let bounds = all_written (λ (x : Record). IsWhen (when_of course.layout.run x) × (x.command.target < 2 ^ 64) × IsEnd x.end) (records_in course reads acts) written others order
+      let bounds = all_written (λ (x : Record). FitsIn64Bits (when_of course.layout.run x) × (x.command.target < 2 ^ 64) × IsEndOfBytes x.end) (records_in course reads acts) written others order
       small.each n r got in
       let members = are_members when text r.command r.end bounds.0 (name_bytes r.command.target course.names small.names) bounds.1 bounds.2 in
       record {
@@ -241,7 +244,7 @@ module _ {State : Type 0} (ends : Ends State) (kept : State → Option KeptReply
       }
 
   -- the lines of records in the types of the program have no line feed
-  all_unbroken : (rs : List Record) → AllByRecursion (λ (x : Record). IsWhen (when_of course.layout.run x) × (x.command.target < 2 ^ 64) × IsEnd x.end) rs
+  all_unbroken : (rs : List Record) → AllByRecursion (λ (x : Record). FitsIn64Bits (when_of course.layout.run x) × (x.command.target < 2 ^ 64) × IsEndOfBytes x.end) rs
       → AllByRecursion (Lacks 10) (map line_in_course rs)
   all_unbroken [] bounds = tt
   all_unbroken (r ∷ rs) bounds =
@@ -265,11 +268,11 @@ module _ {State : Type 0} (ends : Ends State) (kept : State → Option KeptReply
         are = took.are;
         unbroken =
             all_unbroken written
-            (all_front (λ (x : Record). IsWhen (when_of course.layout.run x) × (x.command.target < 2 ^ 64) × IsEnd x.end) written took.are.unwritten
-            (subst (AllByRecursion (λ (x : Record). IsWhen (when_of course.layout.run x) × (x.command.target < 2 ^ 64) × IsEnd x.end)) took.are.order small.each));
+            (all_front (λ (x : Record). FitsIn64Bits (when_of course.layout.run x) × (x.command.target < 2 ^ 64) × IsEndOfBytes x.end) written took.are.unwritten
+            (subst (AllByRecursion (λ (x : Record). FitsIn64Bits (when_of course.layout.run x) × (x.command.target < 2 ^ 64) × IsEndOfBytes x.end)) took.are.order small.each));
         as_many = length-map written line_in_course;
         each = λ n line e.
-            let x = at_map line_in_course written n line e in (
+            let x = get_seen line_in_course written n line e in (
               x.0,
               x.1,
               subst (λ (l : List ℕ). IsOwnObject ends AnyState kept l course.tasks parts over x.0) x.2 (each_own written took.are.unwritten took.are.order n x.0 x.1),

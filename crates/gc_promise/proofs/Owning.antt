@@ -16,7 +16,7 @@ use Rattle.gc_texts.specs.declared.wish.Wish.{Wish}
 use Rattle.gc_texts.specs.declared.name.Name.{Name}
 use Rattle.gc_texts.specs.declared.tasks.Task.{Task}
 use Rattle.gc_rows.specs.Records.{record_text}
-use Rattle.gc_rows.specs.Rows.{row_of, row_fields, when_fields, what_fields, fault_field, reply_fields, more_fields, com_of, code_of, values_of}
+use Rattle.gc_rows.specs.Rows.{row_of, row_fields, when_fields, command_fields, fault_field, reply_fields, fields_after_ending, com_of, code_of, values_of}
 use Rattle.gc_rows.specs.declared.when.When.{When}
 use Rattle.gc_rows.proofs.Columns.{reply_columns}
 use Rattle.gc_rows.proofs.Rows.{read_back}
@@ -34,12 +34,13 @@ use Rattle.gc_field.specs.Instrument.{AnyState}
 use Rattle.gc_field.specs.Runs.{IsOwnAnswer}
 use Rattle.gc_field.specs.Shown.{Stretch}
 use Rattle.gc_field.proofs.Joining.{run_faithful}
-use Rattle.gc_promise.specs.Rows.{column, FieldsSay, IsOwnRow, RowsAreTheirOwn}
+use Rattle.gc_promise.specs.Rows.{column, FieldsSay, IsOwnIfAnswered, RowsAreTheirOwn}
 use Rattle.gc_promise.specs.Tables.{table}
 
 -- a line with an id is a reply
 pub a_reply : (line : List ℕ) (id : ℕ) → heard line ≡ Some id → (r : ReplyFields) × IsReply line r
 a_reply line id h = by_read (reply_at line) refl where
+  -- the lemma above, by what the line reads as
   by_read : (read : Result ReplyFields LineFault) → reply_at line ≡ read → (r : ReplyFields) × IsReply line r
   by_read (Ok r) e = (r, reply_found line r e)
   by_read (Err f) e = let none = ap id_in e in absurd (cc)
@@ -58,7 +59,7 @@ module _ (columns : Bool) (when : When) (name : List ℕ) (command : Wish) (end 
   -- the fields of a row, by the line of its reply
   abbrev by_line : Option (List ℕ) → List (List ℕ)
   by_line line =
-      stamp_text when.run ∷ (when_fields when ++ (what_fields command name ++ ((word_of end ∷ fault_field (fault_of end) ∷ reply_fields line) ++ more_fields columns when command.call end)))
+      stamp_text when.run ∷ (when_fields when ++ (command_fields command name ++ ((word_of end ∷ fault_field (fault_of end) ∷ reply_fields line) ++ fields_after_ending columns when command.call end)))
 
   -- a row has more than one field
   pub two_fields : 1 < length (row_fields columns when name command end)
@@ -111,7 +112,7 @@ says layout columns names r line answered reply =
 module _ {State : Type 0} (ends : Ends State) (kept : State → Option KeptReply) (layout : Layout) (columns : Bool) (names : List Name) (form : layout.form ≡ table columns)
     (plan : Plan) (commands : List Task) (scope : Scope) (acts : List Act) (ps : List Part) (ss : List (Stretch State)) where
   -- if a record is an answer, its row is its own
-  one : (r : Record) → IsOwnAnswer ends AnyState kept commands ps ss r → AnswerIsJustified plan commands scope acts r → IsOwnRow ends AnyState kept layout names commands ps ss r
+  one : (r : Record) → IsOwnAnswer ends AnyState kept commands ps ss r → AnswerIsJustified plan commands scope acts r → IsOwnIfAnswered ends AnyState kept layout names commands ps ss r
   one r own came line answered =
       let true_one = came line answered in
       let fields = fields_of layout columns names r in
@@ -128,7 +129,7 @@ module _ {State : Type 0} (ends : Ends State) (kept : State → Option KeptReply
 
   -- the rows of all of these records are their own, if the records are answers
   each : (records : List Record) → AllByRecursion (IsOwnAnswer ends AnyState kept commands ps ss) records → AllByRecursion (AnswerIsJustified plan commands scope acts) records
-      → AllByRecursion (IsOwnRow ends AnyState kept layout names commands ps ss) records
+      → AllByRecursion (IsOwnIfAnswered ends AnyState kept layout names commands ps ss) records
   each [] own came = tt
   each (r ∷ records) own came = (one r own.0 came.0, each records own.1 came.1)
 

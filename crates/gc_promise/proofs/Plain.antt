@@ -6,11 +6,11 @@ use Rattle.std.specs.Str.Parse.{AllDigits}
 use Rattle.std.proofs.Math.Nat.{div-add-mod}
 use Rattle.std.proofs.lemmas.Bool.{and_from, cond_both, lt-ltb, ltb-true, ne_eqb}
 use Rattle.std.proofs.lemmas.Grind.{flat_map-append}
-use Rattle.std.proofs.lemmas.Str.Parse.{digit_from_value}
 use Rattle.gc_values.specs.Digits.{AreDigits}
 use Rattle.gc_texts.specs.Logs.{escape, escaped, hex_digit}
 use Rattle.gc_texts.specs.Stamps.{date_of, date_text, days_after, is_leap, month_days, stamp_text, three_digits, time_text, two_digits}
 use Rattle.gc_rows.specs.Rows.{moment_text}
+use Rattle.gc_rows.proofs.Members.{digits_are}
 
 -- a digit is printed as it is
 digit_plain : (d : ℕ) → 48 ≤ d → d ≤ 57 → escape d ≡ d ∷ []
@@ -27,14 +27,12 @@ digits_plain (d ∷ ds) are = ap (λ l. l ++ escaped ds) (digit_plain d are.0.0 
 
 -- bytes that are digits, by `AllDigits`, are printed as they are
 pub number_plain : (ds : List ℕ) → AllDigits 10 ds → escaped ds ≡ ds
-number_plain ds are = digits_plain ds (are_digits ds are) where
-  are_digits : (cs : List ℕ) → AllDigits 10 cs → AreDigits cs
-  are_digits [] all = tt
-  are_digits (c ∷ cs) all = (digit_from_value c all.0, are_digits cs all.1)
+number_plain ds are = digits_plain ds (digits_are ds are)
 
 -- the last place of a number is printed as a digit
 glyph : (n : ℕ) → (48 ≤ digit_glyph false (n % 10)) × (digit_glyph false (n % 10) ≤ 57)
 glyph n = small (n % 10) (omega arith) where
+  -- the character of a number below 10 is a digit
   small : (r : ℕ) → r < 10 → (48 ≤ digit_glyph false r) × (digit_glyph false r ≤ 57)
   small r few = cond_both (nat_lt r 10) (48 + r) (87 + r) (λ (x : ℕ). (48 ≤ x) × (x ≤ 57)) (λ _. (omega arith, omega (arith, few))) (λ no. let is = lt-ltb r 10 few in absurd (cc))
 
@@ -55,7 +53,7 @@ pub decimal_plain : (n : ℕ) → escaped (decimal n) ≡ decimal n
 decimal_plain n = digits_plain (decimal n) (decimal_digits n)
 
 -- bytes that appear unchanged in a field, and others after them, do so together
-plain_both : (xs ys : List ℕ) → escaped xs ≡ xs → escaped ys ≡ ys → escaped (xs ++ ys) ≡ xs ++ ys
+pub plain_both : (xs ys : List ℕ) → escaped xs ≡ xs → escaped ys ≡ ys → escaped (xs ++ ys) ≡ xs ++ ys
 plain_both xs ys x y = flat_map-append escape xs ys ∙ ap (λ (l : List ℕ). l ++ escaped ys) x ∙ ap (λ (l : List ℕ). xs ++ l) y
 
 -- two digits appear unchanged in a field

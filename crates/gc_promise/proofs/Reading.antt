@@ -16,6 +16,7 @@ use Rattle.csv.specs.declared.parser.Terminator.TheVariants as term
 use Rattle.gc_texts.specs.Logs.{escaped}
 use Rattle.gc_rows.specs.Rows.{row_of}
 use Rattle.gc_rows.proofs.Rows.{read_back}
+use Rattle.gc_world.proofs.Options.{some_is}
 use Rattle.gc_promise.specs.Tables.{AreReadAs}
 
 -- Each read of a record leaves fewer reads.
@@ -76,27 +77,26 @@ few_if : (b : Bool) → one_if b < 2
 few_if true = omega arith
 few_if false = omega arith
 
--- two reads are equal where `Some` of the one equals `Some` of the other
-some_same : (a b : Read) → Some a ≡ Some b → a ≡ b
-some_same a b e = cc
-
 -- after a read that gives a record, `reads_left` is smaller than before it
 takes_some : (cfg : Config) (s : State) (fields : List (List ℕ)) (field xs : List ℕ) (p : Read) → next_record cfg s fields field xs ≡ Some p → reads_left p.1 p.2 < reads_left s xs
 unfolding next_record
 takes_some cfg s fields field [] p = at_end (ends_at_end s) where
+  -- the lemma above at the end of the input, by whether that ends a record (`b`)
   at_end : (b : Bool) → cond b (Some (fields ++ (field ∷ []), st.StartRecord, [])) None ≡ Some p → reads_left p.1 p.2 < 0 + one_if b
-  at_end true e = subst (λ (x : Read). reads_left x.1 x.2 < 1) (some_same _ p e) (omega arith)
+  at_end true e = subst (λ (x : Read). reads_left x.1 x.2 < 1) (some_is _ p e) (omega arith)
   at_end false e = cc
 takes_some cfg s fields field (c ∷ rest) p = at_byte (is_end (step cfg s c).1) refl (takes_some cfg (step cfg s c).0 _ _ rest p) where
+  -- the read after a step that leads to this state, with this action
   goes_on : State × Action → Option Read
   goes_on x = next_record cfg x.0 (fields_after x.1 fields field) (field_after x.1 c field) rest
 
+  -- the lemma above at a byte, by whether that ends the record (`b`)
   at_byte : (b : Bool) → is_end (step cfg s c).1 ≡ b
       → (next_record cfg (step cfg s c).0 (fields_after (step cfg s c).1 fields field) (field_after (step cfg s c).1 c field) rest ≡ Some p → reads_left p.1 p.2 < reads_left (step cfg s c).0 rest)
       → cond b (Some (fields_after (step cfg s c).1 fields field, (step cfg s c).0, rest)) (goes_on (step cfg s c)) ≡ Some p
       → reads_left p.1 p.2 < suc (length rest) + one_if (ends_at_end s)
   at_byte true is more e =
-      subst (λ (x : Read). reads_left x.1 x.2 < suc (length rest) + one_if (ends_at_end s)) (some_same _ p e)
+      subst (λ (x : Read). reads_left x.1 x.2 < suc (length rest) + one_if (ends_at_end s)) (some_is _ p e)
       (let none = ap one_if (step_between cfg s c is) in omega (arith, none))
   at_byte false is more e = let less = more e in let few = few_if (ends_at_end (step cfg s c).0) in omega (arith, less, few)
 
@@ -105,11 +105,12 @@ enough : (cfg : Config) (m n : ℕ) (s : State) (xs : List ℕ) → reads_left s
 unfolding records_from
 enough cfg zero n s xs few many = absurd (omega (arith, few))
 enough cfg (suc m) zero s xs few many = absurd (omega (arith, many))
-enough cfg (suc m) (suc n) s xs few many = by (enough cfg m n) (next_record cfg s [] [] xs) refl where
-  by : ((t : State) (ys : List ℕ) → reads_left t ys < m → reads_left t ys < n → records_from cfg m t ys ≡ records_from cfg n t ys)
+enough cfg (suc m) (suc n) s xs few many = by_read (enough cfg m n) (next_record cfg s [] [] xs) refl where
+  -- the lemma above, by the first read
+  by_read : ((t : State) (ys : List ℕ) → reads_left t ys < m → reads_left t ys < n → records_from cfg m t ys ≡ records_from cfg n t ys)
       → (o : Option Read) → next_record cfg s [] [] xs ≡ o → records_next (records_from cfg m) o ≡ records_next (records_from cfg n) o
-  by more None e = refl
-  by more (Some p) e = let less = takes_some cfg s [] [] xs p e in ap (λ l. p.0 ∷ l) (more p.1 p.2 (omega (arith, less, few)) (omega (arith, less, many)))
+  by_read more None e = refl
+  by_read more (Some p) e = let less = takes_some cfg s [] [] xs p e in ap (λ l. p.0 ∷ l) (more p.1 p.2 (omega (arith, less, few)) (omega (arith, less, many)))
 
 -- Texts that are read.
 

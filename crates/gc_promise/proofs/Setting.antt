@@ -1,6 +1,6 @@
 -- The row of a command that sets the clock: its request asked for the moment that is under `sent`.
 use Rattle.std.proofs.Common.{◌≡◌, ℕ, Bool, true, false, List, [], Option, Some, None, if◌then◌else◌, refl, sym, ap, ◌∙◌, subst}
-use Rattle.std.specs.Prelude.{codes, slice_get}
+use Rattle.std.specs.Prelude.{codes, is_some, slice_get}
 use Rattle.gc_catalogue.specs.declared.asked.Asked.{Asked}
 use Rattle.gc_catalogue.specs.declared.asked.Asked.TheVariants.{Table}
 use Rattle.gc_catalogue.specs.declared.call.Call.TheVariants.{SetDate}
@@ -11,12 +11,9 @@ use Rattle.gc_rows.specs.Rows.{moment_text}
 use Rattle.gc_station.specs.Parts.{went_out}
 use Rattle.gc_station.specs.Records.{Record}
 use Rattle.gc_station.specs.Requests.{command_sent}
-use Rattle.gc_station.specs.Tasked.{IsOfItsTask, has_moment}
+use Rattle.gc_station.specs.Tasked.{IsOfItsTask}
+use Rattle.gc_world.proofs.Options.{some_is}
 use Rattle.gc_promise.specs.Fields.{IsSetTo}
-
--- two tasks are the same where `Some` of the one equals `Some` of the other
-same_task : (x y : Task) → Some x ≡ Some y → x ≡ y
-same_task x y e = cc
 
 -- what is asked at a moment, if the clock is set to it
 set_at : (task : Task) (utc : ℕ) → task.now ≡ true → (command_sent (Some utc) task).call ≡ Table (SetDate (date_time utc))
@@ -26,11 +23,11 @@ module _ (at : List ℕ → List ℕ) (commands : List Task) (r : Record) (of : 
   -- if the record's command sets the clock and its request was sent, that asked for the moment under `sent`
   pub set_to : (task : Task) → slice_get commands r.place ≡ Some task → task.now ≡ true → went_out r.end ≡ true → IsSetTo at r
   set_to task listed now out = by_moment r.sent refl (of.sent ∙ out) where
-    -- the lemma above, by the record's moment of sending
-    by_moment : (o : Option ℕ) → r.sent ≡ o → has_moment r.sent ≡ true → IsSetTo at r
-    by_moment None is has = let none : false ≡ true = sym (ap has_moment is) ∙ has in cc
+    -- if the record's moment of sending is o, and there is one, the request asked for that moment
+    by_moment : (o : Option ℕ) → r.sent ≡ o → is_some r.sent ≡ true → IsSetTo at r
+    by_moment None is has = let none : false ≡ true = sym (ap is_some is) ∙ has in cc
     by_moment (Some utc) is has =
-        let own : of.task ≡ task = same_task of.task task (sym of.listed ∙ listed) in
+        let own : of.task ≡ task = some_is of.task task (sym of.listed ∙ listed) in
         record {
           utc = utc;
           sent = stands ∙ ap moment_text is;
@@ -40,7 +37,7 @@ module _ (at : List ℕ → List ℕ) (commands : List Task) (r : Record) (of : 
   -- if no request was sent, nothing is under `sent`
   pub never_sent : went_out r.end ≡ false → at (codes "sent") ≡ []
   never_sent out = stands ∙ by_moment r.sent (of.sent ∙ out) where
-    -- the lemma above, by the record's moment of sending
-    by_moment : (o : Option ℕ) → has_moment o ≡ false → moment_text o ≡ []
+    -- the text of no moment is empty
+    by_moment : (o : Option ℕ) → is_some o ≡ false → moment_text o ≡ []
     by_moment None has = refl
     by_moment (Some utc) has = cc

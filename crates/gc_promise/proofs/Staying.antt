@@ -3,11 +3,11 @@
 -- a read returns, and the one of which a crash may leave a part.
 use Rattle.std.proofs.Common.{◌≡◌, inl, inr, ℕ, ◌≤◌, Bool, true, false, List, [], ◌∷◌, ◌++◌, length, take, refl, sym, ◌∙◌, ap, subst, append_assoc, append-nil, Option}
 use Rattle.std.proofs.lemmas.Bool.{cases_Bool}
-use Rattle.gc_files.specs.Failing.{Sides, Event, Ran, Failed, Copied, Crashed, feeds, settled, one, done_by, sides_after, runs_of, Occur, is_trusted}
+use Rattle.gc_files.specs.Failing.{Sides, Event, Ran, Failed, Copied, Crashed, feeds, settled, same_sides, done_by, sides_after, runs_of, Occur, IsTrusted}
 use Rattle.gc_files.specs.Files.{Step, Append, Cut, Sync, Life, has_sync, content}
 use Rattle.gc_files.specs.Rows.{whole, table, start_of, mended, cuts_none, appended, Puts, IsFront}
 use Rattle.gc_files.specs.Rows as opening
-use Rattle.gc_files.specs.Runs.{synced, Run, lines, IsRun, WereKept, Happen, life_after, lived, rows_of, Counts, HasRows}
+use Rattle.gc_files.specs.Runs.{synced, Run, lines, IsRun, WereKept, Happen, life_after, life_once_ended, rows_of, AreRowCounts, HasRows}
 use Rattle.gc_files.proofs.Killing.{calls_opened}
 use Rattle.gc_files.proofs.Moments.{two_steps, mend_synced, no_sync}
 use Rattle.gc_files.proofs.Whole.{whole_more}
@@ -107,29 +107,29 @@ module _ (head held : List ℕ) (steps was since : List Step) (rest : List ℕ) 
 -- runs that may happen, and then others that may happen after them, may happen as one list
 pub happen_two : (head : List ℕ) (life : Life) (xs ys : List Run) → Happen head life xs → Happen head (life_after life xs) ys → Happen head life (xs ++ ys)
 happen_two head life [] ys first second = second
-happen_two head life (run ∷ xs) ys first second = (first.0, first.1, happen_two head (lived life run run.left) xs ys first.2 second)
+happen_two head life (run ∷ xs) ys first second = (first.0, first.1, happen_two head (life_once_ended life run run.left) xs ys first.2 second)
 
 -- the life of a file after two lists of runs is what the second makes of the life after the first
 pub life_two : (life : Life) (xs ys : List Run) → life_after life (xs ++ ys) ≡ life_after (life_after life xs) ys
 life_two life [] ys = refl
-life_two life (run ∷ xs) ys = life_two (lived life run run.left) xs ys
+life_two life (run ∷ xs) ys = life_two (life_once_ended life run run.left) xs ys
 
--- a table with the rows of runs, parted at one of them: rows of the earlier runs, the first of its own rows, at least those that it
+-- a table with the rows of runs, split at one of them: rows of the earlier runs, the first of its own rows, at least those that it
 -- kept, and rows of the later runs
-pub record Parted (head before found : List ℕ) (earlier later : List Run) (run : Run) : Type 0 where
+pub record SplitsAtRun (head before found : List ℕ) (earlier later : List Run) (run : Run) : Type 0 where
   pub counts : List ℕ
-  pub first : Counts earlier counts
+  pub first : AreRowCounts earlier counts
   pub count : ℕ
   pub least : run.kept ≤ count
   pub few : count ≤ length run.rows
   pub counts' : List ℕ
-  pub others : Counts later counts'
+  pub others : AreRowCounts later counts'
   pub is : table head found ≡ ((before ++ rows_of earlier counts) ++ lines (take count run.rows)) ++ rows_of later counts'
 
--- a table with the rows of runs is `Parted` at each of the runs
-pub parted : (head before found : List ℕ) (earlier later : List Run) (run : Run) → HasRows head before (earlier ++ run ∷ later) found → Parted head before found earlier later run
-parted head before found [] later run ([], cs, is) = absurd cs
-parted head before found [] later run (n ∷ counts, cs, is) = record {
+-- a table with the rows of runs splits at each of the runs: into rows of the runs before it, of the run, and of those after it
+pub splits_at_run : (head before found : List ℕ) (earlier later : List Run) (run : Run) → HasRows head before (earlier ++ run ∷ later) found → SplitsAtRun head before found earlier later run
+splits_at_run head before found [] later run ([], cs, is) = absurd cs
+splits_at_run head before found [] later run (n ∷ counts, cs, is) = record {
   counts = [];
   first = tt;
   count = n;
@@ -140,9 +140,9 @@ parted head before found [] later run (n ∷ counts, cs, is) = record {
   is = is ∙ sym (append_assoc before (lines (take n run.rows)) (rows_of later counts))
       ∙ ap (λ (l : List ℕ). (l ++ lines (take n run.rows)) ++ rows_of later counts) (sym (append-nil before));
 }
-parted head before found (r ∷ earlier) later run ([], cs, is) = absurd cs
-parted head before found (r ∷ earlier) later run (n ∷ counts, cs, is) =
-    let p = parted head (before ++ lines (take n r.rows)) found earlier later run
+splits_at_run head before found (r ∷ earlier) later run ([], cs, is) = absurd cs
+splits_at_run head before found (r ∷ earlier) later run (n ∷ counts, cs, is) =
+    let p = splits_at_run head (before ++ lines (take n r.rows)) found earlier later run
     (counts, cs.2, is ∙ sym (append_assoc before (lines (take n r.rows)) (rows_of (earlier ++ run ∷ later) counts))) in
     record {
       counts = n ∷ p.counts;
@@ -160,9 +160,9 @@ pub sides_two : (sides : Sides) (xs ys : List Event) → sides_after sides (xs +
 sides_two sides [] ys = refl
 sides_two sides (Ran run ∷ xs) ys = sides_two (done_by run.steps sides) xs ys
 sides_two sides (Failed run read disk ∷ xs) ys = sides_two (record { read = settled read; disk = settled disk }) xs ys
-sides_two sides (Copied true ∷ xs) ys = sides_two (one (settled (content sides.read))) xs ys
+sides_two sides (Copied true ∷ xs) ys = sides_two (same_sides (settled (content sides.read))) xs ys
 sides_two sides (Copied false ∷ xs) ys = sides_two (record { read = settled (content sides.read); disk = sides.disk }) xs ys
-sides_two sides (Crashed left ∷ xs) ys = sides_two (one (settled left)) xs ys
+sides_two sides (Crashed left ∷ xs) ys = sides_two (same_sides (settled left)) xs ys
 
 -- the runs of two lists of events are those of the first and then those of the second
 pub runs_two : (xs ys : List Event) → runs_of (xs ++ ys) ≡ runs_of xs ++ runs_of ys
@@ -173,13 +173,13 @@ runs_two (Copied named ∷ xs) ys = runs_two xs ys
 runs_two (Crashed left ∷ xs) ys = runs_two xs ys
 
 -- events that may occur, and then others that may occur after them, may occur as one list
-pub occur_two : (head : List ℕ) (sides : Sides) (doubted : Bool) (xs ys : List Event) → Occur is_trusted head sides doubted xs
-    → Occur is_trusted head (sides_after sides xs) (doubted_by doubted xs) ys → Occur is_trusted head sides doubted (xs ++ ys)
+pub occur_two : (head : List ℕ) (sides : Sides) (doubted : Bool) (xs ys : List Event) → Occur IsTrusted head sides doubted xs
+    → Occur IsTrusted head (sides_after sides xs) (doubted_by doubted xs) ys → Occur IsTrusted head sides doubted (xs ++ ys)
 occur_two head sides doubted [] ys first second = second
 occur_two head sides doubted (Ran run ∷ xs) ys first second = (first.0, first.1, occur_two head (done_by run.steps sides) doubted xs ys first.2 second)
 occur_two head sides doubted (Failed run read disk ∷ xs) ys first second =
     (first.0, first.1, first.2, first.3, occur_two head (record { read = settled read; disk = settled disk }) true xs ys first.4 second)
-occur_two head sides doubted (Copied true ∷ xs) ys first second = occur_two head (one (settled (content sides.read))) false xs ys first second
+occur_two head sides doubted (Copied true ∷ xs) ys first second = occur_two head (same_sides (settled (content sides.read))) false xs ys first second
 occur_two head sides doubted (Copied false ∷ xs) ys first second =
     occur_two head (record { read = settled (content sides.read); disk = sides.disk }) true xs ys first second
-occur_two head sides doubted (Crashed left ∷ xs) ys first second = (first.0, occur_two head (one (settled left)) false xs ys first.1 second)
+occur_two head sides doubted (Crashed left ∷ xs) ys first second = (first.0, occur_two head (same_sides (settled left)) false xs ys first.1 second)

@@ -1,6 +1,6 @@
 -- A table that a station wrote of a run in the field: its rows are their own, that is, what is in a row of an answer was
 -- made by the instrument on executing the very request of the row's cycle and place.
-use Rattle.std.proofs.Common.{◌≡◌, inl, inr, ℕ, zero, suc, Bool, true, false, List, [], ◌∷◌, ◌++◌, get_or, map, Option, Some, None, Result, if◌then◌else◌, refl, sym, ap, ◌∙◌, subst, arith, append_assoc}
+use Rattle.std.proofs.Common.{◌≡◌, inl, inr, ℕ, Bool, true, false, List, [], ◌∷◌, ◌++◌, get_or, map, Option, Some, None, Result, if◌then◌else◌, refl, sym, ap, ◌∙◌, subst, arith, append_assoc}
 use Rattle.std.specs.Prelude.{codes, slice_get}
 use Rattle.std.specs.List.{AllByRecursion}
 use Rattle.std.proofs.lemmas.Bool.{false≢true}
@@ -37,6 +37,7 @@ use Rattle.gc_station.specs.Tasked.{IsOfItsTask}
 use Rattle.gc_station.specs.declared.tally.Tally.{Tally}
 use Rattle.gc_station.proofs.Answers.{answers_true}
 use Rattle.gc_station.proofs.EachRun.{of_tasks}
+use Rattle.gc_station.proofs.Lists.{all_at}
 use Rattle.gc_station.proofs.Nearly.{as_listed}
 use Rattle.gc_measuring.specs.Measuring.{Course, front_text, text_in, when_of}
 use Rattle.gc_measuring.specs.declared.stop.Stop.{Stop}
@@ -47,10 +48,12 @@ use Rattle.gc_field.specs.Instrument.{IsAnInstrument, AnyState}
 use Rattle.gc_field.specs.Runs.{IsInField, IsOwnAnswer}
 use Rattle.gc_field.specs.Shown.{Stretch, stretches}
 use Rattle.gc_field.proofs.Joining.{run_faithful}
-use Rattle.gc_promise.specs.Fields.{IsOwn, IsQuantity, IsReplied, Says, quality_in, quantity_in, taken, under}
+use Rattle.gc_world.proofs.Options.{some_is}
+use Rattle.gc_world.proofs.Places.{get_seen}
+use Rattle.gc_promise.specs.Fields.{IsOwn, IsQuantity, IsReplied, HasReply, quality_in, quantity_in, quantity_source, under}
 use Rattle.gc_promise.specs.Tables.{AreReadAs, IsOwnTable, TablesAreTheirOwn, acts_measured, head_rows, header, records_in, scope_of, table}
-use Rattle.gc_promise.proofs.Judged.{IsJudged, judged, told_none, told_some}
-use Rattle.gc_promise.proofs.Names.{all_at, answer_to, none_answered, none_else, quantity_stands, under_attempt, under_cycle, under_outcome, under_place, under_procedure, under_quality, under_rc, under_rc_com, under_sent, under_target, under_values}
+use Rattle.gc_promise.proofs.Judged.{IsJudged, judged, no_value_if_none, value_if_some}
+use Rattle.gc_promise.proofs.Names.{answer_to, none_answered, none_else, quantity_stands, under_attempt, under_cycle, under_outcome, under_place, under_procedure, under_quality, under_rc, under_rc_com, under_sent, under_target, under_values}
 use Rattle.gc_promise.proofs.Owning.{a_reply, fields_of, in_table, same_line, two_fields}
 use Rattle.gc_promise.proofs.Plain.{number_plain}
 use Rattle.gc_promise.proofs.Reading.{both_read, each_reads, none_read, row_reads}
@@ -92,10 +95,6 @@ nothing_in call name (reading.Refused code) none = refl
 nothing_in call name (reading.ComFault code) none = refl
 nothing_in call name (reading.Unreadable fault) none = refl
 
--- two texts are equal where `Some` of the one equals `Some` of the other
-pub some_same : (x y : List ℕ) → Some x ≡ Some y → x ≡ y
-some_same x y e = cc
-
 -- a command whose outcome is `answered` has an answer
 pub is_answered : (end : End) → word_of end ≡ codes "answered" → (quality : Quality) × (values : Option Answer) × (line : List ℕ) × (end ≡ Answered quality values line)
 is_answered (Answered quality values line) word = (quality, values, line, refl)
@@ -126,10 +125,10 @@ module _ (when : When) (text : List ℕ) (command : Wish) (name : List ℕ) (k :
   stands : (quality : Quality) (values : Option Answer) (line : List ℕ) → values ≡ answer_in told
       → at_name (Answered quality values line) ≡ escaped (quantity_in command.call told name)
   stands quality (Some answer) line has =
-      let value : told ≡ reading.Value answer = told_some told answer (sym has) in
+      let value : told ≡ reading.Value answer = value_if_some told answer (sym has) in
       quantity_stands when text command name k is quality answer line (answer_to command.call fields answer (subst (IsAskedReading command.call fields) value is_told))
       ∙ ap (λ (x : Reading). escaped (quantity_in command.call x name)) (sym value)
-  stands quality None line has = none_answered when text command name k is quality line ∙ sym (nothing_in command.call name told (told_none told (sym has)))
+  stands quality None line has = none_answered when text command name k is quality line ∙ sym (nothing_in command.call name told (no_value_if_none told (sym has)))
 
 -- Lists.
 
@@ -140,14 +139,7 @@ all_front P (x ∷ xs) ys all = (all.0, all_front P xs ys all.1)
 
 -- what holds of all records holds of the one at a place among those that were written
 pub all_written : {X : Type 0} (P : X → Type 0) (xs written others : List X) → xs ≡ written ++ others → AllByRecursion P xs → (n : ℕ) (x : X) → slice_get written n ≡ Some x → P x
-all_written P xs written others order all n x is = all_at P written (all_front P written others (subst (AllByRecursion P) order all)) n x is
-
--- an element of a mapped list is the image of the one at its place
-pub at_map : {X Y : Type 0} (f : X → Y) (xs : List X) (n : ℕ) (y : Y) → slice_get (map f xs) n ≡ Some y → (x : X) × (slice_get xs n ≡ Some x) × (f x ≡ y)
-at_map f [] zero y e = cc
-at_map f [] (suc n) y e = cc
-at_map f (x ∷ xs) zero y e = (x, refl, let same : f x ≡ y = cc in same)
-at_map f (x ∷ xs) (suc n) y e = at_map f xs n y e
+all_written P xs written others order all n x is = all_at P written n x (all_front P written others (subst (AllByRecursion P) order all)) is
 
 -- A row.
 
@@ -188,18 +180,18 @@ module _ {State : Type 0} (ends : Ends State) (kept : State → Option KeptReply
 
     -- if a line with the fields of a reply answered the command, the row says what the line says
     says : (line : List ℕ) → answer_of r.end ≡ Some line → (x : ReplyFields) × IsReply line x → IsAsListed reads course.tasks r
-        → Says columns (at r) (accepted_at course.tasks r.place) r.command.call line
+        → HasReply columns (at r) (accepted_at course.tasks r.place) r.command.call line
     says line answered reply listed =
         let same = same_line r.end line answered in
         let said = reply_columns line reply.0 reply.1 in
         let accepted = accepted_at course.tasks r.place in
         let reading = each_asked_reply r.command.call reply.0 in
-        let told = each_asked_reply r.command.call (taken (quality_in accepted reading.0) reply.0) in
+        let told = each_asked_reply r.command.call (quantity_source (quality_in accepted reading.0) reply.0) in
         let word = under_outcome when text r.command r.end columns in
         let by = judged reads are accepted r.command.call line reply.0 reply.1 reading.0 told.0 reading.1 told.1 in
         let judges : (quality : Quality) (values : Option Answer) (l : List ℕ) → r.end ≡ Answered quality values l
         → IsJudged reads are accepted r.command.call line reply.0 reply.1 reading.0 told.0 reading.1 told.1 quality values =
-        λ quality values l is. by quality values (subst (IsOfQuality reads accepted r.command.call quality values) (some_same l line (ap answer_of (sym is) ∙ answered))
+        λ quality values l is. by quality values (subst (IsOfQuality reads accepted r.command.call quality values) (some_is l line (ap answer_of (sym is) ∙ answered))
         (listed quality values l is)) in
         record {
           reply = reply.0;
@@ -208,16 +200,16 @@ module _ {State : Type 0} (ends : Ends State) (kept : State → Option KeptReply
               subst (λ (t : List ℕ). IsNumber t reply.0.rc_com) (sym (under_rc_com when text r.command r.end line same columns ∙ number_plain (com_of line) said.rc_com.digits)) said.rc_com;
           rc = subst (λ (t : List ℕ). IsNumber t reply.0.rc) (sym (under_rc when text r.command r.end line same columns ∙ number_plain (code_of line) said.rc.digits)) said.rc;
           values = under_values when text r.command r.end line same columns ∙ ap escaped said.values;
-          said = reading.0;
-          is_said = reading.1;
+          answer_reading = reading.0;
+          is_answer_reading = reading.1;
           quality = λ answers.
               let e = is_answered r.end (sym word ∙ answers) in
               under_quality when text r.command r.end columns ∙ ap (λ (end : End). quality_text (quality_of end)) e.3 ∙ ap quality_word (judges e.0 e.1 e.2 e.3).quality_is;
-          told = told.0;
-          is_told = told.1;
+          quantity_reading = told.0;
+          is_quantity_reading = told.1;
           quantities = λ shows answers name quantity.
               let e = is_answered r.end (sym word ∙ answers) in
-              quantity_at columns shows (taken (quality_in accepted reading.0) reply.0) told.0 told.1 e.0 e.1 e.2 e.3 (judges e.0 e.1 e.2 e.3).values_are name quantity;
+              quantity_at columns shows (quantity_source (quality_in accepted reading.0) reply.0) told.0 told.1 e.0 e.1 e.2 e.3 (judges e.0 e.1 e.2 e.3).values_are name quantity;
         }
 
     -- the row of a record is its own, by what is known of the record
@@ -252,6 +244,7 @@ module _ {State : Type 0} (ends : Ends State) (kept : State → Option KeptReply
 head_reads : (headed columns : Bool) (form : Form) → form ≡ table columns → AreReadAs (if headed then [] else head_text form) (if headed then [] else header columns ∷ [])
 head_reads true columns form is = none_read
 head_reads false columns form is = subst (λ (f : Form). AreReadAs (head_text f) (header columns ∷ [])) (sym is) (names_read columns) where
+  -- the header of a table with quantities (`true`) or without (`false`) reads as the names of its columns
   names_read : (b : Bool) → AreReadAs (head_text (table b)) (header b ∷ [])
   names_read false = row_reads (names ++ last_names) (omega arith)
   names_read true = row_reads (names ++ (quantity_names ++ last_names)) (omega arith)
@@ -314,7 +307,7 @@ module _ {State : Type 0} (ends : Ends State) (kept : State → Option KeptReply
         behind = λ held earlier first. both_read held (front ++ texts) earlier (head_rows course.layout columns ++ map row written) first whole;
         as_many = length-map written row;
         each = λ n fields e.
-            let x = at_map row written n fields e in (
+            let x = get_seen row written n fields e in (
               x.0,
               x.1,
               subst (λ (f : List (List ℕ)). IsOwn ends AnyState kept columns (λ name. under name (header columns) f) course.tasks parts over x.0) x.2

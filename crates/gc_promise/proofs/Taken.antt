@@ -1,7 +1,7 @@
 -- What a sink took of a run, and which acts and records were its own.
-use Rattle.std.proofs.Common.{◌≡◌, inl, inr, ℕ, zero, suc, ◌-◌, List, [], ◌∷◌, ◌++◌, length, take, drop, Option, Some, None, Result, Ok, Err, refl, sym, ap, ◌∙◌, subst, arith, append_assoc, append-nil, length-append}
+use Rattle.std.proofs.Common.{◌≡◌, inl, inr, ℕ, ◌-◌, List, [], ◌∷◌, ◌++◌, length, take, drop, Option, Some, None, Result, Ok, Err, refl, sym, ap, ◌∙◌, subst, arith, append_assoc, append-nil, length-append}
 use Rattle.std.specs.Io.KnownBytes.{Appends}
-use Rattle.std.proofs.lemmas.List.{length-drop}
+use Rattle.std.proofs.lemmas.List.{length-drop, take-append-drop}
 use Rattle.gc_catalogue.specs.declared.answer.Reading.{Reading}
 use Rattle.gc_catalogue.specs.declared.asked.Asked.{Asked}
 use Rattle.gc_texts.specs.declared.fault.RunFault.{RunFault}
@@ -13,7 +13,7 @@ use Rattle.gc_station.specs.Runs.{Ran, state_after}
 use Rattle.gc_station.specs.Scopes.{Scope, AreReadings}
 use Rattle.gc_station.specs.declared.plan.Plan.{Plan}
 use Rattle.gc_station.specs.declared.tally.Tally.{Tally}
-use Rattle.gc_measuring.specs.Measuring.{Course, Places, RunsBehind, front_text, text_in}
+use Rattle.gc_measuring.specs.Measuring.{Course, PortsSeen, RunsBehind, front_text, text_in}
 use Rattle.gc_measuring.specs.Stops.{end_of_run}
 use Rattle.gc_measuring.specs.declared.stop.Stop.{Stop}
 use Rattle.gc_measuring.specs.declared.stop.Stop.TheVariants.{Run}
@@ -55,12 +55,6 @@ module _ (text : Record → List ℕ) where
     is = appended start (texts_of text records) has took ∙ ap (λ (l : List ℕ). Some (start ++ l)) (sym (append-nil (texts_of text records)));
   }
 
-  -- a list is its first n elements and then the others
-  parted : (n : ℕ) (xs : List ℕ) → xs ≡ take n xs ++ drop n xs
-  parted zero xs = refl
-  parted (suc n) [] = refl
-  parted (suc n) (x ∷ xs) = ap (λ (l : List ℕ). x ∷ l) (parted n xs)
-
   -- if a part was written and the output failed, `Took` holds
   took_part : (before records : List Record) (start : List ℕ) (has : Option (List ℕ)) → WritesPart text before records (Some start) has → Took records (Err (Run Output)) start has
   took_part before records start has w = record {
@@ -70,7 +64,7 @@ module _ (text : Record → List ℕ) where
       unwritten = w.next ∷ w.later;
       order = w.order ∙ sym (append_assoc before w.earlier (w.next ∷ w.later));
       all = λ no. absurd (no refl);
-      part = (drop w.part (text w.next), parted w.part (text w.next), let left = length-drop w.part (text w.next) in let some = w.not_all in omega (arith, left, some));
+      part = (drop w.part (text w.next), sym (take-append-drop w.part (text w.next)), let left = length-drop w.part (text w.next) in let some = w.not_all in omega (arith, left, some));
     };
     is = appended start (texts_of text (before ++ w.earlier) ++ take w.part (text w.next)) has w.took;
   }
@@ -96,7 +90,7 @@ module _ (text : Record → List ℕ) where
     ran_took (Err fault) r = took_of r.2.acts told (Err (Run fault)) r.2.tells r.2.took
 
 -- what a sink took of a run is what was written of its records, after what the sink had and what comes before the records
-pub behind_took : (course : Course) (old new : Places) (result : Result Tally Stop) → RunsBehind course old new result →
+pub behind_took : (course : Course) (old new : PortsSeen) (result : Result Tally Stop) → RunsBehind course old new result →
     (told : List Act) (had : List ℕ) → old.acts ≡ Some [] → new.acts ≡ Some told → old.taken ≡ Some had → (reads : Asked → List ℕ → Reading) → AreReadings reads →
     Took (text_in course.layout course.names) (records_in course reads (acts_measured result told)) result (had ++ front_text course.layout) new.taken
 behind_took course old new result b told had none some began reads are =

@@ -94,6 +94,7 @@ patched reads call = reads call
 -- if a function gives this reading of the line anyway, to put the reading before it changes nothing
 said_so : (line : List ℕ) (reading : Reading) (says : List ℕ → Reading) → says line ≡ reading → saying line reading says ≡ says
 said_so line reading says e = fun_ext (λ x. by_test x (pointwise nat_eq line x) refl) where
+  -- the two functions give the same of x, whether x is the line (`same`) or not
   by_test : (x : List ℕ) (same : Bool) → pointwise nat_eq line x ≡ same → (if same then reading else says x) ≡ says x
   by_test x true t = sym e ∙ ap says (same_text line x (sym t))
   by_test x false t = refl

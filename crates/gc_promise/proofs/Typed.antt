@@ -9,7 +9,7 @@ use Rattle.std.specs.Option.{IfSome}
 use Rattle.std.specs.Prelude.{codes, nat_lt, ◌&&◌}
 use Rattle.gc_lines.proofs.Replies.{reply_found}
 use Rattle.gc_lines.specs.Readers.{header_at, reply_at}
-use Rattle.gc_rows.specs.Laws.{IsEnd, IsReplyOfBytes, IsWhen}
+use Rattle.gc_rows.specs.Laws.{IsEndOfBytes, IsReplyOfBytes, FitsIn64Bits}
 use Rattle.gc_rows.specs.declared.record.Form.TheVariants.{Json}
 use Rattle.gc_station.specs.Records.{Record}
 use Rattle.gc_station.proofs.Facts.{both_true}
@@ -60,19 +60,19 @@ unfolding header_at reply_at digits
 empty_is = of_bytes empty [] 4 refl refl
 
 -- the line in the ending of command 0 is of bytes
-points_end : IsEnd points_record.end
+points_end : IsEndOfBytes points_record.end
 points_end = (pointed_is, tt)
 
 -- the line in the ending of command 1 is of bytes
-chained_end : IsEnd chained_record.end
+chained_end : IsEndOfBytes chained_record.end
 chained_end = (measured_is, (tt, (tt, (tt, tt))))
 
 -- the line in the ending of command 3 is of bytes
-number_end : IsEnd number_record.end
+number_end : IsEndOfBytes number_record.end
 number_end = (numbered_is, ((omega (arith, ints), omega (arith, ints)), tt))
 
 -- the lines in the endings of all records of this run are of bytes
-ends : AllByRecursion (λ (r : Record). IsEnd r.end) records
+ends : AllByRecursion (λ (r : Record). IsEndOfBytes r.end) records
 ends = (tt, (tt, (tt, (tt, (tt, (tt, (tt, (tt, (tt, (tt, (tt, (tt, (tt, (tt, (points_end, (chained_end, (elsewhere_is, (number_end, (empty_is, (tt, (tt, tt)))))))))))))))))))))
 
 -- whether a number is below 2^64
@@ -96,10 +96,10 @@ sent_below (Some utc) e = ltb-true utc (2 ^ 64) e
 
 -- records whose numbers are below 2^64, and whose ends are of bytes, lie in the types of the program
 abbrev IsTyped : Record → Type 0
-IsTyped r = IsWhen (when_of 0 r) × (r.command.target < 2 ^ 64) × IsEnd r.end
+IsTyped r = FitsIn64Bits (when_of 0 r) × (r.command.target < 2 ^ 64) × IsEndOfBytes r.end
 
 -- records are typed where their numbers are small and their ends are of bytes
-typed : (rs : List Record) → are_small rs ≡ true → AllByRecursion (λ (r : Record). IsEnd r.end) rs → AllByRecursion IsTyped rs
+typed : (rs : List Record) → are_small rs ≡ true → AllByRecursion (λ (r : Record). IsEndOfBytes r.end) rs → AllByRecursion IsTyped rs
 typed [] e h = tt
 typed (r ∷ rs) e h =
     let target = is_small r.command.target in

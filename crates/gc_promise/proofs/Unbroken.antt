@@ -12,30 +12,26 @@ use Rattle.gc_catalogue.specs.declared.asked.Asked.{Asked}
 use Rattle.gc_catalogue.specs.declared.asked.Asked.TheVariants.{Table, Raw}
 use Rattle.gc_texts.specs.Cuts.{Lacks}
 use Rattle.gc_texts.specs.Endings.{End, Answered, Unreadable, Elsewhere, Late, Lost, Skipped, Missed, quality_of, quality_text}
-use Rattle.gc_texts.specs.Logs.{escape, escaped, hex_digit, is_as_it_is}
+use Rattle.gc_texts.specs.Logs.{escape, escaped, hex_digit, is_unescaped}
 use Rattle.gc_texts.specs.Stamps.{stamp_text}
 use Rattle.gc_texts.specs.declared.wish.Wish.{Wish}
-use Rattle.gc_rows.specs.JsonLines.{Member, Text, Number, Texts, behind_backslash, comma_where, ending_members, item_members, json_members, last_members, list_text, member_text, members_text, more_members, answer_members, attempt_members, quantity_members, reply_members, sent_members, string_text, strings_text, value_members, values_members, what_members, when_members, without_zeros, worded_members}
+use Rattle.gc_rows.specs.JsonLines.{Member, Text, Number, Texts, behind_backslash, comma_where, ending_members, item_members, json_members, last_members, list_text, member_text, members_text, members_after_ending, answer_members, attempt_members, quantity_members, reply_members, sent_members, string_text, strings_text, value_members, values_members, command_members, when_members, without_zeros, quality_members}
 use Rattle.gc_rows.specs.Items.{split_items}
-use Rattle.gc_rows.specs.Laws.{IsEnd, IsMember, IsPlainName, IsReplyOfBytes}
+use Rattle.gc_rows.specs.Laws.{IsEndOfBytes, IsPlainMember, IsPlainName, IsReplyOfBytes}
 use Rattle.gc_rows.specs.Quantities.{column_of, quantity_name, quantity_text}
 use Rattle.gc_rows.specs.Rows.{code_of, com_of, procedure_of, values_of}
 use Rattle.gc_rows.specs.declared.when.When.{When}
-use Rattle.gc_rows.proofs.Columns.{reply_columns}
+use Rattle.gc_rows.proofs.Columns.{lacks_both, reply_columns}
 use Rattle.gc_texts.specs.Cuts.{before, behind}
+use Rattle.gc_station.proofs.Lists.{all_append}
 use Rattle.gc_promise.proofs.Finding.{IsPlain, double_plain, signed_plain, zeros_gone}
 use Rattle.gc_promise.proofs.Plain.{decimal_plain, number_plain}
 
 -- Texts.
 
--- two texts without a line feed, one after the other, have none
-lacks_both : (xs ys : List ℕ) → Lacks 10 xs → Lacks 10 ys → Lacks 10 (xs ++ ys)
-lacks_both [] ys a b = b
-lacks_both (x ∷ xs) ys a b = (a.0, lacks_both xs ys a.1 b)
-
 -- a byte that a string of JSON shows as it is isn't a line feed
-shown_lacks : (b : ℕ) → is_as_it_is b ≡ true → b ≢ 10
-shown_lacks b is e = let bad : false ≡ true = subst (λ (x : ℕ). is_as_it_is x ≡ true) e is in cc
+shown_lacks : (b : ℕ) → is_unescaped b ≡ true → b ≢ 10
+shown_lacks b is e = let bad : false ≡ true = subst (λ (x : ℕ). is_unescaped x ≡ true) e is in cc
 
 -- no hexadecimal digit is a line feed
 digit_lacks : (n : ℕ) → hex_digit n ≢ 10
@@ -44,13 +40,13 @@ digit_lacks n = cond_both (nat_lt n 10) (48 + n) (87 + n) (λ (d : ℕ). d ≢ 1
 -- an escaped byte has no line feed
 byte_lacks : (b : ℕ) → Lacks 10 (escape b)
 byte_lacks b =
-    cond_both (is_as_it_is b) (b ∷ []) (92 ∷ 120 ∷ hex_digit (b / 16) ∷ hex_digit (b % 16) ∷ []) (Lacks 10) (λ is. (shown_lacks b is, tt))
+    cond_both (is_unescaped b) (b ∷ []) (92 ∷ 120 ∷ hex_digit (b / 16) ∷ hex_digit (b % 16) ∷ []) (Lacks 10) (λ is. (shown_lacks b is, tt))
     (λ _. ((λ e. omega (arith, e)), ((λ e. omega (arith, e)), (digit_lacks (b / 16), (digit_lacks (b % 16), tt)))))
 
 -- escaped bytes have no line feed
 escaped_lacks : (bytes : List ℕ) → Lacks 10 (escaped bytes)
 escaped_lacks [] = tt
-escaped_lacks (b ∷ bs) = lacks_both (escape b) (escaped bs) (byte_lacks b) (escaped_lacks bs)
+escaped_lacks (b ∷ bs) = lacks_both 10 (escape b) (escaped bs) (byte_lacks b) (escaped_lacks bs)
 
 -- a text in which escaping changes nothing has no line feed
 plain_lacks : (text : List ℕ) → IsPlain text → Lacks 10 text
@@ -60,7 +56,7 @@ plain_lacks text is = subst (Lacks 10) is (escaped_lacks text)
 mark_lacks : (text : List ℕ) → Lacks 10 text → Lacks 10 (flat_map behind_backslash text)
 mark_lacks [] no_feed = tt
 mark_lacks (b ∷ bs) no_feed =
-    lacks_both (behind_backslash b) (flat_map behind_backslash bs)
+    lacks_both 10 (behind_backslash b) (flat_map behind_backslash bs)
     (cond_both ((b == 34) || (b == 92)) (92 ∷ b ∷ []) (b ∷ []) (Lacks 10) (λ _. ((λ e. omega (arith, e)), (no_feed.0, tt))) (λ _. (no_feed.0, tt))) (mark_lacks bs no_feed.1)
 
 -- a quotation mark isn't a line feed
@@ -70,8 +66,8 @@ quote_lacks = ((λ e. omega (arith, e)), tt)
 -- a string of JSON has no line feed
 string_lacks : (bytes : List ℕ) → Lacks 10 (string_text bytes)
 string_lacks bytes =
-    lacks_both (codes "\"" ++ flat_map behind_backslash (escaped bytes)) (codes "\"")
-    (lacks_both (codes "\"") (flat_map behind_backslash (escaped bytes)) quote_lacks (mark_lacks (escaped bytes) (escaped_lacks bytes))) quote_lacks
+    lacks_both 10 (codes "\"" ++ flat_map behind_backslash (escaped bytes)) (codes "\"")
+    (lacks_both 10 (codes "\"") (flat_map behind_backslash (escaped bytes)) quote_lacks (mark_lacks (escaped bytes) (escaped_lacks bytes))) quote_lacks
 
 -- a comma, if one is wanted, is no line feed
 comma_lacks : (behind : Bool) → Lacks 10 (comma_where behind)
@@ -82,14 +78,14 @@ comma_lacks false = tt
 strings_lack : (behind : Bool) (texts : List (List ℕ)) → Lacks 10 (strings_text behind texts)
 strings_lack behind [] = tt
 strings_lack behind (bytes ∷ others) =
-    lacks_both (comma_where behind) (string_text bytes ++ strings_text true others) (comma_lacks behind)
-    (lacks_both (string_text bytes) (strings_text true others) (string_lacks bytes) (strings_lack true others))
+    lacks_both 10 (comma_where behind) (string_text bytes ++ strings_text true others) (comma_lacks behind)
+    (lacks_both 10 (string_text bytes) (strings_text true others) (string_lacks bytes) (strings_lack true others))
 
 -- a list of strings of JSON has no line feed
 list_lacks : (texts : List (List ℕ)) → Lacks 10 (list_text texts)
 list_lacks texts =
-    lacks_both (codes "[") (strings_text false texts ++ codes "]") ((λ e. omega (arith, e)), tt)
-    (lacks_both (strings_text false texts) (codes "]") (strings_lack false texts) ((λ e. omega (arith, e)), tt))
+    lacks_both 10 (codes "[") (strings_text false texts ++ codes "]") ((λ e. omega (arith, e)), tt)
+    (lacks_both 10 (strings_text false texts) (codes "]") (strings_lack false texts) ((λ e. omega (arith, e)), tt))
 
 -- a plain name has no line feed
 name_lacks : (name : List ℕ) → IsPlainName name → Lacks 10 name
@@ -107,26 +103,21 @@ HasPlainDigits (Texts name texts) = Unit {0}
 -- a name with its quotes and comma has no line feed
 named_lacks : (name : List ℕ) → IsPlainName name → Lacks 10 ((codes ",\"" ++ name) ++ codes "\":")
 named_lacks name is =
-    lacks_both (codes ",\"" ++ name) (codes "\":") (lacks_both (codes ",\"") name ((λ e. omega (arith, e)), ((λ e. omega (arith, e)), tt)) (name_lacks name is))
+    lacks_both 10 (codes ",\"" ++ name) (codes "\":") (lacks_both 10 (codes ",\"") name ((λ e. omega (arith, e)), ((λ e. omega (arith, e)), tt)) (name_lacks name is))
     ((λ e. omega (arith, e)), ((λ e. omega (arith, e)), tt))
 
 -- members have no line feed
-members_lack : (members : List Member) → AllByRecursion IsMember members → AllByRecursion HasPlainDigits members → Lacks 10 (members_text members)
+members_lack : (members : List Member) → AllByRecursion IsPlainMember members → AllByRecursion HasPlainDigits members → Lacks 10 (members_text members)
 members_lack [] are plain = tt
 members_lack (Text name bytes ∷ ms) are plain =
-    lacks_both (member_text (Text name bytes)) (members_text ms)
-    (lacks_both ((codes ",\"" ++ name) ++ codes "\":") (string_text bytes) (named_lacks name are.0.0) (string_lacks bytes)) (members_lack ms are.1 plain.1)
+    lacks_both 10 (member_text (Text name bytes)) (members_text ms)
+    (lacks_both 10 ((codes ",\"" ++ name) ++ codes "\":") (string_text bytes) (named_lacks name are.0.0) (string_lacks bytes)) (members_lack ms are.1 plain.1)
 members_lack (Number name digits ∷ ms) are plain =
-    lacks_both (member_text (Number name digits)) (members_text ms)
-    (lacks_both ((codes ",\"" ++ name) ++ codes "\":") digits (named_lacks name are.0.0) (plain_lacks digits plain.0)) (members_lack ms are.1 plain.1)
+    lacks_both 10 (member_text (Number name digits)) (members_text ms)
+    (lacks_both 10 ((codes ",\"" ++ name) ++ codes "\":") digits (named_lacks name are.0.0) (plain_lacks digits plain.0)) (members_lack ms are.1 plain.1)
 members_lack (Texts name texts ∷ ms) are plain =
-    lacks_both (member_text (Texts name texts)) (members_text ms)
-    (lacks_both ((codes ",\"" ++ name) ++ codes "\":") (list_text texts) (named_lacks name are.0.0) (list_lacks texts)) (members_lack ms are.1 plain.1)
-
--- where `HasPlainDigits` holds of the members of two lists, it holds of those of the joined list
-all_both : (xs ys : List Member) → AllByRecursion HasPlainDigits xs → AllByRecursion HasPlainDigits ys → AllByRecursion HasPlainDigits (xs ++ ys)
-all_both [] ys a b = b
-all_both (x ∷ xs) ys a b = (a.0, all_both xs ys a.1 b)
+    lacks_both 10 (member_text (Texts name texts)) (members_text ms)
+    (lacks_both 10 ((codes ",\"" ++ name) ++ codes "\":") (list_text texts) (named_lacks name are.0.0) (list_lacks texts)) (members_lack ms are.1 plain.1)
 
 -- the member on the moment at which a command was sent has plain digits
 sent_plain : (sent : Option ℕ) → AllByRecursion HasPlainDigits (sent_members sent)
@@ -135,10 +126,10 @@ sent_plain (Some utc) = (tt, tt)
 
 -- the members on when and where have plain digits
 when_plain : (when : When) → AllByRecursion HasPlainDigits (when_members when)
-when_plain when = all_both (sent_members when.stamp.sent) _ (sent_plain when.stamp.sent) (tt, (decimal_plain when.stamp.cycle, (decimal_plain when.stamp.turn.place, tt)))
+when_plain when = all_append HasPlainDigits (sent_members when.stamp.sent) _ (sent_plain when.stamp.sent) (tt, (decimal_plain when.stamp.cycle, (decimal_plain when.stamp.turn.place, tt)))
 
 -- the members on a command have plain digits
-what_plain : (command : Wish) (name : List ℕ) → AllByRecursion HasPlainDigits (what_members command name)
+what_plain : (command : Wish) (name : List ℕ) → AllByRecursion HasPlainDigits (command_members command name)
 what_plain command [] = (decimal_plain command.target, (decimal_plain (procedure_of command.call), tt))
 what_plain command (b ∷ bs) = (decimal_plain command.target, (tt, (decimal_plain (procedure_of command.call), tt)))
 
@@ -151,7 +142,7 @@ reply_plain line is =
     (number_plain (without_zeros (com_of line)) first.digits, (number_plain (without_zeros (code_of line)) second.digits, (tt, tt)))
 
 -- the members on how a command ended have plain digits
-ending_plain : (end : End) → IsEnd end → AllByRecursion HasPlainDigits (ending_members end)
+ending_plain : (end : End) → IsEndOfBytes end → AllByRecursion HasPlainDigits (ending_members end)
 ending_plain (Answered quality (Some answer) line) is = (tt, reply_plain line is.0)
 ending_plain (Answered quality None line) is = (tt, reply_plain line is)
 ending_plain (Unreadable line fault) is = (tt, (decimal_plain (fault_number fault), reply_plain line is))
@@ -179,7 +170,7 @@ value_plain name (value.Text bytes) came = (tt, tt)
 values_plain : (column : ℕ) (vs : List Value) (came : List ℕ) → AllByRecursion HasPlainDigits (values_members column vs came)
 values_plain column [] came = tt
 values_plain column (v ∷ vs) came =
-    all_both (value_members (quantity_name column) v (before 44 came)) (values_members (column + 1) vs (behind 44 came)) (value_plain (quantity_name column) v (before 44 came))
+    all_append HasPlainDigits (value_members (quantity_name column) v (before 44 came)) (values_members (column + 1) vs (behind 44 came)) (value_plain (quantity_name column) v (before 44 came))
     (values_plain (column + 1) vs (behind 44 came))
 
 -- the member for a reply's items has no digits
@@ -198,30 +189,31 @@ quantities_plain call (Answered quality (Some answer) line) = columns_plain call
 quantities_plain call end = tt
 
 -- a member for a quality has no digits
-worded_plain : (word : List ℕ) → AllByRecursion HasPlainDigits (worded_members word)
+worded_plain : (word : List ℕ) → AllByRecursion HasPlainDigits (quality_members word)
 worded_plain [] = tt
 worded_plain (b ∷ bs) = (tt, tt)
 
 -- the members after all others have plain digits
 last_plain : (when : When) (end : End) → AllByRecursion HasPlainDigits (last_members when end)
 last_plain when end =
-    all_both (worded_members (quality_text (quality_of end))) (attempt_members when) (worded_plain (quality_text (quality_of end))) (decimal_plain when.stamp.turn.attempt, tt)
+    all_append HasPlainDigits (quality_members (quality_text (quality_of end))) (attempt_members when) (worded_plain (quality_text (quality_of end))) (decimal_plain when.stamp.turn.attempt, tt)
 
 -- the digits of all members of a record are unchanged
-members_plain : (when : When) (name : List ℕ) (command : Wish) (end : End) → IsEnd end → AllByRecursion HasPlainDigits (json_members when name command end)
+members_plain : (when : When) (name : List ℕ) (command : Wish) (end : End) → IsEndOfBytes end → AllByRecursion HasPlainDigits (json_members when name command end)
 members_plain when name command end is =
-    let rest = ending_members end ++ more_members when command.call end in
-    all_both (when_members when) (what_members command name ++ rest) (when_plain when)
-    (all_both (what_members command name) rest (what_plain command name) (all_both (ending_members end) (more_members when command.call end) (ending_plain end is)
-    (all_both (quantity_members command.call end) (last_members when end) (quantities_plain command.call end) (last_plain when end))))
+    let rest = ending_members end ++ members_after_ending when command.call end in
+    all_append HasPlainDigits (when_members when) (command_members command name ++ rest) (when_plain when)
+    (all_append HasPlainDigits (command_members command name) rest (what_plain command name)
+    (all_append HasPlainDigits (ending_members end) (members_after_ending when command.call end) (ending_plain end is)
+    (all_append HasPlainDigits (quantity_members command.call end) (last_members when end) (quantities_plain command.call end) (last_plain when end))))
 
 -- the line of a record, without its line feed, has none
-pub line_unbroken : (when : When) (name : List ℕ) (command : Wish) (end : End) → IsEnd end → AllByRecursion IsMember (json_members when name command end)
+pub line_unbroken : (when : When) (name : List ℕ) (command : Wish) (end : End) → IsEndOfBytes end → AllByRecursion IsPlainMember (json_members when name command end)
     → Lacks 10 ((codes "{\"run\":" ++ string_text (stamp_text when.run)) ++ (members_text (json_members when name command end) ++ codes "}"))
 line_unbroken when name command end is are =
     let front : Lacks 10 (codes "{\"run\":") =
     ((λ e. omega (arith, e)), ((λ e. omega (arith, e)), ((λ e. omega (arith, e)), ((λ e. omega (arith, e)), ((λ e. omega (arith, e)), ((λ e. omega (arith, e)), ((λ e. omega (arith, e)), tt))))))) in
-    lacks_both (codes "{\"run\":" ++ string_text (stamp_text when.run)) (members_text (json_members when name command end) ++ codes "}")
-    (lacks_both (codes "{\"run\":") (string_text (stamp_text when.run)) front (string_lacks (stamp_text when.run)))
-    (lacks_both (members_text (json_members when name command end)) (codes "}") (members_lack (json_members when name command end) are (members_plain when name command end is))
+    lacks_both 10 (codes "{\"run\":" ++ string_text (stamp_text when.run)) (members_text (json_members when name command end) ++ codes "}")
+    (lacks_both 10 (codes "{\"run\":") (string_text (stamp_text when.run)) front (string_lacks (stamp_text when.run)))
+    (lacks_both 10 (members_text (json_members when name command end)) (codes "}") (members_lack (json_members when name command end) are (members_plain when name command end is))
     ((λ e. omega (arith, e)), tt))

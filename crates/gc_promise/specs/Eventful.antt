@@ -47,7 +47,7 @@ use Rattle.gc_field.specs.Field.{Move, Sends, Tells, Comes, Foreign, OnLine, Ane
 use Rattle.gc_field.specs.Instrument.{IsAnInstrument, AnyState, nothing}
 use Rattle.gc_field.specs.Runs.{IsInField, world}
 use Rattle.gc_field.specs.Shown.{Stretch}
-use Rattle.gc_field.specs.Witness.{asked, at, eight, exchanged, replies}
+use Rattle.gc_field.specs.Witness.{null_lines, at, eight_answered, exchanged, replies}
 
 -- The instrument.
 
@@ -69,12 +69,13 @@ reporting =
 abbrev pub plan : Plan
 plan = record { width = 7; deadline = 100; every = 150; cycles = 3; quiet = 10; retries = 3; setup = 0; stale = 0; watched = false }
 
--- the turn of a command at a place, in the first attempt; of one that is chained it is the second of its chain
+-- the turn of a command at this place, in the first attempt: a command that is chained is the second of its chain, and any other the
+-- first
 abbrev pub turn_at : ℕ → Bool → command.Turn
 turn_at place chained = record { place = place; attempt = 1; link = if chained then 1 else 0 }
 
--- a command that waits 50 ms, and whose chain of two commands at most isn't sent again: its place, its target, what it asks,
--- whether it is chained to the one before it, and where its target is
+-- a command with a deadline of 50 ms, whose chain isn't sent again: its place, its target, what it asks, whether it is chained to the
+-- one before it, and where its target is
 abbrev pub task : ℕ → ℕ → Asked → Bool → Option Near → Task
 task place target call chained near =
     record {
@@ -90,37 +91,37 @@ task place target call chained near =
     }
 
 -- where a target is: in this direction, within a hundredth of a radian
-abbrev pub stands : ℕ → Decimal → Decimal → Option Near
-stands target hz v = Some (record { target = target; place = record { hz = hz; v = v }; tolerance = decimal (pos 1) 2 refl })
+abbrev pub near_at : ℕ → Decimal → Decimal → Option Near
+near_at target hz v = Some (record { target = target; place = record { hz = hz; v = v }; tolerance = decimal (pos 1) 2 refl })
 
--- the seven commands, numbered from 0: to point the telescope at target 7; chained to that, to read angles and distance there; to read them at
--- target 8; and for each of four targets, to read the instrument's number
+-- the seven commands, numbered from 0: to point the telescope at target 7; chained to that, to read angles and distance there; to
+-- read them at target 8; and for each of four targets, to read the instrument's number
 abbrev pub commands : List Task
 commands =
     task 0 7 points false None
-    ∷ task 1 7 reads_all true (stands 7 hz v)
-    ∷ task 2 8 reads_all false (stands 8 (decimal (pos 125) 2 refl) (decimal (pos 15) 1 refl))
+    ∷ task 1 7 reads_all true (near_at 7 hz v)
+    ∷ task 2 8 reads_all false (near_at 8 (decimal (pos 125) 2 refl) (decimal (pos 15) 1 refl))
     ∷ map (λ target. task (2 + target) target (Table InstrumentNo) false None) (1 ∷ 2 ∷ 3 ∷ 4 ∷ [])
 
 -- the request line of command 0. The number of a command is its id, in the first cycle and in the third
-abbrev pub point : List ℕ
-point = codes "%R1Q,9027,0:2.25,1.625,0,0,0"
+abbrev pub point_line : List ℕ
+point_line = codes "%R1Q,9027,0:2.25,1.625,0,0,0"
 
 -- the request line of command 1
-abbrev pub measure : List ℕ
-measure = codes "%R1Q,2108,1:3000,1"
+abbrev pub measure_line : List ℕ
+measure_line = codes "%R1Q,2108,1:3000,1"
 
 -- the request lines of commands 2 to 5
-abbrev pub four : List (List ℕ)
-four = codes "%R1Q,2108,2:3000,1" ∷ codes "%R1Q,5003,3:" ∷ codes "%R1Q,5003,4:" ∷ codes "%R1Q,5003,5:" ∷ []
+abbrev pub four_lines : List (List ℕ)
+four_lines = codes "%R1Q,2108,2:3000,1" ∷ codes "%R1Q,5003,3:" ∷ codes "%R1Q,5003,4:" ∷ codes "%R1Q,5003,5:" ∷ []
 
 -- the request line of command 6
-abbrev pub last : List ℕ
-last = codes "%R1Q,5003,6:"
+abbrev pub last_line : List ℕ
+last_line = codes "%R1Q,5003,6:"
 
 -- the request line of the null procedure with this id, a single digit (48 is the digit 0)
-abbrev pub null : ℕ → List ℕ
-null id = codes "%R1Q,0," ++ (48 + id) ∷ codes ":"
+abbrev pub null_line : ℕ → List ℕ
+null_line id = codes "%R1Q,0," ++ (48 + id) ∷ codes ":"
 
 -- the reply to command 0 in the third cycle, without parameters
 abbrev pub pointed : List ℕ
@@ -168,8 +169,8 @@ sends_all now deadline targets = flat_map (λ target. Sends target (Table Instru
 -- The synchronization.
 
 -- in flight at the start are a reply and a request, each with the id that command 0 will have
-abbrev pub before : UnderWay (List ℕ)
-before = record { up = record { id = 0; call = Table InstrumentNo } ∷ []; down = codes "%R1P,0,0:0,4" ∷ []; state = codes "5" }
+abbrev pub at_start : UnderWay (List ℕ)
+at_start = record { up = record { id = 0; call = Table InstrumentNo } ∷ []; down = codes "%R1P,0,0:0,4" ∷ []; state = codes "5" }
 
 -- no connection can be made at first. Over the first one the first null procedure is sent; its echo and the old reply come in
 -- one piece; and the connection breaks. All eight null procedures are answered over the second one
@@ -181,18 +182,18 @@ begins_acts =
     ∷ Opened
     ∷ Put (10 ∷ [])
     ∷ Told (at 10)
-    ∷ puts 10 (null 6 ∷ [])
-    ++ gave 12 (null 6 ∷ codes "%R1P,0,0:0,4" ∷ [])
+    ∷ puts 10 (null_line 6 ∷ [])
+    ++ gave 12 (null_line 6 ∷ codes "%R1P,0,0:0,4" ∷ [])
     ∷ Broke
     ∷ connects_again 15 35
-    ++ exchanged 40 asked replies []
+    ++ exchanged 40 null_lines replies []
 
 -- the line repeats the old request: one copy reaches the instrument, and the other is lost. It repeats the reply to that, and
 -- both copies are lost; so is the reply to the first null procedure. The instrument starts again
 abbrev pub begins_turns : List (Turn (List ℕ))
 begins_turns =
     Asks
-    ∷ turn.Foreign (null 6)
+    ∷ turn.Foreign (null_line 6)
     ∷ turn.Comes
     ∷ turn.Up_repeat 0
     ∷ Reaches
@@ -204,7 +205,7 @@ begins_turns =
     ∷ turn.Down_lose 0
     ∷ turn.Anew
     ∷ turn.Changes []
-    ∷ eight
+    ∷ eight_answered
 
 -- The first cycle.
 
@@ -214,16 +215,16 @@ begins_turns =
 abbrev pub breaks_acts : List Act
 breaks_acts =
     Told (at 40)
-    ∷ puts 40 (point ∷ [])
+    ∷ puts 40 (point_line ∷ [])
     ++ Silent (at 90)
-    ∷ puts 90 (null 1 ∷ [])
+    ∷ puts 90 (null_line 1 ∷ [])
     ++ gave 95 (codes "%R1P,0,1:0" ∷ [])
     ∷ Told (at 95)
-    ∷ puts 95 (four ++ last ∷ [])
+    ∷ puts 95 (four_lines ++ last_line ∷ [])
     ++ Silent (at 145)
-    ∷ puts 145 (null 7 ∷ [])
+    ∷ puts 145 (null_line 7 ∷ [])
     ++ Silent (at 245)
-    ∷ puts 245 (null 0 ∷ [])
+    ∷ puts 245 (null_line 0 ∷ [])
     ++ Silent (at 295)
     ∷ connects_again 295 305
     ++ Silent (at 315)
@@ -272,14 +273,14 @@ breaks_moves =
 abbrev pub anew_acts : List Act
 anew_acts =
     Told (at 345)
-    ∷ puts 345 (null 6 ∷ [])
+    ∷ puts 345 (null_line 6 ∷ [])
     ++ gave 350 (codes "%R1P,0,2:0,27" ∷ codes "%R1P,0,6:0,27" ∷ [])
-    ∷ puts 350 (null 5 ∷ [])
+    ∷ puts 350 (null_line 5 ∷ [])
     ++ gave 355 (codes "%R1P,0,0:0" ∷ codes "%R1P,0,6:0" ∷ codes "%R1P,0,5:0" ∷ [])
-    ∷ puts 355 (null 4 ∷ [])
+    ∷ puts 355 (null_line 4 ∷ [])
     ++ Ended
     ∷ connects_again 355 375
-    ++ exchanged 380 (drop 2 asked) (drop 2 replies) []
+    ++ exchanged 380 (drop 2 null_lines) (drop 2 replies) []
 
 -- both requests of before reach the instrument. The request of the third null procedure is lost, and is sent again
 abbrev pub anew_turns : List (Turn (List ℕ))
@@ -298,7 +299,7 @@ anew_turns =
     ∷ turn.Comes
     ∷ Asks
     ∷ turn.Up_lose 0
-    ∷ drop 6 eight
+    ∷ drop 6 eight_answered
 
 -- The second cycle, and the third.
 
@@ -310,15 +311,15 @@ anew_turns =
 abbrev pub chain_acts : List Act
 chain_acts =
     map (λ now. Told (at now)) (replicate 9 385)
-    ++ puts 385 (point ∷ [])
+    ++ puts 385 (point_line ∷ [])
     ++ gave 390 (pointed ∷ [])
-    ∷ puts 390 (measure ∷ four)
-    ++ Cut (with_end last) 5
+    ∷ puts 390 (measure_line ∷ four_lines)
+    ++ Cut (with_end last_line) 5
     ∷ connects_again 390 400
     ++ Silent (at 410)
     ∷ gave 415 (codes "?" ∷ pointed ∷ measured ∷ elsewhere ∷ numbered ∷ numbered ∷ empty ∷ [])
     ∷ Silent (at 440)
-    ∷ puts 440 (null 7 ∷ [])
+    ∷ puts 440 (null_line 7 ∷ [])
     ++ gave 445 (codes "%R1P,0,5:0,31" ∷ codes "%R1P,0,7:0,31" ∷ [])
     ∷ Closed
     ∷ []
@@ -386,11 +387,11 @@ runs = first_run ∷ record { turns = anew_turns; moves = chain_moves } ∷ reco
 
 -- what is in flight when the station resynchronizes
 abbrev pub left : UnderWay (List ℕ)
-left = left_by_run WINDOW reporting before first_run
+left = left_by_run WINDOW reporting at_start first_run
 
 -- the stretch of the first cycle
 abbrev pub first_stretch : Stretch (List ℕ)
-first_stretch = record { from = leaves (turned reporting begins_turns (begins before)); moves = breaks_moves }
+first_stretch = record { from = leaves (turned reporting begins_turns (begins at_start)); moves = breaks_moves }
 
 -- the stretch of the third cycle
 abbrev pub last_stretch : Stretch (List ℕ)
@@ -400,8 +401,8 @@ last_stretch = record { from = leaves (turned reporting anew_turns (begins left)
 
 -- the record of a command of this cycle and place, for this target and with this call: it was sent at the moment `sent`, if it
 -- was, and ended at the moment `utc`
-abbrev pub ended : Option ℕ → ℕ → ℕ → ℕ → ℕ → Asked → End → Record
-ended sent utc cycle place target call end =
+abbrev pub record_of : Option ℕ → ℕ → ℕ → ℕ → ℕ → Asked → End → Record
+record_of sent utc cycle place target call end =
     record {
       sent = sent;
       utc = utc;
@@ -418,48 +419,48 @@ at_target = Measured hz v (decimal (pos 1100625) 4 refl)
 
 -- the record of command 0 in the third cycle: answered, without values
 abbrev pub points_record : Record
-points_record = ended (Some 385) 390 3 0 7 points (end.Answered Fine (Some Nothing) pointed)
+points_record = record_of (Some 385) 390 3 0 7 points (end.Answered Fine (Some Nothing) pointed)
 
 -- the record of command 1 in the third cycle: answered, with what was measured at target 7
 abbrev pub chained_record : Record
-chained_record = ended (Some 390) 415 3 1 7 reads_all (end.Answered Fine (Some at_target) measured)
+chained_record = record_of (Some 390) 415 3 1 7 reads_all (end.Answered Fine (Some at_target) measured)
 
 -- the record of command 2 in the third cycle: elsewhere
 abbrev pub elsewhere_record : Record
-elsewhere_record = ended (Some 390) 415 3 2 8 reads_all (end.Elsewhere elsewhere)
+elsewhere_record = record_of (Some 390) 415 3 2 8 reads_all (end.Elsewhere elsewhere)
 
 -- the record of command 3 in the third cycle: answered, with a number
 abbrev pub number_record : Record
-number_record = ended (Some 390) 415 3 3 1 (Table InstrumentNo) (end.Answered Fine (Some (Long (pos 31))) numbered)
+number_record = record_of (Some 390) 415 3 3 1 (Table InstrumentNo) (end.Answered Fine (Some (Long (pos 31))) numbered)
 
 -- the record of command 4 in the third cycle: unreadable
 abbrev pub unreadable_record : Record
-unreadable_record = ended (Some 390) 415 3 4 2 (Table InstrumentNo) (end.Unreadable empty Count)
+unreadable_record = record_of (Some 390) 415 3 4 2 (Table InstrumentNo) (end.Unreadable empty Count)
 
 -- all records of the run, in order
 abbrev pub records : List Record
 records =
-    ended (Some 40) 95 1 0 7 points end.Lost
-    ∷ ended None 95 1 1 7 reads_all end.Skipped
-    ∷ ended (Some 95) 345 1 2 8 reads_all end.Lost
-    ∷ ended (Some 95) 345 1 3 1 (Table InstrumentNo) end.Lost
-    ∷ ended (Some 95) 345 1 4 2 (Table InstrumentNo) end.Lost
-    ∷ ended (Some 95) 345 1 5 3 (Table InstrumentNo) end.Lost
-    ∷ ended (Some 95) 345 1 6 4 (Table InstrumentNo) end.Lost
-    ∷ ended None 190 2 0 7 points end.Missed
-    ∷ ended None 190 2 1 7 reads_all end.Missed
-    ∷ ended None 190 2 2 8 reads_all end.Missed
-    ∷ ended None 190 2 3 1 (Table InstrumentNo) end.Missed
-    ∷ ended None 190 2 4 2 (Table InstrumentNo) end.Missed
-    ∷ ended None 190 2 5 3 (Table InstrumentNo) end.Missed
-    ∷ ended None 190 2 6 4 (Table InstrumentNo) end.Missed
+    record_of (Some 40) 95 1 0 7 points end.Lost
+    ∷ record_of None 95 1 1 7 reads_all end.Skipped
+    ∷ record_of (Some 95) 345 1 2 8 reads_all end.Lost
+    ∷ record_of (Some 95) 345 1 3 1 (Table InstrumentNo) end.Lost
+    ∷ record_of (Some 95) 345 1 4 2 (Table InstrumentNo) end.Lost
+    ∷ record_of (Some 95) 345 1 5 3 (Table InstrumentNo) end.Lost
+    ∷ record_of (Some 95) 345 1 6 4 (Table InstrumentNo) end.Lost
+    ∷ record_of None 190 2 0 7 points end.Missed
+    ∷ record_of None 190 2 1 7 reads_all end.Missed
+    ∷ record_of None 190 2 2 8 reads_all end.Missed
+    ∷ record_of None 190 2 3 1 (Table InstrumentNo) end.Missed
+    ∷ record_of None 190 2 4 2 (Table InstrumentNo) end.Missed
+    ∷ record_of None 190 2 5 3 (Table InstrumentNo) end.Missed
+    ∷ record_of None 190 2 6 4 (Table InstrumentNo) end.Missed
     ∷ points_record
     ∷ chained_record
     ∷ elsewhere_record
     ∷ number_record
     ∷ unreadable_record
-    ∷ ended (Some 390) 445 3 5 3 (Table InstrumentNo) end.Late
-    ∷ ended (Some 390) 445 3 6 4 (Table InstrumentNo) end.Lost
+    ∷ record_of (Some 390) 445 3 5 3 (Table InstrumentNo) end.Late
+    ∷ record_of (Some 390) 445 3 6 4 (Table InstrumentNo) end.Lost
     ∷ []
 
 -- how many commands ended in each of the seven ways; no chain is sent again
@@ -477,8 +478,8 @@ connections (_ ∷ acts) = connections acts
 -- where `reads` gives what replies say of their calls: `reporting` is an instrument, and the run is one in the field, which is
 -- over after these acts and has these records
 pub record IsEventful (reads : Asked → List ℕ → Reading) : Type 0 where
-  pub is : IsAnInstrument reporting AnyState nothing
-  pub field : IsInField reporting AnyState nothing plan commands (scope reads) acts before runs
+  pub is_instrument : IsAnInstrument reporting AnyState nothing
+  pub field : IsInField reporting AnyState nothing plan commands (scope reads) acts at_start runs
   pub over : is_over (state_after plan commands (scope reads) acts).progress ≡ true
   pub written : (state_after plan commands (scope reads) acts).records ≡ records
   -- commands end in each of the seven ways

@@ -16,7 +16,7 @@ use Rattle.gc_catalogue.specs.declared.asked.Asked.TheVariants.{Table, Raw}
 use Rattle.gc_catalogue.specs.declared.call.Call.TheVariants.{SetDate}
 use Rattle.gc_catalogue.specs.declared.answer.Answer.{Answer}
 use Rattle.gc_instrument.specs.State.{KeptReply}
-use Rattle.gc_texts.specs.Codes.{are_accepted}
+use Rattle.gc_texts.specs.Codes.{lists_code}
 use Rattle.gc_texts.specs.Endings.{word_of}
 use Rattle.gc_texts.specs.Logs.{escaped}
 use Rattle.gc_texts.specs.Qualities.{quality_word}
@@ -27,7 +27,7 @@ use Rattle.gc_texts.specs.declared.quality.Quality.TheVariants.{Fine, Warning, R
 use Rattle.gc_texts.specs.declared.tasks.Task.{Task}
 use Rattle.gc_rows.specs.Rows.{moment_text, procedure_of}
 use Rattle.gc_rows.specs.Quantities.{quantity_names, quantity_text}
-use Rattle.gc_rows.specs.Told.{quantities_told}
+use Rattle.gc_rows.specs.ProcedureQuantities.{quantities_returned}
 use Rattle.gc_station.specs.Parts.{Part, went_out}
 use Rattle.gc_station.specs.Qualities.{accepted_at}
 use Rattle.gc_station.specs.Records.{Record}
@@ -42,9 +42,9 @@ under name [] fields = []
 under name (n ∷ names) [] = []
 under name (n ∷ names) (field ∷ fields) = if pointwise nat_eq n name then field else under name names fields
 
--- the row of a record has when its request was sent, its cycle, the place and the attempt of its turn, its target, procedure
--- and outcome, however its command ended. Nothing is under `sent` if no request was sent
-pub record IsOf (at : List ℕ → List ℕ) (r : Record) : Type 0 where
+-- the row has what its record says, however the command ended: when the request was sent, the cycle, the place and the attempt of the
+-- turn, the target, the procedure and the outcome. Nothing is under `sent` if no request was sent. `at` gives the text under a name
+pub record IsRowOf (at : List ℕ → List ℕ) (r : Record) : Type 0 where
   pub sent : at (codes "sent") ≡ moment_text r.sent
   pub cycle : at (codes "cycle") ≡ decimal r.cycle
   pub place : at (codes "place") ≡ decimal r.turn.place
@@ -59,18 +59,18 @@ pub record IsSetTo (at : List ℕ → List ℕ) (r : Record) : Type 0 where
   pub sent : at (codes "sent") ≡ stamp_text utc
   pub asked : r.command.call ≡ Table (SetDate (date_time utc))
 
--- this is the outcome of a command that a reply in time has ended
+-- the outcome, as it is written in a row, is that of a command that a reply in time has ended
 abbrev pub IsReplied : List ℕ → Type 0
 IsReplied outcome = (outcome ≡ codes "answered") ⊎ (outcome ≡ codes "unreadable") ⊎ (outcome ≡ codes "elsewhere")
 
--- this is the name of a quantity
+-- the name is that of a quantity's column
 abbrev pub IsQuantity : List ℕ → Type 0
 IsQuantity name = (k : ℕ) × (slice_get quantity_names k ≡ Some name)
 
 -- the text of the quantity of this name in an answer to what was asked: an answer to a call of the table has the quantities of
 -- its call, in the manual's order. Empty if it has no such quantity; a procedure that isn't in the table has none
 abbrev pub quantity_of : Asked → Answer → List ℕ → List ℕ
-quantity_of (Table call) answer name = under name (quantities_told (call_fields call).number) (map quantity_text (answer_fields answer).values)
+quantity_of (Table call) answer name = under name (quantities_returned (call_fields call).number) (map quantity_text (answer_fields answer).values)
 quantity_of (Raw raw) answer name = []
 
 -- the text of the quantity of this name in a reply to what was asked, by what the reply says. Empty if it is no answer
@@ -82,33 +82,36 @@ quantity_in asked _ name = []
 -- the return code is an accepted one, and else refused. (Where the values don't read, the command isn't answered.)
 abbrev pub quality_in : Codes → Reading → Quality
 quality_in accepted (reading.Value answer) = Fine
-quality_in accepted (reading.Refused code) = if are_accepted accepted code then Warning else Refused
+quality_in accepted (reading.Refused code) = if lists_code accepted code then Warning else Refused
 quality_in accepted (reading.ComFault code) = Refused
 quality_in accepted (reading.Unreadable fault) = Refused
 
--- the fields of a reply from which a row has its quantities: those of a warning are taken with return code 0
-abbrev pub taken : Quality → ReplyFields → ReplyFields
-taken Fine reply = reply
-taken Warning reply = record reply { rc = 0 }
-taken Refused reply = reply
+-- the fields from which a row has its quantities, of a reply that makes an answer of this quality: those of the reply; for a
+-- warning, with its return code set to 0
+abbrev pub quantity_source : Quality → ReplyFields → ReplyFields
+quantity_source Fine reply = reply
+quantity_source Warning reply = record reply { rc = 0 }
+quantity_source Refused reply = reply
 
 -- the row of a command that this line ended has the line's codes and parameters. If the command is answered, the row has the quality of
 -- the answer, by the return codes that are accepted of the command; and, if rows have quantities, those of the line, which for a warning
 -- is read as if its return code were 0
-pub record Says (has_quantities : Bool) (at : List ℕ → List ℕ) (accepted : Codes) (call : Asked) (line : List ℕ) : Type 0 where
+pub record HasReply (has_quantities : Bool) (at : List ℕ → List ℕ) (accepted : Codes) (call : Asked) (line : List ℕ) : Type 0 where
   pub reply : ReplyFields
   pub is_reply : IsReply line reply
   pub rc_com : IsNumber (at (codes "rc_com")) reply.rc_com
   pub rc : IsNumber (at (codes "rc")) reply.rc
   pub values : at (codes "values") ≡ escaped reply.params
-  pub said : Reading
-  pub is_said : IsAskedReading call reply said
-  pub quality : at (codes "outcome") ≡ codes "answered" → at (codes "quality") ≡ quality_word (quality_in accepted said)
-  pub told : Reading
-  pub is_told : IsAskedReading call (taken (quality_in accepted said) reply) told
+  -- what the reply says of the call, and so which quality the answer has
+  pub answer_reading : Reading
+  pub is_answer_reading : IsAskedReading call reply answer_reading
+  pub quality : at (codes "outcome") ≡ codes "answered" → at (codes "quality") ≡ quality_word (quality_in accepted answer_reading)
+  -- what the reply says of the call where its quantities are read, as `quantity_source` has it
+  pub quantity_reading : Reading
+  pub is_quantity_reading : IsAskedReading call (quantity_source (quality_in accepted answer_reading) reply) quantity_reading
   pub quantities :
       has_quantities ≡ true → at (codes "outcome") ≡ codes "answered" →
-      (name : List ℕ) → IsQuantity name → at name ≡ escaped (quantity_in call told name)
+      (name : List ℕ) → IsQuantity name → at name ≡ escaped (quantity_in call quantity_reading name)
 
 module _ {State : Type 0} (ends : Ends State) (Good : State → Type 0) (kept : State → Option KeptReply) where
   -- the row of record `r`, in which `at` gives the text under each name, is its own: it has the record's moment of sending,
@@ -117,9 +120,9 @@ module _ {State : Type 0} (ends : Ends State) (Good : State → Type 0) (kept : 
   -- executing the request of that very cycle and place, in a run with the parts `ps` and the stretches `ss`. If the outcome
   -- isn't `answered`, the row has neither a quantity nor a quality
   pub record IsOwn (has_quantities : Bool) (at : List ℕ → List ℕ) (commands : List Task) (ps : List Part) (ss : List (Stretch State)) (r : Record) : Type 0 where
-    pub is_of : IsOf at r
+    pub is_of : IsRowOf at r
     pub clock : (task : Task) → slice_get commands r.place ≡ Some task → task.now ≡ true → went_out r.end ≡ true → IsSetTo at r
     pub unsent : went_out r.end ≡ false → at (codes "sent") ≡ []
-    pub replied : IsReplied (at (codes "outcome")) → (line : List ℕ) × Says has_quantities at (accepted_at commands r.place) r.command.call line × IsItsOwn ends Good kept commands ps ss r line
+    pub replied : IsReplied (at (codes "outcome")) → (line : List ℕ) × HasReply has_quantities at (accepted_at commands r.place) r.command.call line × IsItsOwn ends Good kept commands ps ss r line
     pub without : has_quantities ≡ true → (at (codes "outcome") ≡ codes "answered" → ⊥) → (name : List ℕ) → IsQuantity name → at name ≡ []
     pub unqualified : (at (codes "outcome") ≡ codes "answered" → ⊥) → at (codes "quality") ≡ []

@@ -3,11 +3,11 @@
 use Rattle.std.specs.Prelude.{◌≡◌, ◌⊎◌, ℕ, Bool, true, false, List, [], ◌∷◌, ◌++◌, Option, Some, Result}
 use Rattle.gc_catalogue.specs.declared.answer.Reading.{Reading}
 use Rattle.gc_catalogue.specs.declared.asked.Asked.{Asked}
-use Rattle.gc_files.specs.Failing.{Sides, Event, Ran, Failed, Copied, Crashed, settled, one, done_by, Loses, sides_after, runs_of, Occur, IsFound, is_trusted}
+use Rattle.gc_files.specs.Failing.{Sides, Event, Ran, Failed, Copied, Crashed, settled, same_sides, done_by, Loses, sides_after, runs_of, Occur, IsFound, IsTrusted}
 use Rattle.gc_files.specs.Files.{Step, Life, content, later_by, MayLeave}
 use Rattle.gc_files.specs.Rows.{start_of, table, IsFront}
 use Rattle.gc_files.specs.Rows as opening
-use Rattle.gc_files.specs.Runs.{Run, IsHead, Happen, life_after, rows_of, Counts}
+use Rattle.gc_files.specs.Runs.{Run, IsHead, Happen, life_after, rows_of, AreRowCounts}
 use Rattle.gc_files.specs.Sinks.{steps_in, taken_in, is_durable, asks_sync}
 use Rattle.gc_links.specs.Acts.{Act}
 use Rattle.gc_lines.specs.declared.ports.Source.{Ghosts as Source}
@@ -20,7 +20,7 @@ use Rattle.gc_station.specs.Records.{texts_of}
 use Rattle.gc_station.specs.Runs.{state_after}
 use Rattle.gc_station.specs.Scopes.{AreReadings}
 use Rattle.gc_station.specs.declared.tally.Tally.{Tally}
-use Rattle.gc_measuring.specs.Measuring.{Places, Course, text_in, RunsBehind}
+use Rattle.gc_measuring.specs.Measuring.{PortsSeen, Course, text_in, RunsBehind}
 use Rattle.gc_measuring.specs.Telling.{ReportsAppended}
 use Rattle.gc_measuring.specs.declared.stop.Stop.{Stop}
 use Rattle.gc_words.specs.declared.settings.Settings.{Settings}
@@ -29,18 +29,19 @@ use Rattle.gc_words.specs.declared.settings.Settings.{Settings}
 -- link recorded, and the file that it left
 pub record RunOfFile (R : Type 0) : Type 0 where
   pub course : Course
-  pub old : Places
-  pub new : Places
+  pub old : PortsSeen
+  pub new : PortsSeen
   pub end : Result Tally Stop
-  pub told : List Act
+  pub recorded : List Act
   pub file : Followed R
 
--- the link had recorded nothing before the run, and `told` are the acts that it has recorded since; and the file has what was
--- appended to it since it was opened: as clause `told` of `append_at` says it of the file that it hands back
+-- a run of a file, as clause `told` of `append_at` says it of the file that it hands back: the output has its header already; the
+-- link had recorded nothing before the run, and `recorded` are the acts that it has recorded since; and the file has what was
+-- appended to it since it was opened
 pub record IsRunOfFile {R : Type 0} (run : RunOfFile R) : Type 0 where
   pub headed : run.course.layout.headed ≡ true
   pub none : run.old.acts ≡ Some []
-  pub acts : run.new.acts ≡ Some run.told
+  pub acts : run.new.acts ≡ Some run.recorded
   pub fresh : run.old.taken ≡ Some []
   pub took : run.new.taken ≡ Some (bytes_in run.file)
   pub ran : RunsBehind run.course run.old run.new run.end
@@ -55,10 +56,10 @@ AppendsAreRuns {S = S} {R = R} source sink K E = (lasts : Followed R → Bool) (
     (old new : Streams S K E) (file : Followed R) (acts : Option (List Act)) (turns turns' : List Snapshot) (status : ℕ)
     → ReportsAppended source sink lasts shown has_log station old new (Some file) acts turns turns' status
     → (turns' ≡ turns)
-    ⊎ ((run : RunOfFile R) × IsRunOfFile run × (run.file ≡ file) × (acts ≡ Some run.told) × (run.old.turns ≡ turns) × (run.new.turns ≡ turns'))
+    ⊎ ((run : RunOfFile R) × IsRunOfFile run × (run.file ≡ file) × (acts ≡ Some run.recorded) × (run.old.turns ≡ turns) × (run.new.turns ≡ turns'))
 
--- a moment of such a run, at an act or after it: what was seen at that act (`turn`), the acts that were done before it, the
--- file as it was then, and the calls that this file had had by the moment, since it was opened
+-- a moment of a run that appends to a file, at an act or after it: what was seen at that act (`turn`), the acts that were done
+-- before it, the file as it was then, and the calls that this file had had by the moment, since it was opened
 pub record Moment (R : Type 0) : Type 0 where
   pub run : RunOfFile R
   pub turn : Snapshot
@@ -77,8 +78,8 @@ pub record IsSeen {R : Type 0} (m : Moment R) : Type 0 where
   pub lasts : m.turn.lasts ≡ is_durable m.was.rows
   pub synced : asks_sync m.was.rows ≡ true
 
--- the moment's calls begin with those that the file had at the moment's act, and are the first of those that it has in the end. The rows didn't go
--- on in another file in between
+-- the moment's calls begin with those that the file had at the moment's act, and are the first of those that it has in the end. The
+-- rows didn't go on in another file in between
 pub record IsReached {R : Type 0} (m : Moment R) : Type 0 where
   pub left : m.run.file.left.steps ≡ m.was.left.steps
   pub since : List Step
@@ -106,7 +107,7 @@ pub record AreLeft {R : Type 0} (m : Moment R) (reads : Asked → List ℕ → R
   pub has : left ≡ taken_in m.was.rows ++ more
   pub acts : List Act
   pub others : List Act
-  pub all : m.run.told ≡ acts ++ others
+  pub all : m.run.recorded ≡ acts ++ others
   pub own : IsFront (bytes_in m.was ++ more) (rows_by m.run.course reads acts)
 
 -- the calls of an opening of a file that held these bytes: a torn row was cut off, and a head was written if no whole row was
@@ -114,7 +115,7 @@ pub record AreLeft {R : Type 0} (m : Moment R) (reads : Asked → List ℕ → R
 abbrev pub Opens : List ℕ → List ℕ → List Step → Type 0
 Opens head held steps = opening.Ran held steps (start_of head held)
 
--- what a crash may leave of a file after these steps
+-- these bytes are what a crash may leave of a file that had this life and then these steps
 abbrev pub MayBeLeft : Life → List Step → List ℕ → Type 0
 MayBeLeft life steps left = MayLeave life.start (life.steps ++ steps) left
 
@@ -126,7 +127,7 @@ RowsOutlastCrashes R = (m : Moment R) → IsMoment m → (reads : Asked → List
     → (head first : List ℕ) → IsHead head → (earlier : List Run) → Happen head (settled first) earlier
     → (opening : List Step) → Opens head (content (life_after (settled first) earlier)) opening
     → (found : List ℕ) → MayBeLeft (life_after (settled first) earlier) (opening ++ m.calls) found
-    → (counts : List ℕ) × (left : List ℕ) × Counts earlier counts × AreLeft m reads left
+    → (counts : List ℕ) × (left : List ℕ) × AreRowCounts earlier counts × AreLeft m reads left
     × (table head found ≡ (table head first ++ rows_of earlier counts) ++ left)
 
 -- Over failed syncs, too.
@@ -150,9 +151,9 @@ pub data Ending : Type 0 where
 
 -- a run may end in this way after these calls. If a sync failed, `read` is what such a sync may leave of what a read returned
 -- before, and `disk` what it may leave of what the disk held
-abbrev pub Ends : Sides → List Step → Ending → Type 0
-Ends sides steps Stopped = Unit {0}
-Ends sides steps (Unsynced read disk) = Loses (later_by steps sides.read) read × Loses (later_by steps sides.disk) disk
+abbrev pub MayEnd : Sides → List Step → Ending → Type 0
+MayEnd sides steps Stopped = Unit {0}
+MayEnd sides steps (Unsynced read disk) = Loses (later_by steps sides.read) read × Loses (later_by steps sides.disk) disk
 
 -- the state of a file after these calls and this ending: what a read returns, and what the disk holds
 abbrev pub sides_ended : Sides → List Step → Ending → Sides
@@ -166,17 +167,17 @@ doubt_of (Unsynced read disk) = true
 
 -- the state of a file that held `first`, all of it on the disk, after these events
 abbrev pub sides_from : List ℕ → List Event → Sides
-sides_from first events = sides_after (one (settled first)) events
+sides_from first events = sides_after (same_sides (settled first)) events
 
 -- after any events, in a file that isn't in doubt, a run ends at any moment, by a kill or by a sync that fails, and other
 -- events follow. Whatever is found then, the next start makes of it the table that was there at first, rows of the earlier
 -- runs, the rows that are left of this run, and rows of the later ones
 abbrev pub RowsOutlastFailures : Type 0 → Type 0
 RowsOutlastFailures R = (m : Moment R) → IsMoment m → (reads : Asked → List ℕ → Reading) → AreReadings reads
-    → (head first : List ℕ) → IsHead head → (earlier : List Event) → Occur is_trusted head (one (settled first)) false earlier → doubted_by false earlier ≡ false
+    → (head first : List ℕ) → IsHead head → (earlier : List Event) → Occur IsTrusted head (same_sides (settled first)) false earlier → doubted_by false earlier ≡ false
     → (opening : List Step) → Opens head (content (sides_from first earlier).read) opening
-    → (ending : Ending) → Ends (sides_from first earlier) (opening ++ m.calls) ending
-    → (later : List Event) → Occur is_trusted head (sides_ended (sides_from first earlier) (opening ++ m.calls) ending) (doubt_of ending) later
+    → (ending : Ending) → MayEnd (sides_from first earlier) (opening ++ m.calls) ending
+    → (later : List Event) → Occur IsTrusted head (sides_ended (sides_from first earlier) (opening ++ m.calls) ending) (doubt_of ending) later
     → (found : List ℕ) → IsFound (sides_after (sides_ended (sides_from first earlier) (opening ++ m.calls) ending) later) found
-    → (counts : List ℕ) × (left : List ℕ) × (counts' : List ℕ) × Counts (runs_of earlier) counts × AreLeft m reads left × Counts (runs_of later) counts'
+    → (counts : List ℕ) × (left : List ℕ) × (counts' : List ℕ) × AreRowCounts (runs_of earlier) counts × AreLeft m reads left × AreRowCounts (runs_of later) counts'
     × (table head found ≡ ((table head first ++ rows_of (runs_of earlier) counts) ++ left) ++ rows_of (runs_of later) counts')

@@ -12,7 +12,7 @@ use Rattle.gc_instrument.specs.State.{KeptReply}
 use Rattle.gc_texts.specs.Cuts.{Lacks}
 use Rattle.gc_texts.specs.declared.name.Name.{Name}
 use Rattle.gc_texts.specs.declared.tasks.Task.{Task}
-use Rattle.gc_rows.specs.Laws.{IsEnd, IsWhen}
+use Rattle.gc_rows.specs.Laws.{IsEndOfBytes, FitsIn64Bits}
 use Rattle.gc_rows.specs.declared.record.Form.TheVariants.{Json}
 use Rattle.gc_links.specs.Acts.{Act}
 use Rattle.gc_station.specs.Model.{opening}
@@ -20,7 +20,7 @@ use Rattle.gc_station.specs.Parts.{Part, parts_of}
 use Rattle.gc_station.specs.Records.{Record}
 use Rattle.gc_station.specs.Scopes.{AreReadings}
 use Rattle.gc_station.specs.declared.tally.Tally.{Tally}
-use Rattle.gc_measuring.specs.Measuring.{Course, Places, RunsBehind, text_in, when_of}
+use Rattle.gc_measuring.specs.Measuring.{Course, PortsSeen, RunsBehind, text_in, when_of}
 use Rattle.gc_measuring.specs.declared.stop.Stop.{Stop}
 use Rattle.gc_field.specs.World.{Ends}
 use Rattle.gc_field.specs.Begin.{UnderWay}
@@ -35,7 +35,7 @@ use Rattle.gc_promise.specs.Tables.{AreWritten, acts_measured, records_in, scope
 pub record AreOfBytes (course : Course) (records : List Record) : Type 0 where
   pub run : course.layout.run < 2 ^ 64
   pub names : AllByRecursion (λ (name : Name). All (λ b. b < 256) name.text.items) course.names
-  pub each : AllByRecursion (λ (r : Record). IsWhen (when_of course.layout.run r) × (r.command.target < 2 ^ 64) × IsEnd r.end) records
+  pub each : AllByRecursion (λ (r : Record). FitsIn64Bits (when_of course.layout.run r) × (r.command.target < 2 ^ 64) × IsEndOfBytes r.end) records
 
 -- the digits of a number or the bytes of a string; empty if there is neither
 abbrev pub text_of : Option json.Json → List ℕ
@@ -43,7 +43,7 @@ text_of (Some (json.number digits)) = digits
 text_of (Some (json.string bytes)) = bytes
 text_of _ = []
 
--- lines, each with its line feed
+-- the bytes of these lines, in order, each followed by a line feed
 abbrev pub lines_text : List (List ℕ) → List ℕ
 lines_text lines = flat_map (λ line. line ++ 10 ∷ []) lines
 
@@ -72,10 +72,10 @@ abbrev pub ObjectsAreTheirOwn : Type 0 → Type 0
 ObjectsAreTheirOwn State =
     (ends : Ends State) (kept : State → Option KeptReply) → IsAnInstrument ends AnyState kept →
     (course : Course) → course.layout.form ≡ Json →
-    (old new : Places) (result : Result Tally Stop) → RunsBehind course old new result →
-    (told : List Act) (had : List ℕ) → old.acts ≡ Some [] → new.acts ≡ Some told → old.taken ≡ Some had →
+    (old new : PortsSeen) (result : Result Tally Stop) → RunsBehind course old new result →
+    (recorded : List Act) (had : List ℕ) → old.acts ≡ Some [] → new.acts ≡ Some recorded → old.taken ≡ Some had →
     (reads : Asked → List ℕ → Reading) → AreReadings reads → (u : UnderWay State) (rs : List (field.Run State)) →
-    IsInField ends AnyState kept course.plan course.tasks (scope_of course reads) (acts_measured result told) u rs →
-    AreOfBytes course (records_in course reads (acts_measured result told)) →
-    AreOwnObjects ends AnyState kept course reads (acts_measured result told) (parts_of course.plan course.tasks (opening course.plan (scope_of course reads)) (acts_measured result told))
+    IsInField ends AnyState kept course.plan course.tasks (scope_of course reads) (acts_measured result recorded) u rs →
+    AreOfBytes course (records_in course reads (acts_measured result recorded)) →
+    AreOwnObjects ends AnyState kept course reads (acts_measured result recorded) (parts_of course.plan course.tasks (opening course.plan (scope_of course reads)) (acts_measured result recorded))
     (stretches ends u rs) result had new.taken

@@ -20,7 +20,7 @@ use Rattle.gc_station.specs.Runs.{state_after}
 use Rattle.gc_station.specs.Scopes.{Scope, AreReadings}
 use Rattle.gc_station.specs.declared.tally.Tally.{Tally}
 use Rattle.gc_words.specs.declared.layout.Layout.{Layout}
-use Rattle.gc_measuring.specs.Measuring.{Course, Places, RunsBehind, text_in}
+use Rattle.gc_measuring.specs.Measuring.{Course, PortsSeen, RunsBehind, text_in}
 use Rattle.gc_measuring.specs.declared.stop.Stop.{Stop}
 use Rattle.gc_measuring.specs.declared.stop.Stop.TheVariants.{Run}
 use Rattle.gc_field.specs.World.{Ends}
@@ -39,8 +39,8 @@ scope_of course reads = record { turns = course.turns; reads = reads }
 
 -- the acts of a run, among those that its link recorded: all but the close after an output that failed
 abbrev pub acts_measured : Result Tally Stop → List Act → List Act
-acts_measured (Err (Run Output)) told = take (length told - 1) told
-acts_measured _ told = told
+acts_measured (Err (Run Output)) recorded = take (length recorded - 1) recorded
+acts_measured _ recorded = recorded
 
 -- the records of a run by these acts
 abbrev pub records_in : Course → (Asked → List ℕ → Reading) → List Act → List Record
@@ -48,13 +48,14 @@ records_in course reads acts = (state_after course.plan course.tasks (scope_of c
 
 -- What a sink took.
 
--- these bytes are a front of the text of the first of these records, but not all of it; and there are none if there is no
--- record
+-- these bytes are a front of the text of the first of these records, maybe empty, but not all of the text; if there is no record,
+-- they are empty
 abbrev pub IsTorn : (Record → List ℕ) → List Record → List ℕ → Type 0
 IsTorn text [] torn = torn ≡ []
 IsTorn text (next ∷ later) torn = (rest : List ℕ) × (text next ≡ torn ++ rest) × (0 < length rest)
 
--- which records of a run were written whole: all of them, but if the output failed; and what was written after these
+-- the records of a run that were written whole, and the bytes that were written after these (`torn`): all records were written,
+-- unless the output failed; then `torn` is a part of the next one
 pub record AreWritten (text : Record → List ℕ) (records : List Record) (result : Result Tally Stop) (torn : List ℕ) : Type 0 where
   pub written : List Record
   pub unwritten : List Record
@@ -64,17 +65,17 @@ pub record AreWritten (text : Record → List ℕ) (records : List Record) (resu
 
 -- Tables.
 
--- the form of a table, with a column for each quantity or without
+-- the form of a table, with a column for each quantity (true) or without these columns (false)
 abbrev pub table : Bool → Form
 table false = Csv
 table true = Columns
 
--- the names of the columns of a table, with those of the quantities or without
+-- the names of the columns of a table, with those of the quantities (true) or without (false)
 abbrev pub header : Bool → List (List ℕ)
 header false = rows.names ++ rows.last_names
 header true = rows.names ++ (quantity_names ++ rows.last_names)
 
--- the header as a row, if it is written
+-- the rows that the header is: one; or none if the output has its header already (`headed`)
 abbrev pub head_rows : Layout → Bool → List (List (List ℕ))
 head_rows layout columns = if layout.headed then [] else header columns ∷ []
 
@@ -106,9 +107,9 @@ abbrev pub TablesAreTheirOwn : Type 0 → Type 0
 TablesAreTheirOwn State =
     (ends : Ends State) (kept : State → Option KeptReply) → IsAnInstrument ends AnyState kept →
     (course : Course) (columns : Bool) → course.layout.form ≡ table columns →
-    (old new : Places) (result : Result Tally Stop) → RunsBehind course old new result →
-    (told : List Act) (had : List ℕ) → old.acts ≡ Some [] → new.acts ≡ Some told → old.taken ≡ Some had →
+    (old new : PortsSeen) (result : Result Tally Stop) → RunsBehind course old new result →
+    (recorded : List Act) (had : List ℕ) → old.acts ≡ Some [] → new.acts ≡ Some recorded → old.taken ≡ Some had →
     (reads : Asked → List ℕ → Reading) → AreReadings reads → (u : UnderWay State) (rs : List (field.Run State)) →
-    IsInField ends AnyState kept course.plan course.tasks (scope_of course reads) (acts_measured result told) u rs →
-    IsOwnTable ends AnyState kept course columns reads (acts_measured result told) (parts_of course.plan course.tasks (opening course.plan (scope_of course reads)) (acts_measured result told))
+    IsInField ends AnyState kept course.plan course.tasks (scope_of course reads) (acts_measured result recorded) u rs →
+    IsOwnTable ends AnyState kept course columns reads (acts_measured result recorded) (parts_of course.plan course.tasks (opening course.plan (scope_of course reads)) (acts_measured result recorded))
     (stretches ends u rs) result had new.taken

@@ -11,12 +11,12 @@ use Rattle.gc_station.specs.Parts.{parts_of}
 use Rattle.gc_station.specs.Records.{Record, texts_of}
 use Rattle.gc_station.specs.Scopes.{ForReadings}
 use Rattle.gc_words.specs.declared.layout.Layout.{Layout}
-use Rattle.gc_measuring.specs.Measuring.{Course, Places, RunsBehind, text_in}
+use Rattle.gc_measuring.specs.Measuring.{Course, PortsSeen, RunsBehind, text_in}
 use Rattle.gc_field.specs.Instrument.{AnyState, nothing}
 use Rattle.gc_field.specs.Shown.{stretches}
-use Rattle.gc_promise.specs.Eventful.{IsEventful, acts, before, commands, plan, records, reporting, runs, scope, tally}
+use Rattle.gc_promise.specs.Eventful.{IsEventful, acts, at_start, commands, plan, records, reporting, runs, scope, tally}
 use Rattle.gc_promise.specs.Eventful.{chained_record, elsewhere, elsewhere_record, empty, measured, number_record, numbered, pointed, points_record, unreadable_record}
-use Rattle.gc_promise.specs.Rows.{IsRowOwn}
+use Rattle.gc_promise.specs.Rows.{IsRowOfLine}
 use Rattle.gc_promise.specs.Objects.{AreOwnObjects}
 use Rattle.gc_promise.specs.Tables.{IsOwnTable, table}
 
@@ -56,22 +56,22 @@ course form = record { plan = plan; tasks = commands; turns = 200; layout = layo
 abbrev pub taken : Form → List ℕ
 taken form = texts_of (text_in (layout_in form) []) records
 
--- the ports of a station whose link recorded these acts, whose sink took these bytes, and with these turns, what was seen at
--- each act
-abbrev pub places : List Act → List ℕ → List Snapshot → Places
-places told taken turns =
-    record { input = record { remaining = None; reads = 0; ended = true; failed = false }; acts = Some told; taken = Some taken; messages = None; turns = turns }
+-- the ports of a station whose link recorded the acts `recorded` and whose sink took the bytes `taken`; `turns` is what was seen at each
+-- act
+abbrev pub ports_at : List Act → List ℕ → List Snapshot → PortsSeen
+ports_at recorded taken turns =
+    record { input = record { remaining = None; reads = 0; ended = true; failed = false }; acts = Some recorded; taken = Some taken; messages = None; turns = turns }
 
 module _ (reads : Asked → List ℕ → Reading) where
   -- the row of a record is this text, and its own, with this line as its reply
   abbrev pub IsOwnText : Record → List ℕ → List ℕ → Type 0
   IsOwnText r row line =
       (text_in in_a_table [] r ≡ row)
-      × IsRowOwn reporting AnyState nothing in_a_table [] commands (parts_of plan commands (opening plan (scope reads)) acts)
-      (stretches reporting before runs) r line
+      × IsRowOfLine reporting AnyState nothing in_a_table [] commands (parts_of plan commands (opening plan (scope reads)) acts)
+      (stretches reporting at_start runs) r line
 
-  -- the run is eventful, and the row of each command that a reply in time settled is its own: of both commands of the chain, of the one that
-  -- was measured elsewhere, of a number, and of one whose values don't read
+  -- the run is eventful, and the row of each command that a reply in time settled is its own: of both commands of the chain, of the
+  -- one that was measured elsewhere, of a number, and of one whose values don't read
   pub record HasOwnRows : Type 0 where
     pub run : IsEventful reads
     pub points : IsOwnText points_record points_row pointed
@@ -81,15 +81,15 @@ module _ (reads : Asked → List ℕ → Reading) where
     pub unreadable : IsOwnText unreadable_record unreadable_row empty
     -- and so is the table that its sink took, with a column for each quantity or without
     pub tables : (columns : Bool)
-        → IsOwnTable reporting AnyState nothing (course (table columns)) columns reads acts (parts_of plan commands (opening plan (scope reads)) acts) (stretches reporting before runs)
+        → IsOwnTable reporting AnyState nothing (course (table columns)) columns reads acts (parts_of plan commands (opening plan (scope reads)) acts) (stretches reporting at_start runs)
         (Ok tally) [] (Some (taken (table columns)))
     -- and so are its lines of JSON
     pub objects :
-        AreOwnObjects reporting AnyState nothing (course Json) reads acts (parts_of plan commands (opening plan (scope reads)) acts) (stretches reporting before runs)
+        AreOwnObjects reporting AnyState nothing (course Json) reads acts (parts_of plan commands (opening plan (scope reads)) acts) (stretches reporting at_start runs)
         (Ok tally) [] (Some (taken Json))
 
 -- `HasOwnRows` holds for every function that gives what each reply says of its call, and there is such a function. In each form
 -- the run is one as a station's contract has it: its link recorded these acts, and its sink took the texts of its records
 pub record SomeRowIsItsOwn : Type 0 where
   pub own : ForReadings HasOwnRows
-  pub measured : (form : Form) → (turns : List Snapshot) × RunsBehind (course form) (places [] [] []) (places acts (taken form) turns) (Ok tally)
+  pub measured : (form : Form) → (turns : List Snapshot) × RunsBehind (course form) (ports_at [] [] []) (ports_at acts (taken form) turns) (Ok tally)

@@ -22,7 +22,8 @@ pub fn rows_are_their_own<State>()
     // has the codes, the values and the quantities of such a line.
     ensures tables { TablesAreTheirOwn State }
 
-    // The same of lines of JSON: a reader of JSON gives each line as an object, whose members have under these names what a row has.
+    // The same of lines of JSON, where texts are bytes and numbers have 64 bits: a reader of JSON gives each line as an object,
+    // whose members have under these names what a row has.
     ensures objects { ObjectsAreTheirOwn State }
 
     // Of each record of a run that is an answer, however much of it was written: its row in a table reads back as fields, under whose names

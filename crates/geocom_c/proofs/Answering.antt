@@ -82,11 +82,7 @@ is_begun a le = drop_all a the_word le
 pub not_begun : (a : ℕ) → a < 8 → drop a the_word ≡ [] → ⊥
 not_begun a lt e = let n = length-drop a the_word in let none : length (drop a the_word) ≡ 0 = ap length e in absurd (omega (arith, lt, n, none))
 
--- if no id is left after `a` answers, there were at least eight
-pub begun_at : (a : ℕ) → drop a the_word ≡ [] → 8 ≤ a
-begun_at a e = let n = length-drop a the_word in let none : length (drop a the_word) ≡ 0 = ap length e in omega (arith, n, none)
-
--- a client that hasn't begun goes on at a restart with the ids that aren't answered
+-- a client that hasn't synchronized goes on after a restart with the ids that aren't answered
 pub goes_on : (left : List ℕ) → (left ≡ [] → ⊥) → left ≡ anew left
 goes_on [] some = absurd (some refl)
 goes_on (asked ∷ later) some = refl

@@ -23,11 +23,7 @@ use Rattle.geocom_c.specs.declared.header.TheConstants.{WINDOW_FULL, NO_CLIENT, 
 pub same_width : (c d : Windowed Asked) → d.width ≡ c.width → d ≡ record c { ids = d.ids }
 same_width c d e = ap (λ w. let x : Windowed Asked = record { width = w; ids = d.ids } in x) e
 
--- two values are equal where `Some` of the one equals `Some` of the other
-pub from_some : {A : Type 0} (x y : A) → Some x ≡ Some y → x ≡ y
-from_some x y e = cc
-
--- if a fault n other than 0 can only be that of a full window, it isn't that of no client
+-- if a fault n other than 0 can only be that of a full window, it isn't the one that the state is no client's
 pub full_alone : (n : ℕ) → (n ≢ 0 → n ≡ WINDOW_FULL) → n ≡ NO_CLIENT → ⊥
 full_alone n either e = let f : n ≡ WINDOW_FULL = either (λ z. (cc)) in cc
 
@@ -40,11 +36,11 @@ refusal_below (Parameters OpenQuote) = omega arith
 refusal_below (Parameters TooMany) = omega arith
 refusal_below (Parameters Count) = omega arith
 
--- so no refusal of a call is the fault of no client
+-- no refusal of a call has the number of the fault that the state is no client's
 pub no_refusal_astray : (e : CallFault) → refusal_number e ≡ NO_CLIENT → ⊥
 no_refusal_astray e f = absurd (omega (arith, f, refusal_below e))
 
--- nor is the fault of a raw request
+-- no refusal of a raw request has the number of the fault that the state is no client's
 pub no_raw_astray : (e : RawFault) → raw_number e ≡ NO_CLIENT → ⊥
 no_raw_astray raw.InTable f = absurd (omega (arith, f))
 no_raw_astray raw.NotPlain f = absurd (omega (arith, f))
@@ -67,9 +63,9 @@ as_given raw procedure params id next text is same e =
     ∙ ap (λ (p : List ℕ). with_end (request_text (record { rpc = procedure; id = Some id; params = p }))) is.1
     ∙ ap (λ i. with_end (request_text (record { rpc = procedure; id = Some i; params = params }))) (sym same)
 
--- the fault of a client that hasn't begun isn't that of no client
-pub other : NOT_BEGUN ≡ NO_CLIENT → ⊥
-other e = absurd (omega (arith, e))
+-- the fault that a client hasn't synchronized has another number than the one that the state is no client's
+pub unbegun_not_astray : NOT_BEGUN ≡ NO_CLIENT → ⊥
+unbegun_not_astray e = absurd (omega (arith, e))
 
 -- a fault isn't a success
 pub never_ok : {A E : Type 0} (e : E) (x : A) → Err e ≡ Ok x → ⊥
@@ -77,7 +73,8 @@ never_ok e x f = cc
 
 -- two writes turn `old` into `between`, and that into `new`: if the first leaves all after the first n bytes, and the second
 -- all after the first n + k, both leave all after the first n + k
-pub twice_untouched : (old between new : List ℕ) (n k count : ℕ) → count ≡ n + k → drop n between ≡ drop n old → drop (n + k) new ≡ drop (n + k) between → drop count new ≡ drop count old
+pub twice_untouched : (old between new : List ℕ) (n k count : ℕ) → count ≡ n + k → drop n between ≡ drop n old
+    → drop (n + k) new ≡ drop (n + k) between → drop count new ≡ drop count old
 twice_untouched old between new n k count e f g =
     ap (λ m. drop m new) e ∙ g ∙ sym (drop-drop k n between) ∙ ap (drop k) f ∙ drop-drop k n old ∙ ap (λ m. drop m old) (sym e)
 

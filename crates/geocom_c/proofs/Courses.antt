@@ -11,10 +11,11 @@ use Rattle.gc_catalogue.proofs.CallLaws.{one_call}
 use Rattle.gc_catalogue.specs.declared.asked.Asked.{Asked}
 use Rattle.gc_catalogue.specs.declared.asked.Asked.TheVariants.{Table, Raw}
 use Rattle.gc_client.specs.Beginning.{the_word, left_by}
-use Rattle.gc_client.specs.OneForOne.{Course, goes, course, begun, settled_on, IsOneForOne}
+use Rattle.gc_client.specs.OneForOne.{Course, course_after, course, settled_on, IsOneForOne}
 use Rattle.gc_client.specs.OneForOne as one
 use Rattle.gc_client.specs.Rule.{ById, Settled, expires, fresh, heard, hears, id_settled, place_in, restarts}
 use Rattle.gc_client.proofs.OneForOne.{one_for_one}
+use Rattle.gc_field.proofs.BeginWords.{cons_not_nil}
 use Rattle.geocom_c.specs.Beginning.{anew, given, left_behind, left_by_all}
 use Rattle.geocom_c.specs.Following.{CallsReach, Stage, hearing, opened}
 use Rattle.geocom_c.specs.Rest.{lines_behind}
@@ -60,7 +61,7 @@ stays_begun : (lines : List (List ℕ)) → left_by_all [] lines ≡ []
 stays_begun [] = refl
 stays_begun (line ∷ lines) = stays_begun lines
 
--- a begin leads to the ids that aren't answered after its bytes
+-- the events of a begin leave the course as it was, and lead to the ids that aren't answered after its bytes
 leads_begin : (width : ℕ) (x : Course Asked) (left rest bytes : List ℕ) → Leads width x x left (left_behind left rest bytes) (begins_by left rest bytes)
 leads_begin width x [] rest bytes = subst (λ l. Leads width x x [] l []) (sym (stays_begun (lines_behind rest bytes))) (leads_none width x [])
 leads_begin width x (asked ∷ later) rest bytes =
@@ -69,9 +70,9 @@ leads_begin width x (asked ∷ later) rest bytes =
     leads_both width x x x left after after (map Came (lines_behind rest bytes)) (asked_by (given bytes left after))
     (leads_came width x (lines_behind rest bytes) left) (leads_asked width x after (given bytes left after))
 
--- A client that hasn't begun has nothing that waits, so a line, a moment or a restart is nothing to it.
+-- A client that hasn't synchronized has no outstanding request, so a line, a moment or a restart changes nothing in it.
 
--- a new client
+-- a new client (`fresh`) for requests of the catalogue
 abbrev new : ById Asked
 new = fresh
 
@@ -91,30 +92,26 @@ stays_idle x s idle e =
     ∙ ap (λ l. let y : Course Asked = record { sent = x.sent; settlements = l; client = fresh } in y) (append-nil x.settlements)
     ∙ ap (λ c. let y : Course Asked = record { sent = x.sent; settlements = x.settlements; client = c } in y) (sym idle)
 
--- a new client stays as it was by a line
-idle_line : (width : ℕ) (x : Course Asked) (line : List ℕ) → x.client ≡ fresh → goes width x (one.Hear line) ≡ x
+-- a line changes nothing in the course of a new client
+idle_line : (width : ℕ) (x : Course Asked) (line : List ℕ) → x.client ≡ fresh → course_after width x (one.Hear line) ≡ x
 idle_line width x line idle = stays_idle x (hears x.client line (heard line)) idle (ap (λ c. hears c line (heard line)) idle ∙ none_settled line (heard line))
 
--- a new client stays as it was by a restart
-idle_restart : (width : ℕ) (x : Course Asked) → x.client ≡ fresh → goes width x one.Restart ≡ x
+-- a restart changes nothing in the course of a new client
+idle_restart : (width : ℕ) (x : Course Asked) → x.client ≡ fresh → course_after width x one.Restart ≡ x
 idle_restart width x idle = stays_idle x (restarts x.client) idle (ap restarts idle)
 
--- a new client stays as it was by a moment
-idle_moment : (width : ℕ) (x : Course Asked) (now : ℕ) → x.client ≡ fresh → goes width x (one.Expire now) ≡ x
+-- a moment changes nothing in the course of a new client
+idle_moment : (width : ℕ) (x : Course Asked) (now : ℕ) → x.client ≡ fresh → course_after width x (one.Expire now) ≡ x
 idle_moment width x now idle = ap (λ c. let y : Course Asked = record { sent = x.sent; settlements = x.settlements; client = c } in y) (ap (λ c. expires c now) idle ∙ sym idle)
 
--- a new client stays as it was by any lines
+-- any lines change nothing in the course of a new client
 idle_lines : (width : ℕ) (x : Course Asked) (lines : List (List ℕ)) → x.client ≡ fresh → course width x (map one.Hear lines) ≡ x
 idle_lines width x [] idle = refl
 idle_lines width x (line ∷ lines) idle = ap (λ y. course width y (map one.Hear lines)) (idle_line width x line idle) ∙ idle_lines width x lines idle
 
--- steps that leave a course as it was are no events
+-- no events lead from a course to an equal one
 leads_idle : (width : ℕ) (x y : Course Asked) (left : List ℕ) → y ≡ x → Leads width x y left left []
 leads_idle width x y left same = subst (λ (z : Course Asked). Leads width x z left left []) (sym same) (leads_none width x left)
-
--- a list with an element isn't empty
-never_left : (asked : ℕ) (later : List ℕ) → asked ∷ later ≡ [] → ⊥
-never_left asked later e = cc
 
 -- as long as some id is left, so that the client hasn't synchronized, it is a new one
 abbrev IsIdle : Course Asked → List ℕ → Type 0
@@ -124,23 +121,25 @@ IsIdle x left = (left ≡ [] → ⊥) → x.client ≡ fresh
 leads_heard : (width : ℕ) (x : Course Asked) (lines : List (List ℕ)) → Leads width x (course width x (map one.Hear lines)) [] [] (map Went (map one.Hear lines))
 leads_heard width x [] = leads_none width x []
 leads_heard width x (line ∷ lines) =
-    let more = leads_heard width (goes width x (one.Hear line)) lines in
+    let more = leads_heard width (course_after width x (one.Hear line)) lines in
     record { turns = λ es h. (refl, more.turns es h); reached = more.reached; behind = more.behind }
 
--- bytes that are fed lead to what their lines make of the client
-leads_feed : (width : ℕ) (x : Course Asked) (left : List ℕ) (lines : List (List ℕ)) → IsIdle x left → Leads width x (course width x (map one.Hear lines)) left left (goes_by left (map one.Hear lines))
+-- the events of lines that are fed lead to the course that has heard these lines
+leads_feed : (width : ℕ) (x : Course Asked) (left : List ℕ) (lines : List (List ℕ)) → IsIdle x left
+    → Leads width x (course width x (map one.Hear lines)) left left (goes_by left (map one.Hear lines))
 leads_feed width x [] lines idle = leads_heard width x lines
-leads_feed width x (asked ∷ later) lines idle = leads_idle width x _ (asked ∷ later) (idle_lines width x lines (idle (never_left asked later)))
+leads_feed width x (asked ∷ later) lines idle = leads_idle width x _ (asked ∷ later) (idle_lines width x lines (idle (cons_not_nil asked later)))
 
--- a moment leads to what it makes of the client
-leads_expire : (width : ℕ) (x : Course Asked) (left : List ℕ) (now : ℕ) → IsIdle x left → Leads width x (goes width x (one.Expire now)) left left (goes_by left (one.Expire now ∷ []))
+-- the events of a moment lead to the course after it
+leads_expire : (width : ℕ) (x : Course Asked) (left : List ℕ) (now : ℕ) → IsIdle x left
+    → Leads width x (course_after width x (one.Expire now)) left left (goes_by left (one.Expire now ∷ []))
 leads_expire width x [] now idle = record { turns = λ es h. (refl, h); reached = λ es. refl; behind = λ es. refl }
-leads_expire width x (asked ∷ later) now idle = leads_idle width x _ (asked ∷ later) (idle_moment width x now (idle (never_left asked later)))
+leads_expire width x (asked ∷ later) now idle = leads_idle width x _ (asked ∷ later) (idle_moment width x now (idle (cons_not_nil asked later)))
 
--- a restart leads to a client that resynchronizes
-leads_restart : (width : ℕ) (x : Course Asked) (left : List ℕ) → IsIdle x left → Leads width x (goes width x one.Restart) left (anew left) (goes_by left (one.Restart ∷ []))
+-- the events of a restart lead to the course after it, and to the ids that are to be answered then
+leads_restart : (width : ℕ) (x : Course Asked) (left : List ℕ) → IsIdle x left → Leads width x (course_after width x one.Restart) left (anew left) (goes_by left (one.Restart ∷ []))
 leads_restart width x [] idle = record { turns = λ es h. (refl, h); reached = λ es. refl; behind = λ es. refl }
-leads_restart width x (asked ∷ later) idle = leads_idle width x _ (asked ∷ later) (idle_restart width x (idle (never_left asked later)))
+leads_restart width x (asked ∷ later) idle = leads_idle width x _ (asked ∷ later) (idle_restart width x (idle (cons_not_nil asked later)))
 
 -- The events that calls are.
 
@@ -156,7 +155,7 @@ record Over (width : ℕ) (s : Stage) (calls : List Step) (t : Stage) : Type 0 w
 as_events : (width : ℕ) (s : Stage) (calls : List Step) (t : Stage) → IsIdle s.reached s.left → CallsReach width s calls t → Over width s calls t
 as_events width s [] t idle f = record { events = []; are = refl; turns = tt; reached = ap (λ (x : Stage). x.reached) f; left = ap (λ (x : Stage). x.left) f }
 as_events width s (Send target deadline procedure params ∷ calls) t idle (inl f) =
-    let more = as_events width (record s { reached = goes width s.reached (one.Send target (Table f.0) deadline) }) calls t (λ no. absurd (no f.1)) f.3 in
+    let more = as_events width (record s { reached = course_after width s.reached (one.Send target (Table f.0) deadline) }) calls t (λ no. absurd (no f.1)) f.3 in
     record {
       events = Went (one.Send target (Table f.0) deadline) ∷ more.events;
       are = inl (f.0, more.events, f.1, f.2, refl, more.are);
@@ -168,7 +167,7 @@ as_events width s (Send target deadline procedure params ∷ calls) t idle (inr 
     let more = as_events width s calls t idle f.1 in
     record { events = more.events; are = inr (f.0, more.are); turns = more.turns; reached = more.reached; left = more.left }
 as_events width s (SendRaw target deadline procedure params ∷ calls) t idle (inl f) =
-    let more = as_events width (record s { reached = goes width s.reached (one.Send target (Raw f.0) deadline) }) calls t (λ no. absurd (no f.1)) f.3 in
+    let more = as_events width (record s { reached = course_after width s.reached (one.Send target (Raw f.0) deadline) }) calls t (λ no. absurd (no f.1)) f.3 in
     record {
       events = Went (one.Send target (Raw f.0) deadline) ∷ more.events;
       are = inl (f.0, more.events, f.1, f.2, refl, more.are);
@@ -205,7 +204,7 @@ as_events width s (Feed bytes ∷ calls) t idle f =
     }
 as_events width s (Expire now ∷ calls) t idle f =
     let l = leads_expire width s.reached s.left now idle in
-    let more = as_events width (record s { reached = goes width s.reached (one.Expire now) }) calls t
+    let more = as_events width (record s { reached = course_after width s.reached (one.Expire now) }) calls t
     (λ no. ap (λ (x : Course Asked). x.client) (idle_moment width s.reached now (idle no)) ∙ idle no) f in
     record {
       events = goes_by s.left (one.Expire now ∷ []) ++ more.events;
@@ -216,7 +215,7 @@ as_events width s (Expire now ∷ calls) t idle f =
     }
 as_events width s (Restart ∷ calls) t idle f =
     let l = leads_restart width s.reached s.left idle in
-    let more = as_events width (record { reached = goes width s.reached one.Restart; rest = []; left = anew s.left }) calls t (λ no. refl) f in
+    let more = as_events width (record { reached = course_after width s.reached one.Restart; rest = []; left = anew s.left }) calls t (λ no. refl) f in
     record {
       events = goes_by s.left (one.Restart ∷ []) ++ more.events;
       are = (more.events, refl, more.are);
@@ -225,7 +224,7 @@ as_events width s (Restart ∷ calls) t idle f =
       left = more.left ∙ sym (l.behind more.events);
     }
 
--- calls are one list of events alone
+-- if the same calls are two lists of events, these lists are equal
 only_events : (left rest : List ℕ) (calls : List Step) (es fs : List Event) → AreEvents left rest calls es → AreEvents left rest calls fs → es ≡ fs
 only_events left rest [] es fs f g = f ∙ sym g
 only_events left rest (Send target deadline procedure params ∷ calls) es fs (inl f) (inl g) =

@@ -1,4 +1,4 @@
--- Calls of which the laws speak, computed: they meet each premise of the laws, so that these aren't about nothing.
+-- Calls that meet each premise of the laws, computed: so the laws aren't about nothing.
 use Rattle.std.proofs.Common.{◌≡◌, ◌⊎◌, ℕ, [], ◌∷◌, None, inl, inr, refl, lit≤, arith}
 use Rattle.std.specs.Prelude.{codes, take, drop}
 use Rattle.std.specs.Fmt.{digits}
@@ -22,26 +22,26 @@ use Rattle.gc_field.proofs.Witness.{fits, units}
 use Rattle.geocom_c.specs.FieldWitness.{AreInField, SomeCallsAreInField, moves, raw_second, table_second}
 
 -- procedure 5003 without parameters is a call
-number : IsCall 5003 [] InstrumentNo
-number = record { number = refl; values = record { items = []; split = (0, refl); read = tt } }
+procedure_is_call : IsCall 5003 [] InstrumentNo
+procedure_is_call = record { number = refl; values = record { items = []; split = (0, refl); read = tt } }
 
--- a reply with id 0 alone, as what is in flight, doesn't have the word, whose first id is 6
+-- the word isn't in flight if one reply with id 0 is, alone: the word's first id, 6, isn't 0
 not_alone : {A : Type 0} → (◌≡◌ {A = ℕ} 6 0 × A) ⊎ ⊥ → ⊥
 not_alone (inl f) = absurd (omega (arith, f.0))
 not_alone (inr f) = f
 
 -- after each request the instrument that counts retains its own reply
-alike : TreatsRawsAlike counting AnyState kept_by
-alike state id call good lt = inr (counted.keeps.always state id call good lt refl)
+counting_alike : TreatsRawsAlike counting AnyState kept_by
+counting_alike state id call good lt = inr (counted.keeps.always state id call good lt refl)
 
 -- the calls over an instrument that counts meet every premise of the laws
-any : (raw : RawCall) → AreInField counting AnyState kept_by (record { count = 27; keeps = None }) chain.null_replies (raw_second raw) (Raw raw) chain.first chain.second
+over_counting : (raw : RawCall) → AreInField counting AnyState kept_by (record { count = 27; keeps = None }) chain.null_replies (raw_second raw) (Raw raw) chain.first_reply chain.second_reply
 unfolding header_at reply_at digits
-any raw =
+over_counting raw =
     record {
-      is = counted.is;
+      instrument = counted.instrument;
       width = (lit≤ tt, lit≤ tt);
-      follows = inl (InstrumentNo, refl, number, inl (raw, refl, (refl, refl), refl));
+      follows = inl (InstrumentNo, refl, procedure_is_call, inl (raw, refl, (refl, refl), refl));
       lines = record { ids = tt; good = tt };
       may = not_alone;
       are = (
@@ -78,7 +78,7 @@ any raw =
                             InstrumentNo,
                             _,
                             refl,
-                            number,
+                            procedure_is_call,
                             refl,
                             inl
                                 (raw, _, refl, (refl, refl), refl, (_, refl, (_, refl, (_, refl, (_, refl, refl))))),
@@ -100,7 +100,7 @@ any raw =
         ),
         (((tt, tt), tt), tt),
       );
-      safe = ((λ m command went. inr (inl alike)), ((λ m command went. inr (inl alike)), tt));
+      safe = ((λ m command went. inr (inl counting_alike)), ((λ m command went. inr (inl counting_alike)), tt));
       settlements = refl;
       made_on = record {
         front = take 3 (moves (Raw raw) (codes "%R1P,0,0:0,36") (codes "%R1P,0,1:0,37"));
@@ -120,9 +120,9 @@ over_simulator :
 unfolding header_at reply_at handed exec digits
 over_simulator =
     record {
-      is = simulator.is;
+      instrument = simulator.instrument;
       width = (lit≤ tt, lit≤ tt);
-      follows = inl (InstrumentNo, refl, number, inl (InstrumentNo, refl, number, refl));
+      follows = inl (InstrumentNo, refl, procedure_is_call, inl (InstrumentNo, refl, procedure_is_call, refl));
       lines = record { ids = tt; good = fits };
       may = not_alone;
       are = (
@@ -159,10 +159,10 @@ over_simulator =
                             InstrumentNo,
                             _,
                             refl,
-                            number,
+                            procedure_is_call,
                             refl,
                             inl
-                                (InstrumentNo, _, refl, number, refl, (_, refl, (_, refl, (_, refl, (_, refl, refl))))),
+                                (InstrumentNo, _, refl, procedure_is_call, refl, (_, refl, (_, refl, (_, refl, (_, refl, refl))))),
                           ),
                         ),
                       ),
@@ -197,4 +197,4 @@ over_simulator =
 
 -- the law: there are calls that meet every premise of the laws
 pub in_field : SomeCallsAreInField
-in_field = record { any = any; simulator = over_simulator }
+in_field = record { any = over_counting; simulator = over_simulator }

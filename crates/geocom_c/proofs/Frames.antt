@@ -15,14 +15,14 @@ use Rattle.geocom_c.specs.declared.settled.GeocomSettlement.{GeocomSettlement}
 use Rattle.geocom_c.specs.declared.state.GeocomClient.{GeocomClient}
 
 -- a frame that is chosen among `Overlong`, `Cleared` and l isn't `More`, if l isn't
-pick : (a b : Bool) (l : Frame) → (l ≡ More → ⊥) → (if a then (if b then Overlong else l) else Cleared) ≡ More → ⊥
-pick false b l other e = let bad : Cleared ≡ More = e in cc
-pick true true l other e = let bad : Overlong ≡ More = e in cc
-pick true false l other e = other e
+chosen_not_more : (a b : Bool) (l : Frame) → (l ≡ More → ⊥) → (if a then (if b then Overlong else l) else Cleared) ≡ More → ⊥
+chosen_not_more false b l other e = let bad : Cleared ≡ More = e in cc
+chosen_not_more true true l other e = let bad : Overlong ≡ More = e in cc
+chosen_not_more true false l other e = other e
 
 -- a line feed always makes a frame
 pub never_more : (bs : List ℕ) → frame_of bs ≡ More → ⊥
-never_more bs e = pick (ends_in_return bs) (nat_lt 512 (length bs - 1)) (Line (record { items = take (length bs - 1) bs })) (λ same. cc) e
+never_more bs e = chosen_not_more (ends_in_return bs) (nat_lt 512 (length bs - 1)) (Line (record { items = take (length bs - 1) bs })) (λ same. cc) e
 
 -- a state stands for the same client with other bytes since the last line feed
 pub with_rest : (s : GeocomClient) (r : GeocomRest) (c : Windowed Asked) (old new : List ℕ) → StandsFor s c old → IsRest r new → StandsFor (record s { rest = r }) c new
@@ -36,7 +36,7 @@ with_rest s r c old new is rest =
       under_way = rest;
     }
 
--- what was fed is as `IsFed` says still with an equal frame g in place of f, and another number of used bytes
+-- `IsFed` still holds with an equal frame g in place of f, and with another number of used bytes
 pub fed_used : (c : Windowed Asked) (f g : Frame) (r q : GeocomHeard) (records : List GeocomSettlement) (text : List ℕ) (used : ℕ) → f ≡ g
     → q ≡ record r { used = used } → IsFed c f r records text → IsFed c g q records text
 fed_used c f g r q records text used e same is =

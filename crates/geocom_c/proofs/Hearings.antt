@@ -1,26 +1,27 @@
 -- Bytes that are fed: the client hears the frame that the first line feed ends, and then those of the bytes that are left. A
 -- frame is what a line feed makes of the bytes before it; a course is what a client has sent and settled so far, and the client
 -- after that; `rest` is the bytes since the last line feed. `FedTo` says that all bytes but some were fed to a state.
-use Rattle.std.proofs.Common.{◌≡◌, ◌≢◌, ℕ, ◌+◌, Bool, true, false, eqb, eq-eqb, arith, length, Option, List, [], ◌∷◌, ◌++◌, map, take, drop, Some, None, refl, sym, ap, subst, ◌∙◌}
+use Rattle.std.proofs.Common.{◌≡◌, ◌≢◌, ℕ, ◌+◌, arith, length, inl, inr, Option, List, [], ◌∷◌, ◌++◌, map, take, drop, Some, None, refl, sym, ap, subst, ◌∙◌}
 use Rattle.std.specs.List.{position, filter_map}
-use Rattle.std.proofs.lemmas.Bool.{eqb-true}
+use Rattle.std.proofs.lemmas.Bool.{cases_eq}
+use Rattle.std.proofs.lemmas.List.{drop_all}
 use Rattle.gc_catalogue.specs.declared.asked.Asked.{Asked}
 use Rattle.gc_lines.specs.Frames.{is_line_feed, frame_of, line_in, pieces_behind, rest_behind}
 use Rattle.gc_lines.specs.declared.frame.Frame.{Frame}
 use Rattle.gc_lines.specs.declared.frame.Frame.TheVariants.{Line, Cleared, Overlong, More}
 use Rattle.gc_lines.proofs.Cutting.{cut_none, cut_some}
 use Rattle.gc_client.specs.Rule.{Windowed, ById, Sending}
-use Rattle.gc_client.specs.OneForOne.{Course, goes, course, sent_on}
+use Rattle.gc_client.specs.OneForOne.{Course, course_after, course, sent_on}
 use Rattle.gc_client.specs.OneForOne as one
 use Rattle.geocom_c.specs.Feeding.{behind}
 use Rattle.geocom_c.specs.State.{StandsFor}
-use Rattle.geocom_c.specs.Sending.{Sent, IsSent}
+use Rattle.geocom_c.specs.Sending.{Sent, SendMeets}
 use Rattle.geocom_c.specs.Following.{hearing, FedTo}
 use Rattle.geocom_c.specs.declared.state.GeocomClient.{GeocomClient}
 
 -- the course after a frame
 abbrev pub past : ℕ → Course Asked → Frame → Course Asked
-past width x (Line line) = goes width x (one.Hear line.items)
+past width x (Line line) = course_after width x (one.Hear line.items)
 past width x Cleared = x
 past width x Overlong = x
 past width x More = x
@@ -44,20 +45,12 @@ frame_first width x More fs = refl
 pub none_heard : (width : ℕ) (x : Course Asked) (rest bytes : List ℕ) → position is_line_feed bytes ≡ None → hearing width x rest bytes ≡ x
 none_heard width x rest bytes e = ap (λ ps. course width x (map one.Hear (filter_map line_in (map frame_of ps)))) (cut_none rest bytes e).0
 
--- bytes without a line feed are added to those since the last one
-pub none_left : (rest bytes : List ℕ) → position is_line_feed bytes ≡ None → rest_behind rest bytes ≡ rest ++ bytes
-none_left rest bytes e = (cut_none rest bytes e).1
-
 -- of bytes with a line feed the first frame is heard, and then the others
 pub some_heard : (width : ℕ) (x : Course Asked) (rest bytes : List ℕ) (at : ℕ) → position is_line_feed bytes ≡ Some at
     → hearing width (past width x (frame_of (rest ++ take at bytes))) [] (drop (at + 1) bytes) ≡ hearing width x rest bytes
 some_heard width x rest bytes at e =
     sym (ap (λ ps. course width x (map one.Hear (filter_map line_in (map frame_of ps)))) (cut_some rest bytes at e).0
     ∙ frame_first width x (frame_of (rest ++ take at bytes)) (map frame_of (pieces_behind [] (drop (at + 1) bytes))))
-
--- the bytes since the last line feed are the same if the bytes through the first line feed are left out
-pub some_left : (rest bytes : List ℕ) (at : ℕ) → position is_line_feed bytes ≡ Some at → rest_behind [] (drop (at + 1) bytes) ≡ rest_behind rest bytes
-some_left rest bytes at e = sym (cut_some rest bytes at e).1
 
 -- if no line feed came, and the bytes were kept, all of them were fed
 pub fed_none : (width : ℕ) (x : Course Asked) (rest bytes : List ℕ) (state : GeocomClient) (left : List ℕ) → position is_line_feed bytes ≡ None → left ≡ []
@@ -68,7 +61,7 @@ fed_none width x rest bytes state left e none s =
       now = rest ++ bytes;
       stands = s;
       same = ap (hearing width x (rest ++ bytes)) none ∙ sym (none_heard width x rest bytes e);
-      behind = ap (rest_behind (rest ++ bytes)) none ∙ sym (none_left rest bytes e);
+      behind = ap (rest_behind (rest ++ bytes)) none ∙ sym (cut_none rest bytes e).1;
     }
 
 -- if the first line feed ended a frame, which the client heard, the bytes through that line feed were fed
@@ -80,7 +73,7 @@ fed_some width x rest bytes state used at e n s =
       now = [];
       stands = subst (λ (d : Windowed Asked). StandsFor state d []) (behind_past width x (frame_of (rest ++ take at bytes))) s;
       same = ap (λ m. hearing width (past width x (frame_of (rest ++ take at bytes))) [] (drop m bytes)) n ∙ some_heard width x rest bytes at e;
-      behind = ap (λ m. rest_behind [] (drop m bytes)) n ∙ some_left rest bytes at e;
+      behind = ap (λ m. rest_behind [] (drop m bytes)) n ∙ sym (cut_some rest bytes at e).1;
     }
 
 -- if all bytes but `left` were fed, and then all of `left` but `end`, all bytes but `end` were fed
@@ -95,11 +88,7 @@ either (Some at) f g = g at refl
 
 -- if all bytes were used, none is left
 pub nothing_left : (bytes : List ℕ) (used : ℕ) → used ≡ length bytes → drop used bytes ≡ []
-nothing_left bytes used e = ap (λ n. drop n bytes) e ∙ none bytes where
-  -- a list has nothing after as many elements as it has
-  none : (xs : List ℕ) → drop (length xs) xs ≡ []
-  none [] = refl
-  none (x ∷ xs) = none xs
+nothing_left bytes used e = drop_all used bytes (omega (arith, e))
 
 -- if all bytes were fed, the state stands for what all of them make of the client
 pub fed_all : (width : ℕ) (x : Course Asked) (rest bytes left : List ℕ) (state : GeocomClient) → FedTo width x rest bytes state left → left ≡ []
@@ -112,22 +101,14 @@ fed_all width x rest bytes left state f none =
 
 -- after a send, taken or refused by the rule, the state stands for the course that goes on with it
 pub sent_course : (width : ℕ) (x : Course Asked) (rest : List ℕ) (call : Asked) (target : ℕ) (o : Option (Sending (ById Asked))) (sent : Sent)
-    → StandsFor sent.old (record { width = width; ids = x.client }) rest → IsSent (record { width = width; ids = x.client }) rest call o sent
+    → StandsFor sent.old (record { width = width; ids = x.client }) rest → SendMeets (record { width = width; ids = x.client }) rest call o sent
     → StandsFor sent.new (record { width = width; ids = (sent_on x target call o).client }) rest
 sent_course width x rest call target None sent s is = subst (λ (t : GeocomClient). StandsFor t (record { width = width; ids = x.client }) rest) (sym is.1) s
 sent_course width x rest call target (Some q) sent s is = is.1
 
 -- `P` holds if it follows from two numbers being equal, and from their being different
-pub decided : {P : Type 0} (n m : ℕ) → (n ≡ m → P) → (n ≢ m → P) → P
-decided {P} n m f g = elim (eqb n m) as (λ v. eqb n m ≡ v → P) [
-  | true ↦ λ e. f (eqb-true n m e)
-  | false ↦ λ e. g (λ same. let t = eq-eqb n m same in clash t e)
-] refl where
-  -- a test isn't both true and false
-  clash : {b : Bool} → b ≡ true → b ≡ false → ⊥
-  clash e f = let bad = sym e ∙ f in cc
-
--- a list of length 0 is empty
-pub empty_is : (xs : List ℕ) → length xs ≡ 0 → xs ≡ []
-empty_is [] e = refl
-empty_is (x ∷ xs) e = absurd (omega (arith, e))
+pub by_equality : {P : Type 0} (n m : ℕ) → (n ≡ m → P) → (n ≢ m → P) → P
+by_equality n m f g = elim (cases_eq n m) [
+  | inl e ↦ f e
+  | inr e ↦ g e
+]

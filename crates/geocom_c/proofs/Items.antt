@@ -1,13 +1,11 @@
 -- Items, as texts of values, that stand in a text: at a place, which is an offset and a length in bytes. `total` is how many
 -- bytes items have together.
-use Rattle.std.proofs.Common.{◌≡◌, ℕ, zero, suc, ◌+◌, ◌<◌, ◌≤◌, List, [], ◌∷◌, ◌++◌, length, take, drop, replicate, get_or, refl, ap, ◌∙◌, arith, inl, inr, length-append}
-use Rattle.std.proofs.lemmas.List.{take_all, take-append-le}
+use Rattle.std.proofs.Common.{◌≡◌, ℕ, zero, suc, ◌+◌, ◌<◌, ◌≤◌, List, [], ◌∷◌, ◌++◌, length, take, drop, replicate, get_or, refl, ap, ◌∙◌, arith, length-append}
+use Rattle.std.proofs.lemmas.List.{drop_at, take_all, take-append-le}
 use Rattle.std.specs.List.{flat_map}
 use Rattle.gc_values.specs.Params.{IsParams, ArePieces, joined}
 use Rattle.gc_values.specs.Lists.{AreItems}
 use Rattle.gc_values.specs.declared.value.Value.{Value}
-use Rattle.gc_lines.specs.Replies.{ReplyFields, IsReply, reply_signature}
-use Rattle.gc_lines.specs.Headers.{id_text}
 use Rattle.geocom_c.specs.Settled.{StandsAt, total}
 use Rattle.geocom_c.specs.declared.listed.GeocomItem.{GeocomItem}
 
@@ -49,25 +47,6 @@ pub items_total : (params : List ℕ) (items : List (List ℕ)) → IsParams par
 items_total params [] is = omega arith
 items_total params (i ∷ items) is = let n = ap length is.bytes_are in omega (arith, n, joined_total is.pieces, pieces_total is.pieces (i ∷ items) is.pieces_are)
 
--- parameters are no longer than their line
-pub params_fit : (line : List ℕ) (reply : ReplyFields) → IsReply line reply → length reply.params ≤ length line
-params_fit line reply is = elim is.is_tail [
-  | inl none ↦ let n = ap length none.1 in omega (arith, n)
-  | inr some ↦
-      let n = ap length is.whole in
-      let t = ap length some in
-      omega (
-        arith,
-        n,
-        t,
-        length-append reply_signature (is.number ++ (id_text reply.id ++ 58 ∷ (is.code ++ is.tail))),
-        length-append is.number
-            (id_text reply.id ++ 58 ∷ (is.code ++ is.tail)),
-        length-append (id_text reply.id) (58 ∷ (is.code ++ is.tail)),
-        length-append is.code is.tail,
-      )
-]
-
 -- the parameters have as many items as values
 pub items_length : (items : List (List ℕ)) (values : List Value) → AreItems items values → length items ≡ length values
 items_length [] [] are = refl
@@ -75,26 +54,21 @@ items_length [] (v ∷ vs) are = absurd are
 items_length (i ∷ items) [] are = absurd are
 items_length (i ∷ items) (v ∷ vs) are = omega (arith, items_length items vs are.1)
 
--- of two texts joined, the second is left where as many bytes are discarded as the first has
-drop_exact : (t u : List ℕ) → drop (length t) (t ++ u) ≡ u
-drop_exact [] u = refl
-drop_exact (x ∷ t) u = drop_exact t u
-
--- what is within a front stays where more is appended
+-- the k bytes from place n on, if they are within t, are the same once u is appended
 take_drop_front : (n k : ℕ) (t u : List ℕ) → n + k ≤ length t → take k (drop n (t ++ u)) ≡ take k (drop n t)
 take_drop_front zero k t u fits = take-append-le k t u (omega (arith, fits))
 take_drop_front (suc n) k [] u fits = absurd (omega (arith, fits))
 take_drop_front (suc n) k (x ∷ t) u fits = take_drop_front n k t u (omega (arith, fits))
 
--- an item that is appended stands at the end of the text before it
+-- an item that is appended to a text stands at the place where that text ended
 pub stands_here : (text item : List ℕ) (place : GeocomItem) → place.offset ≡ length text → place.length ≡ length item → StandsAt (text ++ item) place item
 stands_here text item place o n =
     record {
       within = omega (arith, o, n, length-append text item);
-      stands = ap (λ m. take place.length (drop m (text ++ item))) o ∙ ap (take place.length) (drop_exact text item) ∙ take_all place.length item (omega (arith, n));
+      stands = ap (λ m. take place.length (drop m (text ++ item))) o ∙ ap (take place.length) (drop_at text item (length text) refl) ∙ take_all place.length item (omega (arith, n));
     }
 
--- an item stands in a text if it stood, once more is appended
+-- an item that stands in a text still does once more is appended
 pub stands_more : (text more : List ℕ) (place : GeocomItem) (item : List ℕ) → StandsAt text place item → StandsAt (text ++ more) place item
 stands_more text more place item is =
     record {

@@ -3,33 +3,33 @@
 -- of them, however both go on.
 use Rattle.std.proofs.Common.{◌≡◌, ◌≢◌, ℕ, zero, suc, ◌+◌, ◌-◌, ◌<◌, ◌≤◌, List, [], ◌∷◌, ◌++◌, length, take, get_or, All, refl, sym, subst, ap, ap₂, ◌∙◌, arith, append_assoc, length-append, if◌then◌else◌, ◌==◌}
 use Rattle.std.specs.Prelude.{slice_set}
-use Rattle.std.proofs.lemmas.List.{length-take, append-nil, get_or-take, take_more_set}
-use Rattle.std.proofs.lemmas.List.Elements.{All-append}
+use Rattle.std.proofs.lemmas.List.{length-take, append-nil, take-take, take_more_set}
+use Rattle.std.proofs.lemmas.List.Elements.{All-append, All-take}
 use Rattle.std.proofs.lemmas.Bool.{lt-ltb}
 use Rattle.gc_lines.specs.Frames.{frame_of}
 use Rattle.gc_lines.specs.declared.frame.Frame.TheVariants.{Overlong, Cleared}
 use Rattle.geocom_c.specs.Rest.{IsRest}
 use Rattle.gc_lines.proofs.Keeping.{take-append, last-append}
 
--- the last byte
-abbrev pub last_of : List ℕ → ℕ
-last_of t = get_or t (length t - 1) 0
+-- the last byte of a text; 0 for an empty one
+abbrev pub last_byte : List ℕ → ℕ
+last_byte t = get_or t (length t - 1) 0
 
 -- which frame a line feed makes of more than 513 bytes depends on the last of them alone (13 is CR)
-long_frame : (t : List ℕ) → 513 < length t → frame_of t ≡ (if last_of t == 13 then Overlong else Cleared)
+long_frame : (t : List ℕ) → 513 < length t → frame_of t ≡ (if last_byte t == 13 then Overlong else Cleared)
 long_frame t h = rw (lt-ltb 0 (length t) (omega (arith, h)), lt-ltb 512 (length t - 1) (omega (arith, h))) refl
 
 -- two texts with the same last byte still have the same one when the same bytes are added to both
-last_same : (t u more : List ℕ) → last_of t ≡ last_of u → last_of (t ++ more) ≡ last_of (u ++ more)
-last_same t u [] e = ap last_of (append-nil t) ∙ e ∙ sym (ap last_of (append-nil u))
+last_same : (t u more : List ℕ) → last_byte t ≡ last_byte u → last_byte (t ++ more) ≡ last_byte (u ++ more)
+last_same t u [] e = ap last_byte (append-nil t) ∙ e ∙ sym (ap last_byte (append-nil u))
 last_same t u (b ∷ bs) e = last-append t (b ∷ bs) (omega arith) ∙ sym (last-append u (b ∷ bs) (omega arith))
 
 -- of more than 513 bytes the first 513 and the last make the same frame as all of them, whatever bytes come next
-pub cut_same : (t : List ℕ) (more : List ℕ) → 513 < length t → frame_of ((take 513 t ++ last_of t ∷ []) ++ more) ≡ frame_of (t ++ more)
+pub cut_same : (t : List ℕ) (more : List ℕ) → 513 < length t → frame_of ((take 513 t ++ last_byte t ∷ []) ++ more) ≡ frame_of (t ++ more)
 cut_same t more h =
-    let u = take 513 t ++ last_of t ∷ [] in
-    let n : length u ≡ 514 = omega (arith, h, length-append (take 513 t) (last_of t ∷ []), length-take 513 t) in
-    let l : last_of u ≡ last_of t = last-append (take 513 t) (last_of t ∷ []) (omega arith) in
+    let u = take 513 t ++ last_byte t ∷ [] in
+    let n : length u ≡ 514 = omega (arith, h, length-append (take 513 t) (last_byte t ∷ []), length-take 513 t) in
+    let l : last_byte u ≡ last_byte t = last-append (take 513 t) (last_byte t ∷ []) (omega arith) in
     long_frame (u ++ more) (omega (arith, n, length-append u more))
     ∙ ap (λ b. if b == 13 then Overlong else Cleared) (last_same u t more l)
     ∙ sym (long_frame (t ++ more) (omega (arith, h, length-append t more)))
@@ -44,27 +44,14 @@ alike_all t p rest same more = ap frame_of (append_assoc t p more) ∙ same (p +
 
 -- where `GoAlike` holds of the bytes kept, `t`, and those that came, `rest`, and `t` and the piece p are more than 513 bytes:
 -- it holds of the first 513 of these and the last, and of `rest` and p
-pub alike_cut : (t p rest : List ℕ) → 513 < length (t ++ p) → GoAlike t rest → GoAlike (take 513 (t ++ p) ++ last_of (t ++ p) ∷ []) (rest ++ p)
+pub alike_cut : (t p rest : List ℕ) → 513 < length (t ++ p) → GoAlike t rest → GoAlike (take 513 (t ++ p) ++ last_byte (t ++ p) ∷ []) (rest ++ p)
 alike_cut t p rest h same more = cut_same (t ++ p) more h ∙ alike_all t p rest same more
-
--- of the first n items the first k are the first k of all, where k is at most n
-shorter : {A : Type 0} (k n : ℕ) (xs : List A) → k ≤ n → take k (take n xs) ≡ take k xs
-shorter zero n xs le = refl
-shorter (suc k) zero xs le = absurd (omega (arith, le))
-shorter (suc k) (suc n) [] le = refl
-shorter (suc k) (suc n) (x ∷ xs) le = ap (λ ys. x ∷ ys) (shorter k n xs (omega (arith, le)))
 
 -- the first 513 bytes of `t` and then the piece p are known from the n bytes of p for which there is room
 filled : (t p : List ℕ) (n : ℕ) → length t ≤ 514 → n ≡ 514 - length t → n ≤ length p → take 513 (t ++ take n p) ≡ take 513 (t ++ p)
-filled t p n short room fits = take-append 513 t (take n p) ∙ ap (λ xs. take 513 t ++ xs) (shorter (513 - length t) n p (omega (arith, room))) ∙ sym (take-append 513 t p)
+filled t p n short room fits = take-append 513 t (take n p) ∙ ap (λ xs. take 513 t ++ xs) (take-take (513 - length t) n p (omega (arith, room))) ∙ sym (take-append 513 t p)
 
--- what holds of all items holds of the first k
-all_of_take : (P : ℕ → Type 0) (k : ℕ) (xs : List ℕ) → All P xs → All P (take k xs)
-all_of_take P k xs all i d lt =
-    let n = length-take k xs in
-    subst P (sym (get_or-take k xs i d (omega (arith, lt, n)))) (all i d (omega (arith, lt, n)))
-
--- a property of x is one of each item of the list of x alone
+-- what holds of x holds of each item of the list that has x alone
 all_one : (P : ℕ → Type 0) (x : ℕ) → P x → All P (x ∷ [])
 all_one P x is zero d lt = is
 all_one P x is (suc k) d lt = absurd (omega (arith, lt))
@@ -81,23 +68,23 @@ module _ (bytes t p rest : List ℕ) (n f : ℕ) (is : n ≡ length t) (clean : 
 
   -- if the first f bytes of the piece `p` were kept, as many as there was room for, and its last byte in the last place, what
   -- is retained stands for all bytes that came since the last line feed, `rest` and then `p`
-  pub cut_rest : (last : ℕ) → n ≤ 514 → f ≡ 514 - n → f < length p → take (n + f) bytes ≡ t ++ take f p → 513 < length bytes → last ≡ last_of p
+  pub cut_rest : (last : ℕ) → n ≤ 514 → f ≡ 514 - n → f < length p → take (n + f) bytes ≡ t ++ take f p → 513 < length bytes → last ≡ last_byte p
       → IsRest (record { length = n + f; bytes = slice_set bytes 513 last }) (rest ++ p)
   cut_rest last short room more text within e =
       let sum : n + f ≡ 514 = omega (arith, short, room) in
       let long : 513 < length (t ++ p) = omega (arith, is, sum, more, length-append t p) in
       let front : take 513 bytes ≡ take 513 (t ++ p) =
-      sym (shorter 513 514 bytes (omega arith)) ∙ ap (λ k. take 513 (take k bytes)) (sym sum) ∙ ap (take 513) text
+      sym (take-take 513 514 bytes (omega arith)) ∙ ap (λ k. take 513 (take k bytes)) (sym sum) ∙ ap (take 513) text
       ∙ filled t p f (omega (arith, is, short)) (omega (arith, is, room)) (omega (arith, more)) in
-      let byte : last ≡ last_of (t ++ p) = e ∙ sym (last-append t p (omega (arith, more))) in
-      let whole : take (n + f) (slice_set bytes 513 last) ≡ take 513 (t ++ p) ++ last_of (t ++ p) ∷ [] =
+      let byte : last ≡ last_byte (t ++ p) = e ∙ sym (last-append t p (omega (arith, more))) in
+      let whole : take (n + f) (slice_set bytes 513 last) ≡ take 513 (t ++ p) ++ last_byte (t ++ p) ∷ [] =
       ap (λ k. take k (slice_set bytes 513 last)) sum ∙ take_more_set bytes 513 last within ∙ ap₂ (λ u b. u ++ b ∷ []) front byte in
       let both = All-append (λ b. b ≢ 10) t p clean cleanly in
       record {
         cut = record {
           short = omega (arith, sum);
-          unended = subst (λ u. All (λ b. b ≢ 10) u) (sym whole) (All-append (λ b. b ≢ 10) (take 513 (t ++ p)) (last_of (t ++ p) ∷ [])
-              (all_of_take (λ b. b ≢ 10) 513 (t ++ p) both) (all_one (λ b. b ≢ 10) (last_of (t ++ p)) (both (length (t ++ p) - 1) 0 (omega (arith, long)))));
+          unended = subst (λ u. All (λ b. b ≢ 10) u) (sym whole) (All-append (λ b. b ≢ 10) (take 513 (t ++ p)) (last_byte (t ++ p) ∷ [])
+              (All-take (λ b. b ≢ 10) 513 (t ++ p) both) (all_one (λ b. b ≢ 10) (last_byte (t ++ p)) (both (length (t ++ p) - 1) 0 (omega (arith, long)))));
         };
         same = λ next. ap (λ u. frame_of (u ++ next)) whole ∙ alike_cut t p rest long same next;
       }

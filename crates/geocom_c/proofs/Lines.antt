@@ -11,18 +11,18 @@ use Rattle.gc_catalogue.specs.Asked.{asked_line, asked_request, IsAsked}
 use Rattle.gc_catalogue.specs.AskedLaws.{ReadsBackAsked}
 use Rattle.geocom_c.specs.State.{IsLineOf}
 
--- a request without an id has none
-has_none : (asked : Asked) → (asked_request None asked).id ≡ None
-has_none (Table call) = refl
-has_none (Raw raw) = refl
+-- the request that asks for something, made without an id, has none
+has_no_id : (asked : Asked) → (asked_request None asked).id ≡ None
+has_no_id (Table call) = refl
+has_no_id (Raw raw) = refl
 
--- the request line without an id of what is asked is a line that asks for it
+-- the line that is written for what is asked, without an id, is one that asks for it (`IsLineOf`)
 pub own_line : (line : List ℕ) (asked : Asked) → ReadsBackAsked None asked → line ≡ asked_line None asked → IsLineOf line asked
 own_line line asked back e =
     record {
       fields = asked_request None asked;
       is_request = subst (λ l. IsRequest l (asked_request None asked)) (sym e) (request_found (asked_line None asked) (asked_request None asked) back.line);
-      no_id = has_none asked;
+      no_id = has_no_id asked;
       is_asked = back.is_asked;
     }
 

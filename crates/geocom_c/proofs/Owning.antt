@@ -1,7 +1,7 @@
 -- Each answer of a run is its own request's: it settled that request, and the instrument made it on executing that request. A
 -- part is a run with what was in flight when it began; `ends` is the instrument, `Good` the states that it may be in, and
 -- `kept` the reply that it retains.
-use Rattle.std.proofs.Common.{◌≡◌, ℕ, zero, suc, ◌<◌, ◌≤◌, List, [], ◌∷◌, ◌++◌, map, length, drop, refl, arith}
+use Rattle.std.proofs.Common.{◌≡◌, ℕ, suc, ◌+◌, ◌<◌, ◌≤◌, List, [], ◌∷◌, map, length, drop, refl, arith}
 use Rattle.std.specs.Prelude.{Option, Some, slice_get}
 use Rattle.std.specs.List.{AllByRecursion}
 use Rattle.gc_catalogue.specs.declared.asked.Asked.{Asked}
@@ -9,40 +9,19 @@ use Rattle.gc_client.specs.OneForOne.{of_settled}
 use Rattle.gc_client.specs.Rule.{Settlement, Answered, Lost, lost}
 use Rattle.gc_client.specs.declared.pending.Pending.{Pending}
 use Rattle.gc_instrument.specs.State.{KeptReply}
+use Rattle.gc_world.proofs.Places.{below, in_range}
 use Rattle.gc_field.specs.World.{Ends, Sent}
 use Rattle.gc_field.specs.Begin.{leaves}
 use Rattle.gc_field.specs.Begun.{IsFaithful}
 use Rattle.gc_field.specs.Laws.{asked}
+use Rattle.gc_field.proofs.Among.{get_drop}
 use Rattle.geocom_c.specs.Laws.{IsOwnAnswer, IsSafeRun}
 use Rattle.geocom_c.specs.Runs.{Part, begun_at, world}
-use Rattle.geocom_c.proofs.Places.{got}
 
 -- what holds of the item at each place holds of all
 all_of_places : {A : Type 0} (P : A → Type 0) (xs : List A) → ((m : ℕ) (x : A) → slice_get xs m ≡ Some x → P x) → AllByRecursion P xs
 all_of_places P [] f = tt
 all_of_places P (x ∷ xs) f = (f 0 x refl, all_of_places P xs (λ m y e. f (suc m) y e))
-
--- where P gives Q for each item, and P holds of all items, Q does
-pub all_weaker : {A : Type 0} (P Q : A → Type 0) → ((x : A) → P x → Q x) → (xs : List A) → AllByRecursion P xs → AllByRecursion Q xs
-all_weaker P Q f [] h = tt
-all_weaker P Q f (x ∷ xs) h = (f x h.0, all_weaker P Q f xs h.1)
-
--- what holds of all items of two lists holds of all items of the lists joined
-pub all_joined : {A : Type 0} (P : A → Type 0) (xs ys : List A) → AllByRecursion P xs → AllByRecursion P ys → AllByRecursion P (xs ++ ys)
-all_joined P [] ys f g = g
-all_joined P (x ∷ xs) ys f g = (f.0, all_joined P xs ys f.1 g)
-
--- a place that holds something is within the list
-within : {A : Type 0} (xs : List A) (m : ℕ) (x : A) → slice_get xs m ≡ Some x → m < length xs
-within [] m x e = cc
-within (y ∷ xs) zero x e = omega arith
-within (y ∷ xs) (suc m) x e = omega (arith, within xs m x e)
-
--- a place after the first k items is one of the whole list, at k or after it
-behind_first : {A : Type 0} (k m : ℕ) (xs : List A) (x : A) → slice_get (drop k xs) m ≡ Some x → (n : ℕ) × (k ≤ n) × (slice_get xs n ≡ Some x)
-behind_first zero m xs x e = (m, omega arith, e)
-behind_first {A} (suc k) m [] x e = (let bad : m < length {A = A} [] = within {A = A} [] m x e in absurd (omega (arith, bad)))
-behind_first (suc k) m (y ∷ xs) x e = let more = behind_first k m xs x e in (suc more.0, omega (arith, more.1), more.2)
 
 -- a request and a settlement with one target and call ask the same
 same_asked : (r : Sent) (s : Settlement Asked) → s.target ≡ r.target → s.call ≡ r.call → asked r ≡ of_settled s
@@ -50,13 +29,13 @@ same_asked r s t c = rw (t, c) refl
 
 module _ {State : Type 0} (width : ℕ) (ends : Ends State) (Good : State → Type 0) (kept : State → Option KeptReply) where
   -- an answer that a run settled is its own request's, in the list that begins with this run
-  here : (p : Part State) (ps : List (Part State)) → IsFaithful width ends (leaves (begun_at width ends p)) p.run.moves Good kept
+  own_at_place : (p : Part State) (ps : List (Part State)) → IsFaithful width ends (leaves (begun_at ends p)) p.run.moves Good kept
       → IsSafeRun width ends Good kept p → (m : ℕ) (x : Settlement Asked)
       → 8 ≤ m → slice_get (world width ends p).wire.settled m ≡ Some x → IsOwnAnswer width ends Good kept (p ∷ ps) x
-  here p ps f safe m x command e = λ line is.
+  own_at_place p ps f safe m x command e = λ line is.
       let o = f.one_for_one in
-      let went : m < length (world width ends p).wire.sent = omega (arith, within (world width ends p).wire.settled m x e, o.count) in
-      let request = got (world width ends p).wire.sent m went in
+      let went : m < length (world width ends p).wire.sent = omega (arith, below (world width ends p).wire.settled m x e, o.count) in
+      let request = in_range (world width ends p).wire.sent m went in
       let s = safe m command went in
       let same = o.same m x request.0 e request.1 in
       record {
@@ -77,10 +56,10 @@ module _ {State : Type 0} (width : ℕ) (ends : Ends State) (Good : State → Ty
 
   -- each answer that a run settled, after the eight null procedures, is its own request's, in the list that begins with this
   -- run, if its commands are safe
-  pub own_here : (p : Part State) (ps : List (Part State)) → IsFaithful width ends (leaves (begun_at width ends p)) p.run.moves Good kept
+  pub own_here : (p : Part State) (ps : List (Part State)) → IsFaithful width ends (leaves (begun_at ends p)) p.run.moves Good kept
       → IsSafeRun width ends Good kept p → AllByRecursion (IsOwnAnswer width ends Good kept (p ∷ ps)) (drop 8 (world width ends p).wire.settled)
   own_here p ps f safe = all_of_places (IsOwnAnswer width ends Good kept (p ∷ ps)) (drop 8 (world width ends p).wire.settled)
-      (λ m x e. let at = behind_first 8 m (world width ends p).wire.settled x e in here p ps f safe at.0 x at.1 at.2)
+      (λ m x e. own_at_place p ps f safe (8 + m) x (omega arith) (get_drop 8 m (world width ends p).wire.settled x e))
 
   -- an answer of a later run is its own request's in the list with one more run before it, too
   pub later_own : (p : Part State) (ps : List (Part State)) (x : Settlement Asked) → IsOwnAnswer width ends Good kept ps x → IsOwnAnswer width ends Good kept (p ∷ ps) x

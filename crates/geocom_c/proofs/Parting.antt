@@ -3,25 +3,28 @@
 -- eight null procedures, and `left` those of them that aren't answered. `ends` is the instrument, `Good` the states that it may
 -- be in, and `kept` the reply that it retains. `Turned` says which events a synchronization's turns are, `Begins` and `Passes`
 -- that a run has synchronized cleanly, and `Holds` what the law promises of runs.
-use Rattle.std.proofs.Common.{◌≡◌, ℕ, ◌≤◌, false, List, [], ◌∷◌, ◌++◌, map, drop, Option, Some, None, refl, sym, ◌∙◌, ap, subst, append_assoc}
+use Rattle.std.proofs.Common.{◌≡◌, ℕ, ◌≤◌, List, [], ◌∷◌, ◌++◌, map, drop, Option, Some, None, refl, sym, ◌∙◌, ap, subst, append_assoc}
 use Rattle.std.proofs.lemmas.List.{append-nil}
 use Rattle.std.specs.List.{AllByRecursion}
 use Rattle.gc_catalogue.specs.declared.asked.Asked.{Asked}
 use Rattle.gc_client.specs.Beginning.{the_word}
-use Rattle.gc_client.specs.OneForOne.{Step, Send, Hear, Expire, Restart, Course, begun, sent_on, settled_on, goes, course}
+use Rattle.gc_client.specs.OneForOne.{Step, Send, Hear, Expire, Restart, Course, begun, sent_on, settled_on, course_after, course}
 use Rattle.gc_client.specs.Rule.{ById, Sending, Settled, Settlement, sends, heard, hears, expires, restarts, lost}
 use Rattle.gc_instrument.specs.State.{KeptReply}
 use Rattle.gc_world.specs.Clients.{by_ids}
-use Rattle.gc_world.specs.Order.{Each}
+use Rattle.gc_station.proofs.Behind.{course_append}
+use Rattle.gc_station.proofs.Lists.{all_append, all_on}
 use Rattle.gc_field.specs.World.{Ends, Request}
-use Rattle.gc_field.specs.Begin.{Aged, AreLines, AreTurns, Asks, Comes, Foreign, Reaches, Up_lose, Up_repeat, Down_lose, Down_repeat, Anew, Changes, Model, Turn, UnderWay, asks, begins, comes, leaves, reaches, turned, turns}
+use Rattle.gc_field.specs.Begin.{InFlight, IsWellFormed, AreTurns, Asks, Comes, Foreign, Reaches, Up_lose, Up_repeat, Down_lose, Down_repeat, Anew, Changes, Model, Turn, UnderWay, asks, begins, comes, leaves, reaches, turned, turns}
 use Rattle.gc_field.specs.Beginnings.{IsOwnIf, Run, left_by_run, left_if, on_line, after_turns}
-use Rattle.gc_field.specs.Begun.{IsClean, behind, eighth, ids_begun}
+use Rattle.gc_field.specs.Begun.{behind, ids_begun}
 use Rattle.gc_field.specs.Field.{Move, Sends, Tells, OnLine, Joins, ArePossible, seen}
 use Rattle.gc_field.specs.Field as field
 use Rattle.gc_field.specs.Instrument.{IsAnInstrument}
 use Rattle.gc_field.proofs.BeginJoin.{begins_cleanly, left_lines}
+use Rattle.gc_field.proofs.BeginWords.{cons_not_nil}
 use Rattle.gc_field.proofs.BegunFaithful.{faithful}
+use Rattle.gc_field.proofs.BegunRuns.{clean_lines}
 use Rattle.gc_field.proofs.BegunRows.{rows_have_not, runs_leave_rows, runs_leave_good}
 use Rattle.geocom_c.specs.Following.{CallsReach, Stage, opened}
 use Rattle.geocom_c.specs.Laws.{AreOwn, IsOwnAnswer, IsSafeRun, MayBegin}
@@ -29,7 +32,7 @@ use Rattle.geocom_c.specs.Runs.{Part, ArePossibleRuns, asked_of, begun_at, clien
 use Rattle.geocom_c.specs.Steps.{Event, Went, AreEvents, AreInTurn, left_among, steps_among}
 use Rattle.geocom_c.specs.declared.following.Step as call
 use Rattle.geocom_c.proofs.Courses.{over_events}
-use Rattle.geocom_c.proofs.Owning.{all_joined, all_weaker, later_own, none_answered, own_here}
+use Rattle.geocom_c.proofs.Owning.{later_own, none_answered, own_here}
 
 -- Two courses, one of which settled more before (`Behind`).
 
@@ -50,7 +53,7 @@ behind_settled : (old : List (Settlement Asked)) (x y : Course Asked) (s : Settl
 behind_settled old x y s h = record { settled = ap (λ l. l ++ s.settlements) h.settled ∙ append_assoc old y.settlements s.settlements; client = refl }
 
 -- if `Behind` holds of two courses, it still does after both make one step
-behind_step : (width : ℕ) (old : List (Settlement Asked)) (x y : Course Asked) (step : Step Asked) → Behind old x y → Behind old (goes width x step) (goes width y step)
+behind_step : (width : ℕ) (old : List (Settlement Asked)) (x y : Course Asked) (step : Step Asked) → Behind old x y → Behind old (course_after width x step) (course_after width y step)
 behind_step width old x y (Send target call deadline) h =
     subst (λ c. Behind old (sent_on x target call (sends width c target call deadline)) (sent_on y target call (sends width y.client target call deadline))) (sym h.client)
     (behind_send old x y target call (sends width y.client target call deadline) h)
@@ -66,31 +69,22 @@ behind_all : (width : ℕ) (old : List (Settlement Asked)) (steps : List (Step A
 behind_all width old [] x y h = h
 behind_all width old (step ∷ steps) x y h = behind_all width old steps _ _ (behind_step width old x y step h)
 
--- the course over the steps `first` and then `later` is that over `later` from where `first` lead
-course_append : (width : ℕ) (first later : List (Step Asked)) (x : Course Asked) → course width x (first ++ later) ≡ course width (course width x first) later
-course_append width [] later x = refl
-course_append width (step ∷ first) later x = course_append width first later (goes width x step)
-
 -- Steps among events.
 
--- the steps among events that begin with steps
+-- the steps among events that begin with `steps` are these, and then those among the other events
 steps_went : (steps : List (Step Asked)) (es : List Event) → steps_among (map Went steps ++ es) ≡ steps ++ steps_among es
 steps_went [] es = refl
 steps_went (step ∷ steps) es = ap (λ l. step ∷ l) (steps_went steps es)
 
--- a list with an element isn't empty
-over_none : (asked : ℕ) (later : List ℕ) → asked ∷ later ≡ [] → ⊥
-over_none asked later e = cc
-
 -- no step comes before the eighth answer
 none_went : (asked : ℕ) (later : List ℕ) (steps : List (Step Asked)) (es : List Event) → AreInTurn (asked ∷ later) (map Went steps ++ es) → steps ≡ []
 none_went asked later [] es h = refl
-none_went asked later (step ∷ steps) es h = absurd (over_none asked later h.0)
+none_went asked later (step ∷ steps) es h = absurd (cons_not_nil asked later h.0)
 
 -- no restart comes before the eighth answer, as a step
 no_restart : (asked : ℕ) (later : List ℕ) (steps : List (Step Asked)) (es : List Event) → AreInTurn (asked ∷ later) (map Went steps ++ Went Restart ∷ es) → ⊥
-no_restart asked later [] es h = over_none asked later h.0
-no_restart asked later (step ∷ steps) es h = over_none asked later h.0
+no_restart asked later [] es h = cons_not_nil asked later h.0
+no_restart asked later (step ∷ steps) es h = cons_not_nil asked later h.0
 
 -- events that come in their turn after moves of the field, of a client that has synchronized, come in their turn without these
 -- moves, too
@@ -125,7 +119,7 @@ module _ {State : Type 0} (width : ℕ) (ends : Ends State) where
     left : (es : List Event) → left_among s.left (front ++ es) ≡ left_among after.left es
     steps : (es : List Event) → steps_among (front ++ es) ≡ steps_among es
 
-  -- a turn that leaves the ids as they were is no event
+  -- no events go with turns that leave the ids as they were
   turned_same : (s after : Model State) → after.left ≡ s.left → Turned s after []
   turned_same s after e =
       record {
@@ -140,12 +134,12 @@ module _ {State : Type 0} (width : ℕ) (ends : Ends State) where
   turned_asked s (asked ∷ later) = record { turns = λ es h. h; left = λ es. refl; steps = λ es. refl }
 
   -- a line that comes leaves the ids as its event does
-  turned_front : (s : Model State) (down : List (Aged (List ℕ))) → Turned s (comes s down) (front_of down)
+  turned_front : (s : Model State) (down : List (InFlight (List ℕ))) → Turned s (comes s down) (front_of down)
   turned_front s [] = turned_same s s refl
   turned_front s (x ∷ rest) = record { turns = λ es h. h; left = λ es. refl; steps = λ es. refl }
 
   -- a request that reaches the instrument answers nothing
-  reached_left : (s : Model State) (up : List (Aged Request)) → (reaches ends s up).left ≡ s.left
+  reached_left : (s : Model State) (up : List (InFlight Request)) → (reaches ends s up).left ≡ s.left
   reached_left s [] = refl
   reached_left s (x ∷ rest) = refl
 
@@ -163,13 +157,13 @@ module _ {State : Type 0} (width : ℕ) (ends : Ends State) where
   turned_one s (Changes state) = turned_same s _ refl
 
   -- the turns of a synchronization leave the ids as their events do
-  turned_all : (ts : List (Turn State)) (s : Model State) → Turned s (turned ends ts s) (events_of width ends s ts)
+  turned_all : (ts : List (Turn State)) (s : Model State) → Turned s (turned ends ts s) (events_of ends s ts)
   turned_all [] s = turned_same s s refl
   turned_all (t ∷ ts) s =
       let one = turned_one s t in
       let more = turned_all ts (turns ends s t) in
       let front = event_of s t in
-      let later = events_of width ends (turns ends s t) ts in
+      let later = events_of ends (turns ends s t) ts in
       record {
         turns = λ es h. more.turns es (one.turns (later ++ es) (subst (λ l. AreInTurn s.left l) (append_assoc front later es) h));
         left = λ es. ap (λ l. left_among s.left l) (append_assoc front later es) ∙ one.left (later ++ es) ∙ more.left es;
@@ -177,30 +171,20 @@ module _ {State : Type 0} (width : ℕ) (ends : Ends State) where
       }
 
   module _ (Good : State → Type 0) (kept : State → Option KeptReply) (is : IsAnInstrument ends Good kept) (narrow : width ≤ 7) where
-    -- if all requests in flight, marked as old or not, are the eighth null procedure, so are they without the marks
-    clean_up : (xs : List (Aged Request)) → Each (λ x. (x.old ≡ false) × (x.line ≡ eighth)) xs → Each (λ x. x ≡ eighth) (map (λ x. x.line) xs)
-    clean_up [] h = tt
-    clean_up (x ∷ xs) h = (h.0.1, clean_up xs h.1)
-
-    -- if all replies in flight, marked as old or not, have id 7, so have they without the marks
-    clean_down : (xs : List (Aged (List ℕ))) → Each (λ x. (x.old ≡ false) × (heard x.line ≡ Some 7)) xs → Each (λ line. heard line ≡ Some 7) (map (λ x. x.line) xs)
-    clean_down [] h = tt
-    clean_down (x ∷ xs) h = (h.0.1, clean_down xs h.1)
-
     -- a run that has synchronized is faithful, and leaves lines among which the next run may begin
     record Begins (u : UnderWay State) (r : Run State) : Type 0 where
-      own : IsOwnIf width ends Good kept [] (after_turns width ends u r) r.moves
-      lines : AreLines Good (left_if width ends [] (after_turns width ends u r) r.moves)
-      may : MayBegin (left_if width ends [] (after_turns width ends u r) r.moves)
+      own : IsOwnIf width ends Good kept [] (after_turns ends u r) r.moves
+      lines : IsWellFormed Good (left_if width ends [] (after_turns ends u r) r.moves)
+      may : MayBegin (left_if width ends [] (after_turns ends u r) r.moves)
 
-    -- if the word isn't in flight, a run whose null procedures are all answered has begun as `Begins` says
-    begins_own : (u : UnderWay State) (r : Run State) → AreLines Good u → MayBegin u → AreTurns ends Good kept r.turns (begins u)
-        → ArePossible ends Good kept (by_ids width ends) r.moves (ids_begun (leaves (after_turns width ends u r))) → (after_turns width ends u r).left ≡ [] → Begins u r
+    -- if the word isn't in flight, a run whose null procedures are all answered is as `Begins` says
+    begins_own : (u : UnderWay State) (r : Run State) → IsWellFormed Good u → MayBegin u → AreTurns ends Good kept r.turns (begins u)
+        → ArePossible ends Good kept (by_ids width ends) r.moves (ids_begun (leaves (after_turns ends u r))) → (after_turns ends u r).left ≡ [] → Begins u r
     begins_own u r lines may ts possible e =
-        let s = after_turns width ends u r in
+        let s = after_turns ends u r in
         let clean = begins_cleanly ends Good kept is u r.turns lines ts may e in
         let good = (left_lines ends Good kept is u r.turns lines ts).good in
-        let is_clean : IsClean Good kept (leaves s) = record { good = good; up = clean_up s.up clean.up; down = clean_down s.down clean.down; keeps = clean.keeps } in
+        let is_clean = clean_lines ends Good kept is width narrow s good clean in
         let after = runs_leave_good ends Good kept is width narrow (leaves s) is_clean r.moves possible in
         record {
           own = (clean, faithful ends Good kept is width narrow (leaves s) is_clean r.moves possible);
@@ -208,9 +192,9 @@ module _ {State : Type 0} (width : ℕ) (ends : Ends State) where
           may = rows_have_not (on_line (behind width ends (leaves s) r.moves).wire) (runs_leave_rows ends Good kept is width narrow (leaves s) is_clean r.moves possible);
         }
 
-    -- if this run has begun, it has synchronized cleanly, and is faithful
+    -- if this run has synchronized, it has done so cleanly, and is faithful
     abbrev OwnPart : Part State → Type 0
-    OwnPart p = IsOwnIf width ends Good kept (begun_at width ends p).left (begun_at width ends p) p.run.moves
+    OwnPart p = IsOwnIf width ends Good kept (begun_at ends p).left (begun_at ends p) p.run.moves
 
     -- each of these answers is its own request's
     abbrev OwnAll : List (Part State) → List (Settlement Asked) → Type 0
@@ -225,14 +209,14 @@ module _ {State : Type 0} (width : ℕ) (ends : Ends State) where
       own : OwnAll ps (settled_over width ends ps)
       each : AllByRecursion OwnPart ps
 
-    -- `Holds` is true of the last run alone, begun or not (`left` is the ids that it left unanswered)
-    last_holds : (p : Part State) (left : List ℕ) → (begun_at width ends p).left ≡ left → AreLines Good p.before → MayBegin p.before → AreTurns ends Good kept p.run.turns (begins p.before)
-        → ArePossible ends Good kept (by_ids width ends) p.run.moves (ids_begun (leaves (begun_at width ends p)))
+    -- `Holds` is true of the last run alone, synchronized or not (`left` is the ids that it left unanswered)
+    last_holds : (p : Part State) (left : List ℕ) → (begun_at ends p).left ≡ left → IsWellFormed Good p.before → MayBegin p.before → AreTurns ends Good kept p.run.turns (begins p.before)
+        → ArePossible ends Good kept (by_ids width ends) p.run.moves (ids_begun (leaves (begun_at ends p)))
         → IsSafeRun width ends Good kept p
-        → AreInTurn the_word (events_of width ends (begins p.before) p.run.turns ++ map Went (seen p.run.moves))
-        → Holds (p ∷ []) (events_of width ends (begins p.before) p.run.turns ++ map Went (seen p.run.moves))
+        → AreInTurn the_word (events_of ends (begins p.before) p.run.turns ++ map Went (seen p.run.moves))
+        → Holds (p ∷ []) (events_of ends (begins p.before) p.run.turns ++ map Went (seen p.run.moves))
     last_holds p [] e lines may ts possible safe h =
-        let s = begun_at width ends p in
+        let s = begun_at ends p in
         let w = world width ends p in
         let steps = seen p.run.moves in
         let front = turned_all p.run.turns (begins p.before) in
@@ -250,7 +234,7 @@ module _ {State : Type 0} (width : ℕ) (ends : Ends State) where
           each = (subst (λ l. IsOwnIf width ends Good kept l s p.run.moves) (sym e) b.own, tt);
         }
     last_holds p (asked ∷ later) e lines may ts possible safe h =
-        let s = begun_at width ends p in
+        let s = begun_at ends p in
         let w = world width ends p in
         let steps = seen p.run.moves in
         let front = turned_all p.run.turns (begins p.before) in
@@ -266,17 +250,18 @@ module _ {State : Type 0} (width : ℕ) (ends : Ends State) where
           each = (subst (λ l. IsOwnIf width ends Good kept l s p.run.moves) (sym e) tt, tt);
         }
 
-    -- a run after which the client restarts has begun, and the events after that restart, `rest`, come in their turn
+    -- a run after which the client restarts has synchronized (`Begins`), and the events after that restart, `rest`, come in their
+    -- turn
     record Passes (p : Part State) (rest : List Event) : Type 0 where
       begins : Begins p.before p.run
-      done : (begun_at width ends p).left ≡ []
+      done : (begun_at ends p).left ≡ []
       turns : AreInTurn the_word rest
 
     -- a restart comes in its turn only after a run that has synchronized
-    passes : (p : Part State) (left : List ℕ) (rest : List Event) → (begun_at width ends p).left ≡ left → AreLines Good p.before → MayBegin p.before
+    passes : (p : Part State) (left : List ℕ) (rest : List Event) → (begun_at ends p).left ≡ left → IsWellFormed Good p.before → MayBegin p.before
         → AreTurns ends Good kept p.run.turns (begins p.before)
-        → ArePossible ends Good kept (by_ids width ends) p.run.moves (ids_begun (leaves (begun_at width ends p)))
-        → AreInTurn the_word (events_of width ends (begins p.before) p.run.turns ++ (map Went (seen p.run.moves) ++ Went Restart ∷ rest)) → Passes p rest
+        → ArePossible ends Good kept (by_ids width ends) p.run.moves (ids_begun (leaves (begun_at ends p)))
+        → AreInTurn the_word (events_of ends (begins p.before) p.run.turns ++ (map Went (seen p.run.moves) ++ Went Restart ∷ rest)) → Passes p rest
     passes p [] rest e lines may ts possible h =
         let turn = (turned_all p.run.turns (begins p.before)).turns (map Went (seen p.run.moves) ++ Went Restart ∷ rest) h in
         record {
@@ -291,9 +276,9 @@ module _ {State : Type 0} (width : ℕ) (ends : Ends State) where
     -- if a run has synchronized and a restart follows (`Passes`), and `Holds` is true of the later runs, it is true of all of
     -- them
     passed_holds : (p next : Part State) (others : List (Part State)) (rest : List Event) → IsSafeRun width ends Good kept p → Passes p rest → Holds (next ∷ others) rest
-        → Holds (p ∷ next ∷ others) (events_of width ends (begins p.before) p.run.turns ++ (map Went (seen p.run.moves) ++ Went Restart ∷ rest))
+        → Holds (p ∷ next ∷ others) (events_of ends (begins p.before) p.run.turns ++ (map Went (seen p.run.moves) ++ Went Restart ∷ rest))
     passed_holds p next others rest safe pass more =
-        let s = begun_at width ends p in
+        let s = begun_at ends p in
         let w = world width ends p in
         let steps = seen p.run.moves in
         let e = pass.done in
@@ -325,16 +310,16 @@ module _ {State : Type 0} (width : ℕ) (ends : Ends State) where
               ∙ more.client;
           left = front.left tail ∙ ap (λ l. left_among l tail) e ∙ went_left p.run.moves (Went Restart ∷ rest) ∙ more.left;
           own = subst (λ l. OwnAll all l) (sym over)
-              (all_joined (IsOwnAnswer width ends Good kept all) (drop 8 w.wire.settled ++ map lost w.client.waiting) (settled_over width ends (next ∷ others))
-              (all_joined (IsOwnAnswer width ends Good kept all) (drop 8 w.wire.settled) (map lost w.client.waiting)
+              (all_append (IsOwnAnswer width ends Good kept all) (drop 8 w.wire.settled ++ map lost w.client.waiting) (settled_over width ends (next ∷ others))
+              (all_append (IsOwnAnswer width ends Good kept all) (drop 8 w.wire.settled) (map lost w.client.waiting)
               (own_here width ends Good kept p (next ∷ others) f safe) (none_answered width ends Good kept all w.client.waiting))
-              (all_weaker (IsOwnAnswer width ends Good kept (next ∷ others)) (IsOwnAnswer width ends Good kept all)
-              (later_own width ends Good kept p (next ∷ others)) (settled_over width ends (next ∷ others)) more.own));
+              (all_on (IsOwnAnswer width ends Good kept (next ∷ others)) (IsOwnAnswer width ends Good kept all) (settled_over width ends (next ∷ others))
+              (later_own width ends Good kept p (next ∷ others)) more.own));
           each = (subst (λ l. IsOwnIf width ends Good kept l s p.run.moves) (sym e) pass.begins.own, more.each);
         }
 
     -- `Holds` is true of all runs, one after the other, if the word isn't in flight at first
-    all_hold : (rs : List (Run State)) (u : UnderWay State) → AreLines Good u → MayBegin u → ArePossibleRuns width ends Good kept u rs
+    all_hold : (rs : List (Run State)) (u : UnderWay State) → IsWellFormed Good u → MayBegin u → ArePossibleRuns width ends Good kept u rs
         → AllByRecursion (IsSafeRun width ends Good kept) (parts width ends u rs)
         → AreInTurn the_word (events_over width ends u rs) → Holds (parts width ends u rs) (events_over width ends u rs)
     all_hold [] u lines may possible safe h = record { settled = refl; client = refl; left = refl; own = tt; each = tt }
@@ -343,15 +328,15 @@ module _ {State : Type 0} (width : ℕ) (ends : Ends State) where
         let p : Part State = record { before = u; run = r } in
         let after = left_by_run width ends u r in
         let pass = passes p _ (events_over width ends after (next ∷ others)) refl lines may possible.0.0 possible.0.1 h in
-        let s = after_turns width ends u r in
-        let now = subst (λ l. AreLines Good (left_if width ends l s r.moves)) (sym pass.done) pass.begins.lines in
+        let s = after_turns ends u r in
+        let now = subst (λ l. IsWellFormed Good (left_if width ends l s r.moves)) (sym pass.done) pass.begins.lines in
         let again = subst (λ l. MayBegin (left_if width ends l s r.moves)) (sym pass.done) pass.begins.may in
         passed_holds p (record { before = after; run = next }) (parts width ends (left_by_run width ends after next) others) (events_over width ends after (next ∷ others)) safe.0 pass
         (all_hold (next ∷ others) after now again possible.1 safe.1 pass.turns)
 
     -- the law: if the calls on a state are the events of these runs, over lines among which a run may begin, and all that is
     -- sent is safe, they are as `AreOwn` says: each answer is its own request's
-    pub owned : (calls : List call.Step) (t : Stage) → CallsReach width opened calls t → (u : UnderWay State) → AreLines Good u → MayBegin u
+    pub owned : (calls : List call.Step) (t : Stage) → CallsReach width opened calls t → (u : UnderWay State) → IsWellFormed Good u → MayBegin u
         → (rs : List (Run State)) → AreEvents the_word [] calls (events_over width ends u rs) → ArePossibleRuns width ends Good kept u rs
         → AllByRecursion (IsSafeRun width ends Good kept) (parts width ends u rs) → AreOwn width ends Good kept (parts width ends u rs) t
     owned calls t follows u lines may rs are possible safe =

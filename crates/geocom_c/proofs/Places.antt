@@ -1,14 +1,10 @@
 -- Two lists side by side, one element further. `FirstAre Is xs ys` says that the first items of `xs` go with those of `ys`, one
 -- for one. An item of `xs` goes with one of `ys` if `Is` holds of the two.
-use Rattle.std.proofs.Common.{◌≡◌, ℕ, zero, suc, ◌<◌, ◌≤◌, List, [], ◌∷◌, ◌++◌, length, take, refl, subst, arith}
+use Rattle.std.proofs.Common.{◌≡◌, ℕ, zero, suc, ◌<◌, ◌≤◌, List, [], ◌∷◌, ◌++◌, length, take, subst, arith}
 use Rattle.std.specs.Prelude.{Some, slice_get, slice_set}
 use Rattle.geocom_c.specs.FirstAre.{FirstAre}
 
 module _ {A B : Type 0} (Is : A → B → Type 0) where
-  -- `FirstAre` holds of any list and of no items
-  pub first_none : (xs : List A) → FirstAre Is xs []
-  first_none xs = tt
-
   -- if the first items of `xs` go with `ys`, and the next one goes with y, the first ones go with `ys` and then y
   pub first_more : (xs : List A) (ys : List B) (x : A) (y : B) → FirstAre Is xs ys → slice_get xs (length ys) ≡ Some x → Is x y → FirstAre Is xs (ys ++ y ∷ [])
   first_more [] [] x y are e is = cc
@@ -44,9 +40,3 @@ pub first_map : {A B : Type 0} (Is Be : A → B → Type 0) → ((x : A) (y : B)
 first_map Is Be step xs [] are = tt
 first_map Is Be step [] (b ∷ ys) are = absurd are
 first_map Is Be step (a ∷ xs) (b ∷ ys) are = (step a b are.0, first_map Is Be step xs ys are.1)
-
--- a place within a list has an item
-pub got : {A : Type 0} (xs : List A) (k : ℕ) → k < length xs → (x : A) × (slice_get xs k ≡ Some x)
-got [] k lt = absurd (omega (arith, lt))
-got (x ∷ xs) zero lt = (x, refl)
-got (x ∷ xs) (suc k) lt = got xs k (omega (arith, lt))

@@ -1,10 +1,9 @@
 -- Records of settlements, as the library writes them for C: numbers, and places in a text.
 use Rattle.std.proofs.Common.{◌≡◌, ℕ, zero, suc, ◌≤◌, Bool, true, false, List, [], ◌∷◌, ◌++◌, length, map, Some, None, Ok, Err, Option, Result, refl, sym, subst, ap, ◌∙◌, arith, if◌then◌else◌}
-use Rattle.std.specs.Prelude.{slice_get, IsOk}
+use Rattle.std.specs.Prelude.{slice_get}
 use Rattle.std.proofs.lemmas.List.{length-take, take-append-le}
 use Rattle.gc_values.specs.Params.{IsParams}
 use Rattle.gc_lines.specs.declared.fault.LineFault.{LineFault}
-use Rattle.gc_lines.specs.Faults.{fault_number}
 use Rattle.gc_lines.specs.Replies.{ReplyFields, IsReply}
 use Rattle.gc_catalogue.specs.declared.answer.Answer.{Answer}
 use Rattle.gc_catalogue.specs.declared.answer.Answer.TheVariants as answer
@@ -17,8 +16,9 @@ use Rattle.gc_catalogue.specs.Asked.{IsAskedReading}
 use Rattle.gc_client.specs.declared.pending.Pending.{Pending}
 use Rattle.gc_client.specs.Rule.{ById, Settlement, lost, settle, place_in, id_settled, hears, id_in, fits}
 use Rattle.gc_client.specs.Rule
+use Rattle.gc_field.proofs.BeginWords.{never}
 use Rattle.geocom_c.specs.Feeding.{line_kind, number_in}
-use Rattle.geocom_c.specs.Settled.{StandsAt, AreListed, AreReadAs, IsKind, HasReading, IsTold, HasOutcome, IsRecord, IsBy, AreBy}
+use Rattle.geocom_c.specs.Settled.{StandsAt, AreListed, AreReadAs, IsKind, HasReading, IsListedLine, HasOutcome, IsRecord, AnswerHasLine, AnswersHaveLine}
 use Rattle.geocom_c.specs.declared.listed.GeocomItem.{GeocomItem}
 use Rattle.geocom_c.specs.declared.settled.GeocomSettlement.{GeocomSettlement}
 use Rattle.geocom_c.proofs.Places.{first_map}
@@ -39,10 +39,10 @@ few_values (answer.Angles hz v) = omega arith
 few_values (answer.Measured hz v d) = omega arith
 few_values (answer.MeasuredMode hz v d m) = omega arith
 
--- the items of a reply's parameters, which are at most 16, are listed where its line was written to the text (`IsTold`): as many as
--- the record says
+-- the items of a reply's parameters, which are at most 16, are listed where its line was written to the text (`IsListedLine`): as
+-- many as the record says
 listed : (asked : Asked) (answer : Answer) (text line : List ℕ) (count items : ℕ) (places : List GeocomItem) (reply : ReplyFields) (xs : List (List ℕ))
-    → IsTold text count places line → IsReply line reply → IsParams reply.params xs → length xs ≤ 16 → AreReadAs asked answer xs → items ≡ count
+    → IsListedLine text count places line → IsReply line reply → IsParams reply.params xs → length xs ≤ 16 → AreReadAs asked answer xs → items ≡ count
     → AreListed asked answer items places text reply.params
 listed asked answer text line count items places reply xs told is split few read same =
     let stand = told.listed reply xs is split few in
@@ -50,7 +50,7 @@ listed asked answer text line count items places reply xs told is split few read
 
 -- a value of a call, or of a procedure that isn't in the table, has its items listed
 value_listed : (asked : Asked) (answer : Answer) (text line : List ℕ) (count items : ℕ) (places : List GeocomItem) (reply : ReplyFields)
-    → IsTold text count places line → IsReply line reply → IsAskedReading asked reply (Value answer) → items ≡ count
+    → IsListedLine text count places line → IsReply line reply → IsAskedReading asked reply (Value answer) → items ≡ count
     → AreListed asked answer items places text reply.params
 value_listed (Table call) answer text line count items places reply told is reads same =
     let params = reads.2.values in
@@ -59,10 +59,10 @@ value_listed (Table call) answer text line count items places reply told is read
 value_listed (Raw raw) answer text line count items places reply told is reads same =
     listed (Raw raw) answer text line count items places reply reads.2.0 told is reads.2.1 reads.2.2 tt same
 
--- the record r of a reply, whose line was written to the text (`IsTold`), has what the reply says (`HasReading`): numbers for
+-- the record r of a reply, whose line was written to the text (`IsListedLine`), has what the reply says (`HasReading`): numbers for
 -- its kind and code, and the places of its values in the text
 pub has_reading : (r : GeocomSettlement) (text line : List ℕ) (count : ℕ) (asked : Asked) (reply : ReplyFields) (reading : Reading)
-    → IsTold text count r.places line → IsReply line reply → IsAskedReading asked reply reading → IsKind reading r.reading r.code
+    → IsListedLine text count r.places line → IsReply line reply → IsAskedReading asked reply reading → IsKind reading r.reading r.code
     → (r.reading ≡ 1 → r.items ≡ count) → ((n : ℕ) → r.reading ≡ suc (suc n) → r.items ≡ 0) → HasReading asked r text reply.params reading
 has_reading r text line count asked reply (Value a) told is reads kind some none =
     (kind.0, kind.1, value_listed asked a text line count r.items r.places reply told is reads (some kind.0))
@@ -70,7 +70,7 @@ has_reading r text line count asked reply (Refused rc) told is reads kind some n
 has_reading r text line count asked reply (ComFault rc) told is reads kind some none = (kind.0, kind.1, none 1 kind.0)
 has_reading r text line count asked reply (Unreadable e) told is reads kind some none = (kind.0, kind.1, none 2 kind.0)
 
--- a record still has its reading as more stands after the text
+-- a record still has its reading once more is appended to the text
 more_reading : (asked : Asked) (r : GeocomSettlement) (text more params : List ℕ) (reading : Reading) → HasReading asked r text params reading
     → HasReading asked r (text ++ more) params reading
 more_reading asked r text more params (Value a) has =
@@ -90,7 +90,7 @@ more_reading asked r text more params (Refused rc) has = has
 more_reading asked r text more params (ComFault rc) has = has
 more_reading asked r text more params (Unreadable e) has = has
 
--- a record still says how its request ended as more stands after the text
+-- a record still says how its request ended once more is appended to the text
 more_outcome : (text more : List ℕ) (r : GeocomSettlement) (asked : Asked) (o : Rule.Outcome) → HasOutcome r text asked o → HasOutcome r (text ++ more) asked o
 more_outcome text more r asked (Rule.Answered line) is =
     let n = ap length is.front in
@@ -107,39 +107,39 @@ more_outcome text more r asked (Rule.Answered line) is =
 more_outcome text more r asked Rule.Late is = is
 more_outcome text more r asked Rule.Lost is = is
 
--- a record still is one of its settlement as more stands after the text
+-- a record is still that of its settlement once more is appended to the text
 pub more_record : (text more : List ℕ) (r : GeocomSettlement) (s : Settlement Asked) → IsRecord text r s → IsRecord (text ++ more) r s
 more_record text more r s is = record { target = is.target; procedure = is.procedure; outcome = more_outcome text more r s.call s.outcome is.outcome }
 
--- the outcome of a request that a line settles, late (b) or answered, is by no other line
-met_by : (p : Pending Asked) (line : List ℕ) (b : Bool) → IsBy line (if b then Rule.Late else Rule.Answered line)
+-- a request that a line settles, late (b) or answered, has this line if it is answered
+met_by : (p : Pending Asked) (line : List ℕ) (b : Bool) → AnswerHasLine line (if b then Rule.Late else Rule.Answered line)
 met_by p line true = tt
 met_by p line false = refl
 
--- no other line than this one answers what it settles
-settle_by : (k : ℕ) (line : List ℕ) (ps : List (Pending Asked)) → AreBy line (settle k line ps)
+-- each request that a line answers, among those that are settled up to place k, has this line
+settle_by : (k : ℕ) (line : List ℕ) (ps : List (Pending Asked)) → AnswersHaveLine line (settle k line ps)
 settle_by k line [] = tt
 settle_by zero line (p ∷ ps) = (met_by p line p.given_up, tt)
 settle_by (suc k) line (p ∷ ps) = (tt, settle_by k line ps)
 
--- no other line than this one answers what a client settles by it, if it has the id of place k, whether a request is
--- outstanding there (b) or not
-chosen_by : (c : ById Asked) (line : List ℕ) (k : ℕ) (b : Bool) → AreBy line (id_settled c line k b).settlements
+-- if a line has the id of place k, each request that the client settles by it as answered has this line, whether a request is
+-- outstanding at that place (b) or not
+chosen_by : (c : ById Asked) (line : List ℕ) (k : ℕ) (b : Bool) → AnswersHaveLine line (id_settled c line k b).settlements
 chosen_by c line k true = settle_by k line c.waiting
 chosen_by c line k false = tt
 
--- no other line than this one answers what a client settles by it
-pub hears_by : (c : ById Asked) (line : List ℕ) (id : Option ℕ) → AreBy line (hears c line id).settlements
+-- each request that a client settles by a line as answered has this line
+pub hears_by : (c : ById Asked) (line : List ℕ) (id : Option ℕ) → AnswersHaveLine line (hears c line id).settlements
 hears_by c line None = tt
 hears_by c line (Some id) = chosen_by c line (place_in c id) _
 
--- what holds of all settlements by a line holds of the one at a place
-pub by_at : (line : List ℕ) (ss : List (Settlement Asked)) (k : ℕ) (s : Settlement Asked) → AreBy line ss → slice_get ss k ≡ Some s → IsBy line s.outcome
+-- if each of these settlements that is an answer has this line, so has the one at place k
+pub by_at : (line : List ℕ) (ss : List (Settlement Asked)) (k : ℕ) (s : Settlement Asked) → AnswersHaveLine line ss → slice_get ss k ≡ Some s → AnswerHasLine line s.outcome
 by_at line [] k s are e = cc
-by_at line (a ∷ ss) zero s are e = let same : a ≡ s = cc in subst (λ (x : Settlement Asked). IsBy line x.outcome) same are.0
+by_at line (a ∷ ss) zero s are e = let same : a ≡ s = cc in subst (λ (x : Settlement Asked). AnswerHasLine line x.outcome) same are.0
 by_at line (a ∷ ss) (suc k) s are e = by_at line ss k s are.1 e
 
--- each settlement of requests that are lost says that its request is lost
+-- among the settlements of lost requests, the one at place k has the outcome `Lost`
 pub lost_at : (ps : List (Pending Asked)) (k : ℕ) (s : Settlement Asked) → slice_get (map lost ps) k ≡ Some s → s.outcome ≡ Rule.Lost
 lost_at [] k s e = cc
 lost_at (p ∷ ps) zero s e = let same : lost p ≡ s = cc in sym (ap (λ (x : Settlement Asked). x.outcome) same)
@@ -148,20 +148,4 @@ lost_at (p ∷ ps) (suc k) s e = lost_at ps k s e
 -- a reply whose id is that of an outstanding request has the kind 1, of a line that settled, and the number 0
 pub settling : (c : ById Asked) (r : Result ReplyFields LineFault) → fits c (id_in r) ≡ true → (1 ≡ line_kind r (fits c (id_in r))) × (0 ≡ number_in r)
 settling c (Ok reply) e = (rw e refl, refl)
-settling c (Err f) e = absurd (clash e) where
-  -- false isn't true
-  clash : false ≡ true → ⊥
-  clash e = cc
-
--- a reply whose id is that of no outstanding request has the kind 2, of a stray, and the number 0
-pub straying : (c : ById Asked) (r : Result ReplyFields LineFault) → IsOk r → fits c (id_in r) ≡ false → (2 ≡ line_kind r (fits c (id_in r))) × (0 ≡ number_in r)
-straying c (Ok reply) ok e = (rw e refl, refl)
-straying c (Err f) ok e = absurd (clash ok) where
-  -- false isn't true
-  clash : false ≡ true → ⊥
-  clash e = cc
-
--- a line that is no reply has the kind 3, and the number of its fault
-pub unread : (c : ById Asked) (r : Result ReplyFields LineFault) (f : LineFault) → r ≡ Err f → (3 ≡ line_kind r (fits c (id_in r))) × (fault_number f ≡ number_in r)
-unread c (Ok reply) f e = cc
-unread c (Err g) f e = (refl, let same : g ≡ f = cc in ap fault_number (sym same))
+settling c (Err f) e = absurd (never e)

@@ -8,6 +8,7 @@ use Rattle.gc_catalogue.specs.Asked.{is_of_table}
 use Rattle.gc_client.specs.Beginning.{the_word}
 use Rattle.gc_client.specs.OneForOne as one
 use Rattle.gc_instrument.specs.State.{KeptReply}
+use Rattle.gc_station.proofs.Lists.{all_append}
 use Rattle.gc_lines.specs.Frames.{rest_behind}
 use Rattle.gc_field.specs.Begin.{UnderWay, begins}
 use Rattle.gc_field.specs.Beginnings.{Run, left_by_run}
@@ -22,7 +23,6 @@ use Rattle.geocom_c.specs.Runs.{Part, events_of, events_over, parts}
 use Rattle.geocom_c.specs.Steps.{Event, Null, Came, Went, AreEvents, asked_by, begins_by, goes_by}
 use Rattle.geocom_c.specs.declared.following.Step.{Step}
 use Rattle.geocom_c.specs.declared.following.Step.TheVariants.{Send, SendRaw, Begin, Feed, Expire, Restart}
-use Rattle.geocom_c.proofs.Owning.{all_joined}
 
 -- the event asks for nothing but a call of the table
 abbrev IsInTable : Event → Type 0
@@ -33,78 +33,78 @@ IsInTable (Went (one.Hear line)) = Unit {0}
 IsInTable (Went (one.Expire now)) = Unit {0}
 IsInTable (Went one.Restart) = Unit {0}
 
--- so does each of these events
+-- each of these events asks for nothing but a call of the table
 abbrev AreInTable : List Event → Type 0
 AreInTable events = AllByRecursion IsInTable events
 
--- what holds of all events of two lists joined holds of the first
-first_of : (xs ys : List Event) → AreInTable (xs ++ ys) → AreInTable xs
-first_of [] ys h = tt
-first_of (x ∷ xs) ys h = (h.0, first_of xs ys h.1)
+-- if all events of two lists joined are `AreInTable`, so are those of the first
+first_in_table : (xs ys : List Event) → AreInTable (xs ++ ys) → AreInTable xs
+first_in_table [] ys h = tt
+first_in_table (x ∷ xs) ys h = (h.0, first_in_table xs ys h.1)
 
--- and of the second
-rest_of : (xs ys : List Event) → AreInTable (xs ++ ys) → AreInTable ys
-rest_of [] ys h = h
-rest_of (x ∷ xs) ys h = rest_of xs ys h.1
+-- if all events of two lists joined are `AreInTable`, so are those of the second
+rest_in_table : (xs ys : List Event) → AreInTable (xs ++ ys) → AreInTable ys
+rest_in_table [] ys h = h
+rest_in_table (x ∷ xs) ys h = rest_in_table xs ys h.1
 
 -- lines that come ask for nothing
-came : (lines : List (List ℕ)) → AreInTable (map Came lines)
-came [] = tt
-came (line ∷ lines) = (tt, came lines)
+came_in_table : (lines : List (List ℕ)) → AreInTable (map Came lines)
+came_in_table [] = tt
+came_in_table (line ∷ lines) = (tt, came_in_table lines)
 
 -- a null procedure that is sent is a call of the table
-nulls : (o : Option (List ℕ)) → AreInTable (asked_by o)
-nulls None = tt
-nulls (Some line) = (tt, tt)
+null_in_table : (o : Option (List ℕ)) → AreInTable (asked_by o)
+null_in_table None = tt
+null_in_table (Some line) = (tt, tt)
 
 -- a begin asks for null procedures alone
-begun : (left rest bytes : List ℕ) → AreInTable (begins_by left rest bytes)
-begun [] rest bytes = tt
-begun (asked ∷ later) rest bytes =
+begin_in_table : (left rest bytes : List ℕ) → AreInTable (begins_by left rest bytes)
+begin_in_table [] rest bytes = tt
+begin_in_table (asked ∷ later) rest bytes =
     let o = given bytes (asked ∷ later) (left_behind (asked ∷ later) rest bytes) in
-    all_joined IsInTable (map Came (lines_behind rest bytes)) (asked_by o) (came (lines_behind rest bytes)) (nulls o)
+    all_append IsInTable (map Came (lines_behind rest bytes)) (asked_by o) (came_in_table (lines_behind rest bytes)) (null_in_table o)
 
 -- lines that are heard ask for nothing
-heard_lines : (lines : List (List ℕ)) → AreInTable (map Went (map one.Hear lines))
-heard_lines [] = tt
-heard_lines (line ∷ lines) = (tt, heard_lines lines)
+heard_in_table : (lines : List (List ℕ)) → AreInTable (map Went (map one.Hear lines))
+heard_in_table [] = tt
+heard_in_table (line ∷ lines) = (tt, heard_in_table lines)
 
 -- lines that are fed ask for nothing
-fed : (left : List ℕ) (lines : List (List ℕ)) → AreInTable (goes_by left (map one.Hear lines))
-fed [] lines = heard_lines lines
-fed (asked ∷ later) lines = tt
+fed_in_table : (left : List ℕ) (lines : List (List ℕ)) → AreInTable (goes_by left (map one.Hear lines))
+fed_in_table [] lines = heard_in_table lines
+fed_in_table (asked ∷ later) lines = tt
 
 -- a moment asks for nothing
-expired : (left : List ℕ) (now : ℕ) → AreInTable (goes_by left (one.Expire now ∷ []))
-expired [] now = (tt, tt)
-expired (asked ∷ later) now = tt
+expired_in_table : (left : List ℕ) (now : ℕ) → AreInTable (goes_by left (one.Expire now ∷ []))
+expired_in_table [] now = (tt, tt)
+expired_in_table (asked ∷ later) now = tt
 
 -- a restart asks for nothing
-restarted : (left : List ℕ) → AreInTable (goes_by left (one.Restart ∷ []))
-restarted [] = (tt, tt)
-restarted (asked ∷ later) = tt
+restarted_in_table : (left : List ℕ) → AreInTable (goes_by left (one.Restart ∷ []))
+restarted_in_table [] = (tt, tt)
+restarted_in_table (asked ∷ later) = tt
 
 -- calls on a state that send what is in the table are events that ask for that alone
-in_table : (left rest : List ℕ) (calls : List Step) (events : List Event) → AreOfTheTable calls → AreEvents left rest calls events → AreInTable events
-in_table left rest [] events t e = subst (λ (es : List Event). AreInTable es) (sym e) tt
-in_table left rest (Send target deadline procedure params ∷ calls) events t (inl f) =
-    subst (λ (es : List Event). AreInTable es) (sym f.4) (refl, in_table left rest calls f.1 t f.5)
-in_table left rest (Send target deadline procedure params ∷ calls) events t (inr f) = in_table left rest calls events t f.1
-in_table left rest (SendRaw target deadline procedure params ∷ calls) events t f = absurd t
-in_table left rest (Begin bytes ∷ calls) events t f =
+calls_in_table : (left rest : List ℕ) (calls : List Step) (events : List Event) → AreOfTheTable calls → AreEvents left rest calls events → AreInTable events
+calls_in_table left rest [] events t e = subst (λ (es : List Event). AreInTable es) (sym e) tt
+calls_in_table left rest (Send target deadline procedure params ∷ calls) events t (inl f) =
+    subst (λ (es : List Event). AreInTable es) (sym f.4) (refl, calls_in_table left rest calls f.1 t f.5)
+calls_in_table left rest (Send target deadline procedure params ∷ calls) events t (inr f) = calls_in_table left rest calls events t f.1
+calls_in_table left rest (SendRaw target deadline procedure params ∷ calls) events t f = absurd t
+calls_in_table left rest (Begin bytes ∷ calls) events t f =
     subst (λ (es : List Event). AreInTable es) (sym f.1)
-    (all_joined IsInTable (begins_by left rest bytes.now) f.0 (begun left rest bytes.now)
-    (in_table (left_behind left rest bytes.now) (rest_behind rest bytes.now) calls f.0 t f.2))
-in_table left rest (Feed bytes ∷ calls) events t f =
+    (all_append IsInTable (begins_by left rest bytes.now) f.0 (begin_in_table left rest bytes.now)
+    (calls_in_table (left_behind left rest bytes.now) (rest_behind rest bytes.now) calls f.0 t f.2))
+calls_in_table left rest (Feed bytes ∷ calls) events t f =
     subst (λ (es : List Event). AreInTable es) (sym f.1)
-    (all_joined IsInTable (goes_by left (map one.Hear (lines_behind rest bytes.now))) f.0 (fed left (lines_behind rest bytes.now))
-    (in_table left (rest_behind rest bytes.now) calls f.0 t f.2))
-in_table left rest (Expire now ∷ calls) events t f =
+    (all_append IsInTable (goes_by left (map one.Hear (lines_behind rest bytes.now))) f.0 (fed_in_table left (lines_behind rest bytes.now))
+    (calls_in_table left (rest_behind rest bytes.now) calls f.0 t f.2))
+calls_in_table left rest (Expire now ∷ calls) events t f =
     subst (λ (es : List Event). AreInTable es) (sym f.1)
-    (all_joined IsInTable (goes_by left (one.Expire now ∷ [])) f.0 (expired left now) (in_table left rest calls f.0 t f.2))
-in_table left rest (Restart ∷ calls) events t f =
+    (all_append IsInTable (goes_by left (one.Expire now ∷ [])) f.0 (expired_in_table left now) (calls_in_table left rest calls f.0 t f.2))
+calls_in_table left rest (Restart ∷ calls) events t f =
     subst (λ (es : List Event). AreInTable es) (sym f.1)
-    (all_joined IsInTable (goes_by left (one.Restart ∷ [])) f.0 (restarted left) (in_table (anew left) [] calls f.0 t f.2))
+    (all_append IsInTable (goes_by left (one.Restart ∷ [])) f.0 (restarted_in_table left) (calls_in_table (anew left) [] calls f.0 t f.2))
 
 -- moves of the field whose events ask for calls of the table send nothing else
 table_moves : {State : Type 0} (ms : List (Move State)) → AreInTable (map Went (seen ms)) → AsksTheTable ms
@@ -129,16 +129,16 @@ module _ {State : Type 0} (width : ℕ) (ends : Ends State) (Good : State → Ty
       → AllByRecursion (IsSafeRun width ends Good kept) (parts width ends u rs)
   table_safe [] u h = tt
   table_safe (r ∷ []) u h =
-      let own = rest_of (events_of width ends (begins u) r.turns) (map Went (seen r.moves)) h in
+      let own = rest_in_table (events_of ends (begins u) r.turns) (map Went (seen r.moves)) h in
       ((λ m command went. inl (table_moves r.moves own)), tt)
   table_safe (r ∷ next ∷ others) u h =
       let after = left_by_run width ends u r in
       let later = Went one.Restart ∷ events_over width ends after (next ∷ others) in
-      let rest = rest_of (events_of width ends (begins u) r.turns) (map Went (seen r.moves) ++ later) h in
-      let own = first_of (map Went (seen r.moves)) later rest in
-      ((λ m command went. inl (table_moves r.moves own)), table_safe (next ∷ others) after (rest_of (map Went (seen r.moves)) later rest).1)
+      let rest = rest_in_table (events_of ends (begins u) r.turns) (map Went (seen r.moves) ++ later) h in
+      let own = first_in_table (map Went (seen r.moves)) later rest in
+      ((λ m command went. inl (table_moves r.moves own)), table_safe (next ∷ others) after (rest_in_table (map Went (seen r.moves)) later rest).1)
 
   -- if each call on a state sends what is in the table, the runs whose events these calls are are safe
   pub calls_safe : (calls : List Step) (u : UnderWay State) (rs : List (Run State)) → AreOfTheTable calls
       → AreEvents the_word [] calls (events_over width ends u rs) → AllByRecursion (IsSafeRun width ends Good kept) (parts width ends u rs)
-  calls_safe calls u rs t are = table_safe rs u (in_table the_word [] calls (events_over width ends u rs) t are)
+  calls_safe calls u rs t are = table_safe rs u (calls_in_table the_word [] calls (events_over width ends u rs) t are)

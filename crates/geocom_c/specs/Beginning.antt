@@ -1,13 +1,19 @@
 -- A synchronization over calls on a state, this project's own: what it makes of the bytes that come, and which line is sent.
 -- Its word is the ids of its null procedures, in the order in which they are asked.
-use Rattle.std.specs.Prelude.{◌≡◌, ℕ, Bool, true, false, List, [], ◌∷◌, length, take, nat_eq, Option, Some, None}
+use Rattle.std.specs.Prelude.{◌≡◌, ◌≢◌, ◌↔◌, ◌+◌, ◌++◌, ℕ, Bool, true, false, List, [], ◌∷◌, length, take, nat_eq, Option, Some, None}
+use Rattle.std.specs.List.{position}
 use Rattle.gc_lines.specs.Lines.{with_end}
+use Rattle.gc_lines.specs.Frames.{is_line_feed, frame_of, rest_behind}
 use Rattle.gc_lines.specs.declared.frame.Frame.{Frame}
 use Rattle.gc_lines.specs.declared.frame.Frame.TheVariants.{Line, Cleared, Overlong, More}
 use Rattle.gc_client.specs.Beginning.{the_word, asks, left_by}
-use Rattle.gc_client.specs.Rule.{heard}
-use Rattle.geocom_c.specs.Rest.{lines_behind}
+use Rattle.gc_catalogue.specs.declared.asked.Asked.{Asked}
+use Rattle.gc_client.specs.Rule.{Windowed, heard}
+use Rattle.geocom_c.specs.Rest.{IsRest, lines_behind}
+use Rattle.geocom_c.specs.State.{StandsFor, left_of}
 use Rattle.geocom_c.specs.declared.answers.GeocomBeginning.{GeocomBeginning}
+use Rattle.geocom_c.specs.declared.rest.GeocomRest.{GeocomRest}
+use Rattle.geocom_c.specs.declared.state.GeocomClient.{GeocomClient}
 
 -- what isn't answered of a word after these lines, which are heard in order: a line that doesn't answer is discarded, and so is
 -- each after the last answer
@@ -45,8 +51,46 @@ abbrev pub IsGiven : Option (List ℕ) → GeocomBeginning → List ℕ → Type
 IsGiven None told room = told.count ≡ 0
 IsGiven (Some line) told room = (told.count ≡ length (with_end line)) × (take told.count room ≡ with_end line)
 
--- what isn't answered of the word after a restart: all of it for a client that had begun; for one that hadn't, what wasn't
--- answered before
+-- what isn't answered of the word after a restart: all of it for a client that had synchronized; for one that hadn't, what
+-- wasn't answered before
 abbrev pub anew : List ℕ → List ℕ
 anew [] = the_word
 anew (asked ∷ later) = asked ∷ later
+
+-- these bytes were handed to the synchronization of a client in the state `old`: the fault is 0, and in the state `new` the client is
+-- the same, each line that the bytes end is heard, and the bytes since the last line feed are kept
+abbrev pub HearsBytes : (bytes : List ℕ) → (old new : GeocomClient) → (fault : ℕ) → Type 0
+HearsBytes bytes old new fault =
+    (c : Windowed Asked) (rest : List ℕ) → StandsFor old c rest
+    → (fault ≡ 0) × StandsFor new c (rest_behind rest bytes) × (left_of new ≡ left_behind (left_of old) rest bytes)
+
+-- if the call that returned `told` had no fault, `room` has the line that is sent after these bytes, where `old` and `new` are the
+-- states before and after the call
+abbrev pub GivesLine : (bytes : List ℕ) → (old new : GeocomClient) → GeocomBeginning → (room : List ℕ) → Type 0
+GivesLine bytes old new told room = told.fault ≡ 0 → IsGiven (given bytes (left_of old) (left_of new)) told room
+
+-- if there is no fault, `told` says that the client has synchronized if and only if no id is unanswered in this state
+abbrev pub TellsBegun : GeocomBeginning → GeocomClient → Type 0
+TellsBegun told state = told.fault ≡ 0 → (told.has_begun ≡ 1) ↔ (left_of state ≡ [])
+
+-- what is returned with this fault if the synchronization heard nothing
+abbrev pub unbegun_with : (fault : ℕ) → GeocomBeginning
+unbegun_with fault = record { fault = fault; count = 0; answered = 0; has_begun = 0 }
+
+-- a call that returned `told`: after a fault all other numbers are 0, the state is `new` as it was `old`, and the room for the line is
+-- `after` as it was `before`
+abbrev pub BeginFaultLeavesAll : GeocomBeginning → (old new : GeocomClient) → (before after : List ℕ) → Type 0
+BeginFaultLeavesAll told old new before after = told.fault ≢ 0 → (told ≡ unbegun_with told.fault) × (new ≡ old) × (after ≡ before)
+
+-- no part of a promise: if `bytes` have no line feed, all are used, `new` keeps them after what `old` keeps of a line, and the ids that
+-- aren't answered are `after` as they were `before`
+abbrev pub KeepsUnended : (bytes : List ℕ) → (used : ℕ) → (old new : GeocomRest) → (before after : List ℕ) → Type 0
+KeepsUnended bytes used old new before after =
+    (r : List ℕ) → IsRest old r → position is_line_feed bytes ≡ None → (used ≡ length bytes) × IsRest new (r ++ bytes) × (after ≡ before)
+
+-- no part of a promise: if `bytes` have a line feed, those through the first are used, `new` keeps no byte of a line, and the frame that
+-- they end after what `old` keeps of a line changes the ids that aren't answered from `before` to `after`
+abbrev pub HearsFirst : (bytes : List ℕ) → (used : ℕ) → (old new : GeocomRest) → (before after : List ℕ) → Type 0
+HearsFirst bytes used old new before after =
+    (r : List ℕ) (at : ℕ) → IsRest old r → position is_line_feed bytes ≡ Some at
+    → (used ≡ at + 1) × IsRest new [] × (after ≡ left_past before (frame_of (r ++ take at bytes)))

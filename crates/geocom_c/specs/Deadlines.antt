@@ -1,7 +1,7 @@
--- Deadlines that pass, and one in plain fields, this project's own.
-use Rattle.std.specs.Prelude.{◌≡◌, ℕ, List, length, take, Option, Some, None, if◌then◌else◌, nat_eq}
+-- Requests that time out, and the earliest deadline in plain fields: this project's own.
+use Rattle.std.specs.Prelude.{◌≡◌, ◌≢◌, ℕ, List, length, take, Option, Some, None, if◌then◌else◌, nat_eq}
 use Rattle.gc_catalogue.specs.declared.asked.Asked.{Asked}
-use Rattle.gc_client.specs.Rule.{Windowed, expires, expiring}
+use Rattle.gc_client.specs.Rule.{Windowed, IsEarliest, deadlines, expires, expiring}
 use Rattle.geocom_c.specs.State.{StandsFor}
 use Rattle.geocom_c.specs.declared.answers.GeocomCount.{GeocomCount}
 use Rattle.geocom_c.specs.declared.answers.GeocomDeadline.{GeocomDeadline}
@@ -11,9 +11,26 @@ use Rattle.geocom_c.specs.declared.state.GeocomClient.{GeocomClient}
 abbrev pub earliest_in : GeocomDeadline → Option ℕ
 earliest_in d = if nat_eq d.is_set 1 then Some d.deadline else None
 
--- a client was told this moment: the state is then the rule's, and the targets of the requests that time out are at the front of
--- `targets`, as many as `told` counts
+-- a client was handed the moment `now`: the state is then the rule's, and the targets of the requests that time out are at the
+-- front of `targets`, as many as `told` counts
 abbrev pub HasExpired : Windowed Asked → (rest : List ℕ) → (now : ℕ) → (state : GeocomClient) → (told : GeocomCount) → (targets : List ℕ) → Type 0
 HasExpired c rest now state told targets =
     (told.fault ≡ 0) × StandsFor state (record c { ids = expires c.ids now }) rest
     × (told.count ≡ length (expiring now c.ids.waiting)) × (take told.count targets ≡ expiring now c.ids.waiting)
+
+-- the moment `now` was handed to a client in the state `old`: what was returned, the state `new` and the targets are as `HasExpired` says
+abbrev pub Expires : (now : ℕ) → (old new : GeocomClient) → (told : GeocomCount) → (targets : List ℕ) → Type 0
+Expires now old new told targets = (c : Windowed Asked) (rest : List ℕ) → StandsFor old c rest → HasExpired c rest now new told targets
+
+-- for a client's state the fault is 0, and the deadline that was returned is the earliest of the client's requests, if it has one
+abbrev pub TellsEarliest : GeocomClient → GeocomDeadline → Type 0
+TellsEarliest state told =
+    (c : Windowed Asked) (rest : List ℕ) → StandsFor state c rest → (told.fault ≡ 0) × IsEarliest (deadlines c.ids.waiting) (earliest_in told)
+
+-- a record of plain fields that holds no deadline has 0 in both
+abbrev pub IsBlankIfUnset : GeocomDeadline → Type 0
+IsBlankIfUnset told = told.is_set ≢ 1 → (told.is_set ≡ 0) × (told.deadline ≡ 0)
+
+-- for a client's state the fault is 0, and the count that was returned is that of the client's outstanding requests
+abbrev pub TellsWaiting : GeocomClient → GeocomCount → Type 0
+TellsWaiting state told = (c : Windowed Asked) (rest : List ℕ) → StandsFor state c rest → (told.fault ≡ 0) × (told.count ≡ length c.ids.waiting)

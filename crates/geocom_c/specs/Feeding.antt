@@ -1,7 +1,9 @@
--- What a frame that is fed comes to for a client, this project's own: its kind, what it settles, and what is told of it.
-use Rattle.std.specs.Prelude.{◌≡◌, ◌<◌, ◌≤◌, ℕ, Bool, true, false, List, [], length, take, Result, Ok, Err}
+-- What a frame that is fed comes to for a client, this project's own: its kind, what it settles, and what the call returns.
+use Rattle.std.specs.Prelude.{◌≡◌, ◌≢◌, ◌<◌, ◌≤◌, ◌+◌, ◌++◌, ℕ, Bool, true, false, List, [], length, take, Result, Ok, Err, Some, None}
+use Rattle.std.specs.List.{position}
 use Rattle.gc_lines.specs.declared.fault.LineFault.{LineFault}
 use Rattle.gc_lines.specs.Faults.{fault_number}
+use Rattle.gc_lines.specs.Frames.{is_line_feed, frame_of}
 use Rattle.gc_lines.specs.declared.frame.Frame.{Frame}
 use Rattle.gc_lines.specs.declared.frame.Frame.TheVariants.{Line, Cleared, Overlong, More}
 use Rattle.gc_lines.specs.Readers.{reply_at}
@@ -92,3 +94,30 @@ abbrev pub HasRestarted : Windowed Asked → (state : GeocomClient) → (told : 
 HasRestarted c state told records =
     (told.fault ≡ 0) × StandsFor state (record c { ids = (restarts c.ids).client }) []
     × (told.count ≡ length (restarts c.ids).settlements) × FirstAre (IsRecord []) records (restarts c.ids).settlements
+
+-- if these bytes have no line feed, feeding them to the client `c` uses all, as `told` says, and changes the state from `old` to `new`,
+-- which keeps them
+abbrev pub FeedsUnended : Windowed Asked → (bytes : List ℕ) → (old new : GeocomClient) → (told : GeocomHeard) → Type 0
+FeedsUnended c bytes old new told =
+    (rest : List ℕ) → StandsFor old c rest → position is_line_feed bytes ≡ None → (told ≡ unended (length bytes)) × StandsFor new c (rest ++ bytes)
+
+-- if these bytes have a line feed, feeding them to the client `c` in the state `old` feeds the frame that the first one ends, as
+-- `FeedsFrame` says of the state `new`, of what was returned and of the records and the text
+abbrev pub FeedsFirst : Windowed Asked → (bytes : List ℕ) → (old new : GeocomClient) → (told : GeocomHeard) → (records : List GeocomSettlement) → (text : List ℕ) → Type 0
+FeedsFirst c bytes old new told records text =
+    (rest : List ℕ) (at : ℕ) → StandsFor old c rest → position is_line_feed bytes ≡ Some at
+    → FeedsFrame c (frame_of (rest ++ take at bytes)) (at + 1) new told records text
+
+-- a feed that returned `told`: after a fault all other numbers are 0, and the state is `new` as it was `old`
+abbrev pub FeedFaultLeavesState : (told : GeocomHeard) → (old new : GeocomClient) → Type 0
+FeedFaultLeavesState told old new =
+    told.fault ≢ 0 → (told.used ≡ 0) × (told.count ≡ 0) × (told.kind ≡ 0) × (told.line_fault ≡ 0) × (new ≡ old)
+
+-- where nothing was settled (a count of 0), nothing was written: the records and the text are after the feed (`records`, `text`) as they
+-- were before (`old_records`, `old_text`)
+abbrev pub IsSilent : (count : ℕ) → (old_records records : List GeocomSettlement) → (old_text text : List ℕ) → Type 0
+IsSilent count old_records records old_text text = count ≡ 0 → (records ≡ old_records) × (text ≡ old_text)
+
+-- a client in the state `old` was restarted: what was returned, the state `new` and the records are as `HasRestarted` says
+abbrev pub Restarts : (old new : GeocomClient) → (told : GeocomCount) → (records : List GeocomSettlement) → Type 0
+Restarts old new told records = (c : Windowed Asked) (rest : List ℕ) → StandsFor old c rest → HasRestarted c new told records

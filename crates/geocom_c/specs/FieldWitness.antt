@@ -1,4 +1,4 @@
--- Some calls are such that the laws speak of them, this project's own. An old reply is in flight, with the id that the first
+-- Some calls meet all premises of the laws, this project's own. An old reply is in flight, with the id that the first
 -- command has. It is discarded, the eight null procedures are answered, two commands are sent at once, and a moment passes;
 -- both are answered. Over the instrument that counts the second command is for a procedure that isn't in the table, whichever
 -- it is. Then the client restarts, and resynchronizes.
@@ -17,7 +17,7 @@ use Rattle.gc_client.specs.Rule.{IsWidth, Answered}
 use Rattle.gc_instrument.specs.State.{KeptReply, IsFittingState, simulator_opening}
 use Rattle.gc_field.specs.Simulator.{ends}
 use Rattle.gc_field.specs.World.{Ends, Up_deliver}
-use Rattle.gc_field.specs.Begin.{AreLines, Turn, Asks, Comes, UnderWay, begins, leaves, turned}
+use Rattle.gc_field.specs.Begin.{IsWellFormed, Turn, Asks, Comes, UnderWay, begins, leaves, turned}
 use Rattle.gc_field.specs.Beginnings.{Run}
 use Rattle.gc_field.specs.Begun.{WasMadeOn}
 use Rattle.gc_field.specs.CountingChain as chain
@@ -26,7 +26,7 @@ use Rattle.gc_field.specs.Field.{Move, Sends, Tells, OnLine}
 use Rattle.gc_field.specs.Field as field
 use Rattle.gc_field.specs.Instrument.{IsAnInstrument, AnyState}
 use Rattle.gc_field.specs.Laws.{kept_of}
-use Rattle.gc_field.specs.Witness.{eight, replies}
+use Rattle.gc_field.specs.Witness.{eight_answered, replies}
 use Rattle.geocom_c.specs.Following.{CallsReach, Stage, opened}
 use Rattle.geocom_c.specs.Laws.{IsSafeRun, MayBegin}
 use Rattle.geocom_c.specs.Runs.{ArePossibleRuns, events_over, parts}
@@ -65,7 +65,7 @@ calls replies second one other =
 
 -- the old reply comes; each null procedure reaches the instrument, and its reply comes
 abbrev pub beginning : {State : Type 0} → List (Turn State)
-beginning = Asks ∷ Comes ∷ drop 1 eight
+beginning = Asks ∷ Comes ∷ drop 1 eight_answered
 
 -- the second command if it is one of the table
 abbrev pub table_second : Step
@@ -87,13 +87,14 @@ runs asked one other = record { turns = beginning; moves = moves asked one other
 abbrev pub reached : {State : Type 0} → Ends State → State → Asked → List ℕ → List ℕ → Stage
 reached ends state asked one other = record { reached = course WINDOW begun (steps_among (events_over WINDOW ends (before state) (runs asked one other))); rest = []; left = the_word }
 
--- all premises of the laws hold of these calls at once; both commands are answered, and the first answer was made on executing its request
-pub record AreInField {State : Type 0} (ends : Ends State) (Good : State → Type 0) (kept : State → Option KeptReply) (state : State) (replies : List (List ℕ)) (second : Step)
-    (asked : Asked) (one other : List ℕ) : Type 0 where
-  pub is : IsAnInstrument ends Good kept
+-- all premises of the laws hold of these calls at once; both commands are answered, and the first answer was made on executing its
+-- request
+pub record AreInField {State : Type 0} (ends : Ends State) (Good : State → Type 0) (kept : State → Option KeptReply) (state : State)
+    (replies : List (List ℕ)) (second : Step) (asked : Asked) (one other : List ℕ) : Type 0 where
+  pub instrument : IsAnInstrument ends Good kept
   pub width : IsWidth WINDOW
   pub follows : CallsReach WINDOW opened (calls replies second one other) (reached ends state asked one other)
-  pub lines : AreLines Good (before state)
+  pub lines : IsWellFormed Good (before state)
   pub may : MayBegin (before state)
   pub are : AreEvents the_word [] (calls replies second one other) (events_over WINDOW ends (before state) (runs asked one other))
   pub possible : ArePossibleRuns WINDOW ends Good kept (before state) (runs asked one other)
@@ -103,9 +104,10 @@ pub record AreInField {State : Type 0} (ends : Ends State) (Good : State → Typ
       ≡ record { target = 7; call = Table InstrumentNo; outcome = Answered one } ∷ record { target = 8; call = asked; outcome = Answered other } ∷ []
   pub made_on : WasMadeOn WINDOW ends (leaves (turned ends beginning (begins (before state)))) (moves asked one other) 8 (Table InstrumentNo) one
 
--- there are such calls over an instrument that counts, each state of which is a good one, with each procedure that isn't in the table, and over the simulator as it is at the start
+-- there are such calls over the instrument that counts, with any procedure that isn't in the table, and over the simulator as it
+-- is at the start
 pub record SomeCallsAreInField : Type 0 where
   pub any :
-      (raw : RawCall) → AreInField counting AnyState kept_by (record { count = 27; keeps = None }) chain.null_replies (raw_second raw) (Raw raw) chain.first chain.second
+      (raw : RawCall) → AreInField counting AnyState kept_by (record { count = 27; keeps = None }) chain.null_replies (raw_second raw) (Raw raw) chain.first_reply chain.second_reply
   pub simulator :
       AreInField ends IsFittingState kept_of simulator_opening replies table_second (Table InstrumentNo) (codes "%R1P,0,0:0,123456") (codes "%R1P,0,1:0,123456")

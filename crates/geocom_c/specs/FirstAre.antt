@@ -1,7 +1,7 @@
 -- Two lists side by side.
 use Rattle.std.specs.Prelude.{List, [], ◌∷◌}
 
--- `Is` holds of the first of xs and those of ys, one for one; xs may have more
+-- `Is x y` holds for each item y of `ys` and the item x at the same place of `xs`, which may have more items than `ys`
 abbrev pub FirstAre : {A B : Type 0} → (A → B → Type 0) → List A → List B → Type 0
 FirstAre Is xs [] = Unit {0}
 FirstAre Is [] (y ∷ ys) = ⊥

@@ -8,7 +8,7 @@ use Rattle.gc_catalogue.specs.declared.raw.RawCall.{RawCall}
 use Rattle.gc_catalogue.specs.Asked.{IsAsked}
 use Rattle.gc_catalogue.specs.Calls.{IsCall}
 use Rattle.gc_client.specs.Beginning.{the_word}
-use Rattle.gc_client.specs.OneForOne.{Course, begun, goes, course}
+use Rattle.gc_client.specs.OneForOne.{Course, begun, course_after, course}
 use Rattle.gc_client.specs.OneForOne as one
 use Rattle.geocom_c.specs.Beginning.{anew, left_behind}
 use Rattle.geocom_c.specs.Rest.{lines_behind}
@@ -23,8 +23,8 @@ abbrev pub hearing : ℕ → Course Asked → List ℕ → List ℕ → Course A
 hearing width x rest bytes = course width x (map one.Hear (lines_behind rest bytes))
 
 -- no part of a promise: a client of the course `x`, with the bytes `rest` since the last line feed, was fed all of `bytes` but
--- the last ones, `left`. The state stands for the client as it is then. If that client hears `left`, too, it comes to the same
--- as a client of the course `x` that hears all of `bytes`
+-- the last ones, `left`. The state stands for the client as it is then: of the course `reached`, with the bytes `now` since the
+-- last line feed. If that client hears `left`, too, it comes to the same as a client of the course `x` that hears all of `bytes`
 pub record FedTo (width : ℕ) (x : Course Asked) (rest bytes : List ℕ) (state : GeocomClient) (left : List ℕ) : Type 0 where
   pub reached : Course Asked
   pub now : List ℕ
@@ -54,15 +54,17 @@ pub record IsAt (width : ℕ) (s : Stage) (state : GeocomClient) : Type 0 where
 abbrev pub CallsReach : ℕ → Stage → List Step → Stage → Type 0
 CallsReach width s [] t = t ≡ s
 CallsReach width s (Send target deadline procedure params ∷ steps) t =
-    ((call : Call) × (s.left ≡ []) × IsCall procedure params.now call × CallsReach width (record s { reached = goes width s.reached (one.Send target (Table call) deadline) }) steps t)
+    ((call : Call) × (s.left ≡ []) × IsCall procedure params.now call
+    × CallsReach width (record s { reached = course_after width s.reached (one.Send target (Table call) deadline) }) steps t)
     ⊎ ((s.left ≡ [] → (call : Call) → IsCall procedure params.now call → ⊥) × CallsReach width s steps t)
 CallsReach width s (SendRaw target deadline procedure params ∷ steps) t =
-    ((raw : RawCall) × (s.left ≡ []) × IsAsked procedure params.now (Raw raw) × CallsReach width (record s { reached = goes width s.reached (one.Send target (Raw raw) deadline) }) steps t)
+    ((raw : RawCall) × (s.left ≡ []) × IsAsked procedure params.now (Raw raw)
+    × CallsReach width (record s { reached = course_after width s.reached (one.Send target (Raw raw) deadline) }) steps t)
     ⊎ ((s.left ≡ [] → (raw : RawCall) → IsAsked procedure params.now (Raw raw) → ⊥) × CallsReach width s steps t)
 CallsReach width s (Begin bytes ∷ steps) t = CallsReach width (record s { rest = rest_behind s.rest bytes.now; left = left_behind s.left s.rest bytes.now }) steps t
 CallsReach width s (Feed bytes ∷ steps) t = CallsReach width (record s { reached = hearing width s.reached s.rest bytes.now; rest = rest_behind s.rest bytes.now }) steps t
-CallsReach width s (Expire now ∷ steps) t = CallsReach width (record s { reached = goes width s.reached (one.Expire now) }) steps t
-CallsReach width s (Restart ∷ steps) t = CallsReach width (record { reached = goes width s.reached one.Restart; rest = []; left = anew s.left }) steps t
+CallsReach width s (Expire now ∷ steps) t = CallsReach width (record s { reached = course_after width s.reached (one.Expire now) }) steps t
+CallsReach width s (Restart ∷ steps) t = CallsReach width (record { reached = course_after width s.reached one.Restart; rest = []; left = anew s.left }) steps t
 
 -- no part of a promise: the state is at some stage. Whatever the calls `later`, which are left, come to from that stage, all
 -- the calls `steps` come to from the stage s
@@ -70,3 +72,16 @@ pub record Reached (width : ℕ) (s : Stage) (steps : List Step) (state : Geocom
   pub stage : Stage
   pub at : IsAt width stage state
   pub on : (t : Stage) → CallsReach width stage later t → CallsReach width s steps t
+
+-- no part of a promise: all these bytes but the last ones, `left`, were fed to a client, whatever its course, which changed its state
+-- from `old` to `new` as `FedTo` says
+abbrev pub FeedsBut : (bytes left : List ℕ) → (old new : GeocomClient) → Type 0
+FeedsBut bytes left old new =
+    (width : ℕ) (x : Course Asked) (rest : List ℕ) → StandsFor old (record { width = width; ids = x.client }) rest → FedTo width x rest bytes new left
+
+-- no part of a promise: all these bytes were fed to a client, whatever its course, which has heard each line that they end, and changed
+-- its state from `old` to `new`
+abbrev pub FeedsBytes : (bytes : List ℕ) → (old new : GeocomClient) → Type 0
+FeedsBytes bytes old new =
+    (width : ℕ) (x : Course Asked) (rest : List ℕ) → StandsFor old (record { width = width; ids = x.client }) rest
+    → StandsFor new (record { width = width; ids = (hearing width x rest bytes).client }) (rest_behind rest bytes)

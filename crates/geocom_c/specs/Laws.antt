@@ -9,11 +9,11 @@ use Rattle.gc_catalogue.specs.declared.asked.Asked.{Asked}
 use Rattle.gc_client.specs.Beginning.{IsSubsequence, the_word}
 use Rattle.gc_client.specs.OneForOne.{of_settled}
 use Rattle.gc_client.specs.Rule.{IsWidth, Settlement, Answered}
-use Rattle.gc_instrument.specs.State.{KeptReply, State, IsFittingState}
+use Rattle.gc_instrument.specs.State.{KeptReply, IsFittingState}
 use Rattle.gc_field.specs.Simulator.{ends}
 use Rattle.gc_world.specs.Record.{IsReplyTo}
 use Rattle.gc_field.specs.World.{Ends, Sent}
-use Rattle.gc_field.specs.Begin.{AreLines, UnderWay, ids_under_way, leaves}
+use Rattle.gc_field.specs.Begin.{IsWellFormed, UnderWay, ids_under_way, leaves}
 use Rattle.gc_field.specs.Beginnings.{AreFewKilled, AreRuns, IsOwnIf, IsRow, Run}
 use Rattle.gc_field.specs.Begun.{IsSafe, WasMadeOn}
 use Rattle.gc_field.specs.Instrument.{IsAnInstrument, AnyState, TreatsRawsAlike}
@@ -50,15 +50,15 @@ module _ {State : Type 0} (width : ℕ) (ends : Ends State) (Good : State → Ty
     pub made : (j : ℕ) × (slice_get (world width ends part).wire.made j ≡ Some (record { number = m; line = line }))
     pub reply : IsReplyTo ends Good s.call line
     pub executed : WasExecuted (world width ends part).wire.executed m
-    -- and it was made on executing that very request: at one of the run's moves request m, with this call, reached the instrument, which
-    -- executed it, and this line was its reply
-    pub made_on : WasMadeOn width ends (leaves (begun_at width ends part)) part.run.moves m s.call line
+    -- and it was made on executing that very request, by `WasMadeOn`
+    pub made_on : WasMadeOn width ends (leaves (begun_at ends part)) part.run.moves m s.call line
 
-  -- each command that was sent in a run is safe (`IsSafe`): each request of the run is a call of the table; or a request that
-  -- is none is to the instrument as all others; or the command was sent after the table
+  -- each command that was sent in a run is safe (`IsSafe`): each request of the run is a call of the table; or the instrument
+  -- retains its own reply, or none, after every request; or one of the seven requests before the command is a call of the table
+  -- that a reply ended
   abbrev pub IsSafeRun : Part State → Type 0
   IsSafeRun p =
-      (m : ℕ) → 8 ≤ m → m < length (world width ends p).wire.sent → IsSafe width ends (leaves (begun_at width ends p)) Good kept p.run.moves m
+      (m : ℕ) → 8 ≤ m → m < length (world width ends p).wire.sent → IsSafe width ends (leaves (begun_at ends p)) Good kept p.run.moves m
 
   -- if a settlement is an answer, its line was made for that very request (`IsItsOwn`)
   abbrev pub IsOwnAnswer : List (Part State) → Settlement Asked → Type 0
@@ -77,35 +77,33 @@ module _ {State : Type 0} (width : ℕ) (ends : Ends State) (Good : State → Ty
     pub own : AllByRecursion (IsOwnAnswer ps) t.reached.settlements
     -- and each run that has synchronized has synchronized cleanly, and is faithful: one for one, in order, acts once if the
     -- instrument retains its reply, and a first reply in time is booked
-    pub each : AllByRecursion (λ p. IsOwnIf width ends Good kept (begun_at width ends p).left (begun_at width ends p) p.run.moves) ps
+    pub each : AllByRecursion (λ p. IsOwnIf width ends Good kept (begun_at ends p).left (begun_at ends p) p.run.moves) ps
 
--- each answer is its own request's (`AreOwn`), for any instrument, every width, all calls on a state that are safe
--- (`IsSafeRun`), whatever is in flight when the state is made, unless the word is, and all that the line and the instrument may
--- do meanwhile
+-- each answer is its own request's (`AreOwn`), over the ends `ends` with states of which `Good` holds, which retain the reply `kept`: for
+-- every width, all calls on a state that are safe (`IsSafeRun`), whatever is in flight when the state is made, unless the word is, and
+-- all that the line and the instrument may do meanwhile
+abbrev pub EachAnswerIsOwn : {State : Type 0} → (ends : Ends State) → (Good : State → Type 0) → (kept : State → Option KeptReply) → Type 0
+EachAnswerIsOwn {State = State} ends Good kept =
+    (width : ℕ) → IsWidth width → (calls : List Step) (t : Stage) → CallsReach width opened calls t →
+    (u : UnderWay State) → IsWellFormed Good u → MayBegin u →
+    (rs : List (Run State)) → AreEvents the_word [] calls (events_over width ends u rs) → ArePossibleRuns width ends Good kept u rs →
+    AllByRecursion (IsSafeRun width ends Good kept) (parts width ends u rs) →
+    AreOwn width ends Good kept (parts width ends u rs) t
+
+-- each answer is its own request's (`EachAnswerIsOwn`), for any instrument, in any state
 abbrev pub AnswersAreTheirOwn : Type 0 → Type 0
-AnswersAreTheirOwn State =
-    (ends : Ends State) (kept : State → Option KeptReply) → IsAnInstrument ends AnyState kept →
-    (width : ℕ) → IsWidth width → (calls : List Step) (t : Stage) → CallsReach width opened calls t →
-    (u : UnderWay State) → AreLines AnyState u → MayBegin u →
-    (rs : List (Run State)) → AreEvents the_word [] calls (events_over width ends u rs) → ArePossibleRuns width ends AnyState kept u rs →
-    AllByRecursion (IsSafeRun width ends AnyState kept) (parts width ends u rs) →
-    AreOwn width ends AnyState kept (parts width ends u rs) t
+AnswersAreTheirOwn State = (ends : Ends State) (kept : State → Option KeptReply) → IsAnInstrument ends AnyState kept → EachAnswerIsOwn ends AnyState kept
 
--- the same as `AnswersAreTheirOwn` for the simulated instrument, in any state that fits
+-- each answer is its own request's (`EachAnswerIsOwn`), for the simulated instrument, in any state that fits
 abbrev pub SimulatorsAnswersAreTheirOwn : Type 0
-SimulatorsAnswersAreTheirOwn =
-    (width : ℕ) → IsWidth width → (calls : List Step) (t : Stage) → CallsReach width opened calls t →
-    (u : UnderWay State) → AreLines IsFittingState u → MayBegin u →
-    (rs : List (Run State)) → AreEvents the_word [] calls (events_over width ends u rs) → ArePossibleRuns width ends IsFittingState kept_of u rs →
-    AllByRecursion (IsSafeRun width ends IsFittingState kept_of) (parts width ends u rs) →
-    AreOwn width ends IsFittingState kept_of (parts width ends u rs) t
+SimulatorsAnswersAreTheirOwn = EachAnswerIsOwn ends IsFittingState kept_of
 
--- after a run that measured, or over a line with nothing in flight: as long as fewer than six runs in a row ended while they
--- synchronized, the next one may begin
+-- after a run that had synchronized, or over a line with nothing in flight (`IsRow`): as long as fewer than six runs in a row
+-- ended while they synchronized, the next one may begin
 abbrev pub FewKilledMayBegin : Type 0 → Type 0
 FewKilledMayBegin State =
     (ends : Ends State) (kept : State → Option KeptReply) → IsAnInstrument ends AnyState kept →
-    (width : ℕ) → IsWidth width → (u : UnderWay State) → AreLines AnyState u → IsRow u →
+    (width : ℕ) → IsWidth width → (u : UnderWay State) → IsWellFormed AnyState u → IsRow u →
     (rs : List (Run State)) → AreRuns width ends AnyState kept u rs → AreFewKilled width ends 0 u rs → MayBegin (left_by_runs width ends u rs)
 
 -- no call on a state asks for a procedure that isn't in the table
@@ -118,21 +116,23 @@ AreOfTheTable (Feed bytes ∷ calls) = AreOfTheTable calls
 AreOfTheTable (Expire now ∷ calls) = AreOfTheTable calls
 AreOfTheTable (Restart ∷ calls) = AreOfTheTable calls
 
--- each run is safe (`IsSafeRun`) if a request that is no call of the table is to the instrument as all others, which all
--- instruments meet that know the procedures; and, over any instrument and over the simulator, if no call on the state asks for
--- such a procedure
+-- over the ends `ends` with states of which `Good` holds, which retain the reply `kept`: each run is safe (`IsSafeRun`) if no call on the
+-- state sends a raw request
+abbrev pub TableCallsAreSafe : {State : Type 0} → (ends : Ends State) → (Good : State → Type 0) → (kept : State → Option KeptReply) → Type 0
+TableCallsAreSafe {State = State} ends Good kept =
+    (width : ℕ) (calls : List Step) → AreOfTheTable calls →
+    (u : UnderWay State) (rs : List (Run State)) → AreEvents the_word [] calls (events_over width ends u rs) →
+    AllByRecursion (IsSafeRun width ends Good kept) (parts width ends u rs)
+
+-- each run is safe (`IsSafeRun`) over an instrument that retains its own reply, or none, after every request, as one does that
+-- knows the procedures that are asked for (`alike`); and over any instrument if no call on the state sends a raw request (`table`)
 pub record CallsAreSafe (State : Type 0) : Type 0 where
   pub alike :
       (ends : Ends State) (kept : State → Option KeptReply) → TreatsRawsAlike ends AnyState kept →
       (width : ℕ) (u : UnderWay State) (rs : List (Run State)) → AllByRecursion (IsSafeRun width ends AnyState kept) (parts width ends u rs)
-  pub table :
-      (ends : Ends State) (kept : State → Option KeptReply) (width : ℕ) (calls : List Step) → AreOfTheTable calls →
-      (u : UnderWay State) (rs : List (Run State)) → AreEvents the_word [] calls (events_over width ends u rs) →
-      AllByRecursion (IsSafeRun width ends AnyState kept) (parts width ends u rs)
+  pub table : (ends : Ends State) (kept : State → Option KeptReply) → TableCallsAreSafe ends AnyState kept
 
--- the same of calls over the simulator, which makes its refusals of such procedures again, and retains what it retained
+-- `table` of `CallsAreSafe` for the simulator, in any state that fits. The simulator doesn't treat raw requests as others: it
+-- refuses them, and retains what it retained before
 abbrev pub SimulatorsCallsAreSafe : Type 0
-SimulatorsCallsAreSafe =
-    (width : ℕ) (calls : List Step) → AreOfTheTable calls →
-    (u : UnderWay State) (rs : List (Run State)) → AreEvents the_word [] calls (events_over width ends u rs) →
-    AllByRecursion (IsSafeRun width ends IsFittingState kept_of) (parts width ends u rs)
+SimulatorsCallsAreSafe = TableCallsAreSafe ends IsFittingState kept_of

@@ -1,6 +1,7 @@
 pub mod FirstAre
 pub mod Rest
 pub mod State
+pub mod Rooms
 pub mod Sending
 pub mod Deadlines
 pub mod Settled

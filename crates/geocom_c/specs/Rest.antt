@@ -1,7 +1,9 @@
 -- The bytes of an incomplete line, this project's own: what a state keeps of those since the last line feed.
-use Rattle.std.specs.Prelude.{◌≡◌, ◌≢◌, ◌≤◌, ℕ, List, ◌++◌, take, All, map}
-use Rattle.std.specs.List.{filter_map}
-use Rattle.gc_lines.specs.Frames.{frame_of, line_in, pieces_behind}
+use Rattle.std.specs.Prelude.{◌≡◌, ◌≢◌, ◌<◌, ◌≤◌, ◌+◌, ℕ, List, ◌++◌, length, take, All, map, Some, None}
+use Rattle.std.specs.List.{filter_map, position}
+use Rattle.gc_lines.specs.Frames.{is_line_feed, frame_of, line_in, pieces_behind}
+use Rattle.gc_lines.specs.declared.frame.Frame.{Frame}
+use Rattle.gc_lines.specs.declared.frame.Frame.TheVariants.{More}
 use Rattle.geocom_c.specs.declared.rest.GeocomRest.{GeocomRest}
 
 -- the bytes that are kept
@@ -9,16 +11,31 @@ abbrev pub kept : GeocomRest → List ℕ
 kept r = take r.length r.bytes
 
 -- at most 514 bytes are kept, and no line feed among them
-pub record IsCut (r : GeocomRest) : Type 0 where
+pub record IsValid (r : GeocomRest) : Type 0 where
   pub short : r.length ≤ 514
   pub unended : All (λ b. b ≢ 10) (kept r)
 
 -- the bytes `rest` came since the last line feed: whatever follows, the next line feed makes the same frame of the kept bytes
 -- as of `rest`
 pub record IsRest (r : GeocomRest) (rest : List ℕ) : Type 0 where
-  pub cut : IsCut r
+  pub cut : IsValid r
   pub same : (more : List ℕ) → frame_of (kept r ++ more) ≡ frame_of (rest ++ more)
 
--- the lines that bytes end, after those since the last line feed
+-- the lines that the line feeds of `bytes` end, if the bytes `rest` came before them since the last line feed
 abbrev pub lines_behind : List ℕ → List ℕ → List (List ℕ)
 lines_behind rest bytes = filter_map line_in (map frame_of (pieces_behind rest bytes))
+
+-- `used` is the number of some of these bytes, or of all, and not 0 if there are any
+abbrev pub UsesBytes : (used : ℕ) → (bytes : List ℕ) → Type 0
+UsesBytes used bytes = (used ≤ length bytes) × (0 < length bytes → 0 < used)
+
+-- no part of a promise: without a line feed in `piece`, which comes after the bytes that `r` keeps, all of it is used, and the frame is
+-- `More`
+abbrev pub UsesUnended : GeocomRest → (piece : List ℕ) → (used : ℕ) → Frame → Type 0
+UsesUnended r piece used frame = (rest : List ℕ) → IsRest r rest → position is_line_feed piece ≡ None → (used ≡ length piece) × (frame ≡ More)
+
+-- no part of a promise: if `piece`, which comes after the bytes that `r` keeps, has a line feed, the bytes through the first are used, and
+-- the frame is the one that it ends
+abbrev pub UsesFrame : GeocomRest → (piece : List ℕ) → (used : ℕ) → Frame → Type 0
+UsesFrame r piece used frame =
+    (rest : List ℕ) (at : ℕ) → IsRest r rest → position is_line_feed piece ≡ Some at → (used ≡ at + 1) × (frame ≡ frame_of (rest ++ take at piece))

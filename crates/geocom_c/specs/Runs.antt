@@ -9,7 +9,7 @@ use Rattle.gc_client.specs.Rule.{ById, Settlement, fresh, lost}
 use Rattle.gc_instrument.specs.State.{KeptReply}
 use Rattle.gc_world.specs.Clients.{by_ids}
 use Rattle.gc_field.specs.World.{Ends, World}
-use Rattle.gc_field.specs.Begin.{Aged, AreTurns, Asks, Comes, Foreign, Reaches, Up_lose, Up_repeat, Down_lose, Down_repeat, Anew, Changes, Model, Turn, UnderWay, begins, leaves, turns}
+use Rattle.gc_field.specs.Begin.{InFlight, AreTurns, Asks, Comes, Foreign, Reaches, Up_lose, Up_repeat, Down_lose, Down_repeat, Anew, Changes, Model, Turn, UnderWay, begins, leaves, turns}
 use Rattle.gc_field.specs.Beginnings.{Run, left_by_run, after_turns}
 use Rattle.gc_field.specs.Begun.{behind, ids_begun}
 use Rattle.gc_field.specs.Field.{ArePossible, seen}
@@ -17,13 +17,13 @@ use Rattle.geocom_c.specs.Steps.{Event, Null, Came, Went}
 
 -- What a run is to the library.
 
--- the event of a null procedure that is sent; none once the client has synchronized
+-- the event that a null procedure is sent, where these ids of the word aren't answered; none once all are answered
 abbrev pub asked_of : List ℕ → List Event
 asked_of [] = []
 asked_of (asked ∷ later) = Null ∷ []
 
--- the event of the line before it, which comes; none if there is no line
-abbrev pub front_of : List (Aged (List ℕ)) → List Event
+-- the event that the front one of these replies comes; none if there is no reply
+abbrev pub front_of : List (InFlight (List ℕ)) → List Event
 front_of [] = []
 front_of (x ∷ rest) = Came x.line ∷ []
 
@@ -45,27 +45,28 @@ pub record Part (State : Type 0) : Type 0 where
   pub before : UnderWay State
   pub run : Run State
 
-module _ {State : Type 0} (width : ℕ) (ends : Ends State) where
+module _ {State : Type 0} (ends : Ends State) where
   -- the events that the turns of a synchronization are to the library
   abbrev pub events_of : Model State → List (Turn State) → List Event
   events_of s [] = []
   events_of s (t ∷ ts) = event_of s t ++ events_of (turns ends s t) ts
 
+  -- the state of a run's synchronization, once that is over or the run was ended while it synchronized
+  abbrev pub begun_at : Part State → Model State
+  begun_at p = after_turns ends p.before p.run
+
+module _ {State : Type 0} (width : ℕ) (ends : Ends State) where
   -- the events that runs are to the library: the client restarts between them
   abbrev pub events_over : UnderWay State → List (Run State) → List Event
   events_over u [] = []
-  events_over u (r ∷ []) = events_of (begins u) r.turns ++ map Went (seen r.moves)
-  events_over u (r ∷ next ∷ others) = events_of (begins u) r.turns ++ (map Went (seen r.moves) ++ Went one.Restart ∷ events_over (left_by_run width ends u r) (next ∷ others))
+  events_over u (r ∷ []) = events_of ends (begins u) r.turns ++ map Went (seen r.moves)
+  events_over u (r ∷ next ∷ others) = events_of ends (begins u) r.turns ++ (map Went (seen r.moves) ++ Went one.Restart ∷ events_over (left_by_run width ends u r) (next ∷ others))
 
   -- Runs, one after the other.
 
-  -- the state of a run's synchronization, once that is over or the run was ended while it synchronized
-  abbrev pub begun_at : Part State → Model State
-  begun_at p = after_turns width ends p.before p.run
-
   -- the world after a run
   abbrev pub world : Part State → World (ById Asked) State
-  world p = behind width ends (leaves (begun_at p)) p.run.moves
+  world p = behind width ends (leaves (begun_at ends p)) p.run.moves
 
   -- what runs leave in flight
   abbrev pub left_by_runs : UnderWay State → List (Run State) → UnderWay State
@@ -77,11 +78,12 @@ module _ {State : Type 0} (width : ℕ) (ends : Ends State) where
   parts u [] = []
   parts u (r ∷ rs) = record { before = u; run = r } ∷ parts (left_by_run width ends u r) rs
 
-  -- what happens is possible, in the synchronization of each run and after it. Whether it has begun by then is no premise
+  -- what happens is possible, in the synchronization of each run and after it. That the run has synchronized before its moves is
+  -- no premise
   abbrev pub ArePossibleRuns : (State → Type 0) → (State → Option KeptReply) → UnderWay State → List (Run State) → Type 0
   ArePossibleRuns Good kept u [] = Unit {0}
   ArePossibleRuns Good kept u (r ∷ rs) =
-      (AreTurns ends Good kept r.turns (begins u) × ArePossible ends Good kept (by_ids width ends) r.moves (ids_begun (leaves (after_turns width ends u r))))
+      (AreTurns ends Good kept r.turns (begins u) × ArePossible ends Good kept (by_ids width ends) r.moves (ids_begun (leaves (after_turns ends u r))))
       × ArePossibleRuns Good kept (left_by_run width ends u r) rs
 
   -- What they settle.
@@ -101,10 +103,10 @@ module _ {State : Type 0} (width : ℕ) (ends : Ends State) where
   -- what the library settles over runs with restarts between them
   abbrev pub settled_over : List (Part State) → List (Settlement Asked)
   settled_over [] = []
-  settled_over (p ∷ []) = settled_if (begun_at p).left (world p)
-  settled_over (p ∷ next ∷ others) = (settled_if (begun_at p).left (world p) ++ lost_if (begun_at p).left (world p)) ++ settled_over (next ∷ others)
+  settled_over (p ∷ []) = settled_if (begun_at ends p).left (world p)
+  settled_over (p ∷ next ∷ others) = (settled_if (begun_at ends p).left (world p) ++ lost_if (begun_at ends p).left (world p)) ++ settled_over (next ∷ others)
 
-  -- the client after a run, which is new if the run hasn't synchronized
+  -- the client after a run, by the ids that aren't answered: a new one if the run hasn't synchronized
   abbrev pub client_if : List ℕ → World (ById Asked) State → ById Asked
   client_if [] w = w.client
   client_if (asked ∷ later) w = fresh
@@ -112,11 +114,11 @@ module _ {State : Type 0} (width : ℕ) (ends : Ends State) where
   -- the client after runs: that after the last one
   abbrev pub client_over : List (Part State) → ById Asked
   client_over [] = fresh
-  client_over (p ∷ []) = client_if (begun_at p).left (world p)
+  client_over (p ∷ []) = client_if (begun_at ends p).left (world p)
   client_over (p ∷ next ∷ others) = client_over (next ∷ others)
 
   -- the ids of a synchronization that aren't answered after runs: those of the last one
   abbrev pub left_over : List (Part State) → List ℕ
   left_over [] = the_word
-  left_over (p ∷ []) = (begun_at p).left
+  left_over (p ∷ []) = (begun_at ends p).left
   left_over (p ∷ next ∷ others) = left_over (next ∷ others)

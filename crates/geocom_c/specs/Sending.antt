@@ -1,18 +1,21 @@
--- What a send gives, this project's own.
-use Rattle.std.specs.Prelude.{◌≡◌, ℕ, List, [], length, take, Option, Some, None}
+-- What a send writes and returns, this project's own.
+use Rattle.std.specs.Prelude.{◌≡◌, ◌≢◌, ◌<◌, ◌≤◌, ℕ, List, [], length, take, Option, Some, None}
 use Rattle.gc_values.specs.ValueFault as of_value
 use Rattle.gc_values.specs.declared.fault.ValueFault.TheVariants as value
 use Rattle.gc_lines.specs.Faults as of_line
 use Rattle.gc_lines.specs.declared.fault.LineFault.TheVariants as line
 use Rattle.gc_lines.specs.Lines.{with_end}
 use Rattle.gc_catalogue.specs.declared.asked.Asked.{Asked}
-use Rattle.gc_catalogue.specs.Asked.{asked_line}
+use Rattle.gc_catalogue.specs.declared.asked.Asked.TheVariants.{Raw}
+use Rattle.gc_catalogue.specs.declared.raw.RawCall.{RawCall}
+use Rattle.gc_catalogue.specs.Asked.{IsAsked, asked_line}
 use Rattle.gc_catalogue.specs.declared.raw.RawFault.{RawFault}
 use Rattle.gc_catalogue.specs.declared.raw.RawFault.TheVariants.{InTable, NotPlain, TooLong, OpenQuote, TooMany}
 use Rattle.gc_client.specs.Rule.{ById, Windowed, Sending, sends}
+use Rattle.geocom_c.specs.Rest.{IsRest}
 use Rattle.geocom_c.specs.State.{StandsFor, left_of}
 use Rattle.geocom_c.specs.declared.answers.GeocomCount.{GeocomCount}
-use Rattle.geocom_c.specs.declared.header.TheConstants.{WINDOW_FULL, IN_TABLE}
+use Rattle.geocom_c.specs.declared.header.TheConstants.{WINDOW_FULL, NO_ROOM, NO_CLIENT, NOT_BEGUN, IN_TABLE}
 use Rattle.geocom_c.specs.declared.state.GeocomClient.{GeocomClient}
 
 -- the state and the room for the line before and after a send, and what the send returned
@@ -23,24 +26,74 @@ pub record Sent : Type 0 where
   pub after : List ℕ
   pub told : GeocomCount
 
--- a send that the rule refuses returns that the window is full, and changes nothing; otherwise the line was written with its CR
--- LF, and the state is the rule's
-abbrev pub IsSent : (c : Windowed Asked) (rest : List ℕ) (asked : Asked) → Option (Sending (ById Asked)) → Sent → Type 0
-IsSent c rest asked None sent = (sent.told.fault ≡ WINDOW_FULL) × (sent.new ≡ sent.old) × (sent.after ≡ sent.before)
-IsSent c rest asked (Some s) sent =
+-- what a send of `asked` did and returned is what the client's rule says of it (None: the rule refuses it), where `c` is the client
+-- before the send and `rest` are the bytes since the last line feed. A send that is refused returns that the window is full, and
+-- changes nothing; otherwise the line was written with its CR LF, and the state is the rule's
+abbrev pub SendMeets : (c : Windowed Asked) (rest : List ℕ) (asked : Asked) → Option (Sending (ById Asked)) → Sent → Type 0
+SendMeets c rest asked None sent = (sent.told.fault ≡ WINDOW_FULL) × (sent.new ≡ sent.old) × (sent.after ≡ sent.before)
+SendMeets c rest asked (Some s) sent =
     (sent.told.fault ≡ 0) × StandsFor sent.new (record c { ids = s.client }) rest
     × (sent.told.count ≡ length (with_end (asked_line (Some s.id) asked))) × (take sent.told.count sent.after ≡ with_end (asked_line (Some s.id) asked))
 
--- a client that has synchronized sends `to x`, for each x of which `Is` holds, as the rule says
+-- a client that has synchronized sends `to x`, for each x of which `Is` holds, to this target and with this deadline, or refuses it
+-- where the window is full (`SendMeets`)
 abbrev pub SendsEach : {X : Type 0} → (to : X → Asked) → (Is : X → Type 0) → (target deadline : ℕ) → Sent → Type 0
 SendsEach {X = X} to Is target deadline sent =
     (c : Windowed Asked) (rest : List ℕ) (x : X) → StandsFor sent.old c rest → left_of sent.old ≡ [] → Is x
-    → IsSent c rest (to x) (sends c.width c.ids target (to x) deadline) sent
+    → SendMeets c rest (to x) (sends c.width c.ids target (to x) deadline) sent
 
--- the number of what is wrong with a raw request: a CR or LF has no form, as in a parameter of a call
+-- a client that has synchronized refuses with the number of e, for each e of which `Is` holds
+abbrev pub RefusesEach : {E : Type 0} → (Is : E → Type 0) → (number : E → ℕ) → GeocomClient → (fault : ℕ) → Type 0
+RefusesEach {E = E} Is number state fault = (c : Windowed Asked) (rest : List ℕ) (e : E) → StandsFor state c rest → left_of state ≡ [] → Is e → fault ≡ number e
+
+-- a fault that is neither that of a full window nor one of the library's own is the number of a refusal e of which `Is` holds
+abbrev pub IsRefusalNumber : {E : Type 0} → (Is : E → Type 0) → (number : E → ℕ) → (fault : ℕ) → Type 0
+IsRefusalNumber {E = E} Is number fault =
+    fault ≢ 0 → fault ≢ WINDOW_FULL → fault ≢ NO_ROOM → fault ≢ NO_CLIENT → fault ≢ NOT_BEGUN → (e : E) × Is e × (fault ≡ number e)
+
+-- a client that hasn't synchronized refuses to send
+abbrev pub RefusesUnbegun : GeocomClient → (fault : ℕ) → Type 0
+RefusesUnbegun state fault = (c : Windowed Asked) (rest : List ℕ) → StandsFor state c rest → left_of state ≢ [] → fault ≡ NOT_BEGUN
+
+-- the state is that of a client that has synchronized, it was asked for an x of which `Is` holds, and the number of its
+-- outstanding requests and its width meet `Fills`
+abbrev pub WasAsked : {X : Type 0} → (Is : X → Type 0) → (Fills : ℕ → ℕ → Type 0) → GeocomClient → Type 0
+WasAsked {X = X} Is Fills state =
+    (c : Windowed Asked) × (rest : List ℕ) × (x : X) × StandsFor state c rest × (left_of state ≡ []) × Is x × Fills (length c.ids.waiting) c.width
+
+-- the fault number of a raw request that is refused: of a CR or LF among its parameters that of a parameter that doesn't read
+-- (`Spelling`), of a line that is too long that of a long line
 abbrev pub raw_number : RawFault → ℕ
 raw_number InTable = IN_TABLE
 raw_number NotPlain = of_value.fault_number value.Spelling
 raw_number TooLong = of_line.fault_number line.TooLong
 raw_number OpenQuote = of_value.fault_number value.OpenQuote
 raw_number TooMany = of_value.fault_number value.TooMany
+
+-- the send that found the state `old` and the room `before`, left `new` and `after`, and returned `told`
+abbrev pub sent_of : (old new : GeocomClient) → (before after : List ℕ) → (told : GeocomCount) → Sent
+sent_of old new before after told = record { old = old; new = new; before = before; after = after; told = told }
+
+-- no part of a promise: the client `c` sends `asked` to this target and with this deadline, or refuses it where the window is full
+-- (`SendMeets`), if the state before has a valid rest of a line and a valid count of answered null procedures
+abbrev pub SendsAsked : (c : Windowed Asked) → (asked : Asked) → (target deadline : ℕ) → Sent → Type 0
+SendsAsked c asked target deadline sent =
+    (rest : List ℕ) → IsRest sent.old.rest rest → sent.old.answered ≤ 8 → SendMeets c rest asked (sends c.width c.ids target asked deadline) sent
+
+-- the fault that the client hasn't synchronized comes only of a state with ids that aren't answered
+abbrev pub TellsUnbegun : GeocomClient → (fault : ℕ) → Type 0
+TellsUnbegun state fault = fault ≡ NOT_BEGUN → left_of state ≢ []
+
+-- the fault of a full window comes only of a client that has synchronized, for an x of which `Is` holds, where as many requests are
+-- outstanding as its width says
+abbrev pub TellsFull : {X : Type 0} → (Is : X → Type 0) → GeocomClient → (fault : ℕ) → Type 0
+TellsFull Is state fault = fault ≡ WINDOW_FULL → WasAsked Is (λ count width. count ≡ width) state
+
+-- a fault of 0 comes only of a client that has synchronized, for an x of which `Is` holds, where fewer requests are outstanding than its
+-- width says
+abbrev pub TellsDone : {X : Type 0} → (Is : X → Type 0) → GeocomClient → (fault : ℕ) → Type 0
+TellsDone Is state fault = fault ≡ 0 → WasAsked Is (λ count width. count < width) state
+
+-- the raw call is of this number and these parameters
+abbrev pub IsRawOf : (procedure : ℕ) → (params : List ℕ) → RawCall → Type 0
+IsRawOf procedure params raw = IsAsked procedure params (Raw raw)

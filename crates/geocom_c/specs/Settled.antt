@@ -1,5 +1,5 @@
 -- The records of settlements, this project's own: what a record says of a settlement.
-use Rattle.std.specs.Prelude.{◌≡◌, ◌≤◌, ◌+◌, ℕ, List, [], ◌∷◌, length, take, drop, None}
+use Rattle.std.specs.Prelude.{◌≡◌, ◌≤◌, ◌+◌, ℕ, List, [], ◌∷◌, length, take, drop, map, All, None}
 use Rattle.gc_values.specs.ValueFault.{fault_number}
 use Rattle.gc_values.specs.Params.{IsParams}
 use Rattle.gc_values.specs.Lists.{AreItems}
@@ -12,9 +12,13 @@ use Rattle.gc_catalogue.specs.declared.asked.Asked.TheVariants.{Table, Raw}
 use Rattle.gc_catalogue.specs.Answers.{answer_fields}
 use Rattle.gc_catalogue.specs.Asked.{asked_request, IsAskedReading}
 use Rattle.gc_client.specs.Rule
+use Rattle.gc_client.specs.declared.pending.Pending.{Pending}
+use Rattle.gc_client.specs.Settlements.{IsReadBy, ReadsBy, settlement_seen}
+use Rattle.gc_client.specs.declared.settlement.Settlement.{Settlement}
 use Rattle.geocom_c.specs.FirstAre.{FirstAre}
 use Rattle.geocom_c.specs.declared.header.TheConstants.{ANSWERED, LATE, LOST, NONE, VALUE, REFUSED, COM_FAULT, UNREADABLE}
 use Rattle.geocom_c.specs.declared.listed.GeocomItem.{GeocomItem}
+use Rattle.geocom_c.specs.declared.listed.ListedLine.{ListedLine}
 use Rattle.geocom_c.specs.declared.settled.GeocomSettlement.{GeocomSettlement}
 
 -- the item is in the text where its place says
@@ -22,7 +26,12 @@ pub record StandsAt (text : List ℕ) (place : GeocomItem) (item : List ℕ) : T
   pub within : place.offset + place.length ≤ length text
   pub stands : take place.length (drop place.offset text) ≡ item
 
--- the items of an answer are its values if a call of the table was asked; of another procedure they are texts
+-- each of these items is in the text where its place says
+abbrev pub StandIn : (text : List ℕ) → (places : List GeocomItem) → (items : List (List ℕ)) → Type 0
+StandIn text places items = FirstAre (StandsAt text) places items
+
+-- if a call of the table was asked, these items are the values of its answer; of another procedure they are texts, of which nothing
+-- is said
 abbrev pub AreReadAs : Asked → Answer → List (List ℕ) → Type 0
 AreReadAs (Table call) answer items = AreItems items (answer_fields answer).values
 AreReadAs (Raw raw) answer items = Unit {0}
@@ -33,7 +42,7 @@ pub record AreListed (asked : Asked) (answer : Answer) (count : ℕ) (places : L
   pub split : IsParams params items
   pub read : AreReadAs asked answer items
   pub counted : count ≡ length items
-  pub stand : FirstAre (StandsAt text) places items
+  pub stand : StandIn text places items
 
 -- the record has the kind and the code of this reading of what was asked, and for a value the items of the parameters
 abbrev pub HasReading : Asked → GeocomSettlement → List ℕ → List ℕ → Reading → Type 0
@@ -68,11 +77,15 @@ HasOutcome r text asked (Rule.Answered line) = IsAnswered r text asked line
 HasOutcome r text asked Rule.Late = IsUnanswered r LATE
 HasOutcome r text asked Rule.Lost = IsUnanswered r LOST
 
+-- the number is that of the procedure that is asked for
+abbrev pub IsProcedureOf : (number : ℕ) → Asked → Type 0
+IsProcedureOf number asked = number ≡ (asked_request None asked).rpc
+
 -- a record says whom a request was for, its procedure, and how it ended; of an answer's line and its items, it says where they
 -- are in the text
 pub record IsRecord (text : List ℕ) (r : GeocomSettlement) (s : Rule.Settlement Asked) : Type 0 where
   pub target : r.target ≡ s.target
-  pub procedure : r.procedure ≡ (asked_request None s.call).rpc
+  pub procedure : IsProcedureOf r.procedure s.call
   pub outcome : HasOutcome r text s.call s.outcome
 
 -- no part of a promise: the number of a reading's kind, and its code
@@ -87,23 +100,57 @@ abbrev pub total : List (List ℕ) → ℕ
 total [] = 0
 total (item ∷ items) = length item + total items
 
--- no part of a promise: there are so many items, each of which stands in the text at its place
+-- no part of a promise: there are `count` items, each of which is in the text where its place says
 pub record AreStanding (count : ℕ) (places : List GeocomItem) (text : List ℕ) (items : List (List ℕ)) : Type 0 where
   pub counted : count ≡ length items
-  pub stand : FirstAre (StandsAt text) places items
+  pub stand : StandIn text places items
 
--- no part of a promise: the text of a line, in which the items of a reply's parameters stand, if these are at most 16
-pub record IsTold (text : List ℕ) (count : ℕ) (places : List GeocomItem) (line : List ℕ) : Type 0 where
+-- no part of a promise: the items of these parameters, if they are at most 16 items, are in the text, as many as `count` says, and where
+-- `places` says
+abbrev pub ListsItems : (text : List ℕ) → (count : ℕ) → (places : List GeocomItem) → (params : List ℕ) → Type 0
+ListsItems text count places params = (items : List (List ℕ)) → IsParams params items → length items ≤ 16 → AreStanding count places text items
+
+-- no part of a promise: the text begins with this line; and if the line is a reply whose parameters are at most 16 items, these
+-- are in the text, as many as `count` says, and where `places` says
+pub record IsListedLine (text : List ℕ) (count : ℕ) (places : List GeocomItem) (line : List ℕ) : Type 0 where
   pub front : take (length line) text ≡ line
   pub listed : (reply : ReplyFields) (items : List (List ℕ)) → IsReply line reply → IsParams reply.params items → length items ≤ 16 → AreStanding count places text items
 
 -- no part of a promise: an outcome that is an answer has this line
-abbrev pub IsBy : List ℕ → Rule.Outcome → Type 0
-IsBy line (Rule.Answered answer) = answer ≡ line
-IsBy line Rule.Late = Unit {0}
-IsBy line Rule.Lost = Unit {0}
+abbrev pub AnswerHasLine : List ℕ → Rule.Outcome → Type 0
+AnswerHasLine line (Rule.Answered answer) = answer ≡ line
+AnswerHasLine line Rule.Late = Unit {0}
+AnswerHasLine line Rule.Lost = Unit {0}
 
 -- no part of a promise: each of these settlements that is an answer has this line
-abbrev pub AreBy : List ℕ → List (Rule.Settlement Asked) → Type 0
-AreBy line [] = Unit {0}
-AreBy line (s ∷ ss) = IsBy line s.outcome × AreBy line ss
+abbrev pub AnswersHaveLine : List ℕ → List (Rule.Settlement Asked) → Type 0
+AnswersHaveLine line [] = Unit {0}
+AnswersHaveLine line (s ∷ ss) = AnswerHasLine line s.outcome × AnswersHaveLine line ss
+
+-- no part of a promise: what was listed is that of this line (`IsListedLine`)
+abbrev pub IsTextOf : ListedLine → (line : List ℕ) → Type 0
+IsTextOf told line = IsListedLine told.text.items told.items told.places line
+
+-- no part of a promise: what was listed is that of some line, which the settlement has if it is an answer
+abbrev pub ListsAnswer : ListedLine → Settlement Asked → Type 0
+ListsAnswer told settlement = (line : List ℕ) × IsTextOf told line × AnswerHasLine line (settlement_seen settlement).outcome
+
+-- no part of a promise: what was listed is that of some line, which each of these settlements has that is an answer
+abbrev pub ListsAnswers : ListedLine → List (Settlement Asked) → Type 0
+ListsAnswers told settled = (line : List ℕ) × IsTextOf told line × AnswersHaveLine line (map settlement_seen settled)
+
+-- no part of a promise: each answer among these settlements was read as a reply to what was asked
+abbrev pub AreRead : List (Settlement Asked) → Type 0
+AreRead settled = All (λ s. IsReadBy IsAskedReading s.call s.outcome) settled
+
+-- no part of a promise: these settlements are those of some requests that are lost
+abbrev pub AreLost : List (Settlement Asked) → Type 0
+AreLost settled = (ps : List (Pending Asked)) × (map settlement_seen settled ≡ map Rule.lost ps)
+
+-- no part of a promise: the first records are those of these settlements, in order, with this text
+abbrev pub AreRecords : (text : List ℕ) → (records : List GeocomSettlement) → List (Settlement Asked) → Type 0
+AreRecords text records settled = FirstAre (IsRecord text) records (map settlement_seen settled)
+
+-- no part of a promise: the record is that of an answer (`IsAnswered`) if the line has this reading as a reply to what was asked
+abbrev pub TellsReading : GeocomSettlement → (text : List ℕ) → Asked → (line : List ℕ) → Reading → Type 0
+TellsReading r text asked line reading = ReadsBy IsAskedReading asked line reading → IsAnswered r text asked line

@@ -1,6 +1,6 @@
 -- What the bytes of a state stand for: a client, the bytes since the last line feed, and how far its synchronization came. This
 -- project's own.
-use Rattle.std.specs.Prelude.{◌≡◌, ℕ, ◌<◌, ◌≤◌, List, length, take, drop, if◌then◌else◌, None}
+use Rattle.std.specs.Prelude.{◌≡◌, ℕ, ◌<◌, ◌≤◌, List, length, take, drop, if◌then◌else◌, Option, Some, None}
 use Rattle.gc_lines.specs.Requests.{RequestFields, IsRequest}
 use Rattle.gc_catalogue.specs.declared.asked.Asked.{Asked}
 use Rattle.gc_catalogue.specs.Asked.{IsAsked}
@@ -29,6 +29,10 @@ pub record IsPlace (w : GeocomWaiting) (p : Pending Asked) : Type 0 where
   pub within : w.length ≤ 512
   pub line : IsLineOf (take w.length w.line) p.call
 
+-- the first of these places have the bytes of these requests, in order
+abbrev pub HoldRequests : (places : List GeocomWaiting) → (requests : List (Pending Asked)) → Type 0
+HoldRequests places requests = FirstAre IsPlace places requests
+
 -- the numbers of a state can be a client's: the width, the next id, how many requests are outstanding, and how many null
 -- procedures are answered
 pub record HasHead (s : GeocomClient) : Type 0 where
@@ -47,9 +51,26 @@ pub record StandsFor (s : GeocomClient) (c : Windowed Asked) (rest : List ℕ) :
   pub next : s.next ≡ c.ids.next
   pub waiting : s.waiting ≡ length c.ids.waiting
   pub head : HasHead s
-  pub places : FirstAre IsPlace s.places c.ids.waiting
+  pub places : HoldRequests s.places c.ids.waiting
   pub under_way : IsRest s.rest rest
 
 -- the bytes of a state are no client's
 abbrev pub IsAstray : GeocomClient → Type 0
 IsAstray s = (c : Windowed Asked) (rest : List ℕ) → StandsFor s c rest → ⊥
+
+-- the bytes of a state are some client's
+abbrev pub IsClients : GeocomClient → Type 0
+IsClients s = (c : Windowed Asked) × (rest : List ℕ) × StandsFor s c rest
+
+-- the synchronization has come as far in the state `new` as in `old`
+abbrev pub KeepsAnswered : (old new : GeocomClient) → Type 0
+KeepsAnswered old new = new.answered ≡ old.answered
+
+-- no part of a promise: if the state `old` has a valid rest of a line and a valid count of answered null procedures, the state `new`
+-- stands for the client `c`, with that rest
+abbrev pub Becomes : (old new : GeocomClient) → (c : Windowed Asked) → Type 0
+Becomes old new c = (rest : List ℕ) → IsRest old.rest rest → old.answered ≤ 8 → StandsFor new c rest
+
+-- no part of a promise: any `count` requests that `places` hold, at their front, are what was read (`found`)
+abbrev pub IsOnlyReading : (places : List GeocomWaiting) → (count : ℕ) → (found : Option (List (Pending Asked))) → Type 0
+IsOnlyReading places count found = (ps : List (Pending Asked)) → length ps ≡ count → HoldRequests places ps → found ≡ Some ps

@@ -32,7 +32,7 @@ asked_by None = []
 asked_by (Some line) = Null ∷ []
 
 -- the events of a begin: while the client synchronizes, each line that the bytes end comes, and then a null procedure may be
--- sent. Once it has begun there are none, and the lines are discarded
+-- sent. Once it has synchronized there are none, and the lines are discarded
 abbrev pub begins_by : List ℕ → List ℕ → List ℕ → List Event
 begins_by [] rest bytes = []
 begins_by (asked ∷ later) rest bytes = map Came (lines_behind rest bytes) ++ asked_by (given bytes (asked ∷ later) (left_behind (asked ∷ later) rest bytes))
@@ -42,17 +42,19 @@ abbrev pub goes_by : List ℕ → List (one.Step Asked) → List Event
 goes_by [] steps = map Went steps
 goes_by (asked ∷ later) steps = []
 
--- these calls are these events, by the ids that aren't answered and the bytes since the last line feed. A send is a step if the
--- client has synchronized, and its number and parameters are a call's, with room in the window or not; a raw send if they may
--- be asked for as they are; otherwise it is nothing. Each line that bytes end is a step, and so is a moment; a restart is one,
--- and forgets the bytes of a line. Lines that are fed while the client synchronizes are discarded
+-- these calls are these events, by the ids that aren't answered (`left`) and the bytes since the last line feed (`rest`). A send
+-- is a step if the client has synchronized, and its number and parameters are a call's, whether the window has room or not; a raw
+-- send is one if they are a raw call's; otherwise the send is no event. Each line that bytes end is a step, and so is a moment; a
+-- restart is one, too, and discards `rest`. Lines that are fed while the client synchronizes are discarded
 abbrev pub AreEvents : List ℕ → List ℕ → List Step → List Event → Type 0
 AreEvents left rest [] events = events ≡ []
 AreEvents left rest (Send target deadline procedure params ∷ calls) events =
-    ((call : Call) × (later : List Event) × (left ≡ []) × IsCall procedure params.now call × (events ≡ Went (one.Send target (Table call) deadline) ∷ later) × AreEvents left rest calls later)
+    ((call : Call) × (later : List Event) × (left ≡ []) × IsCall procedure params.now call × (events ≡ Went (one.Send target (Table call) deadline) ∷ later)
+    × AreEvents left rest calls later)
     ⊎ ((left ≡ [] → (call : Call) → IsCall procedure params.now call → ⊥) × AreEvents left rest calls events)
 AreEvents left rest (SendRaw target deadline procedure params ∷ calls) events =
-    ((raw : RawCall) × (later : List Event) × (left ≡ []) × IsAsked procedure params.now (Raw raw) × (events ≡ Went (one.Send target (Raw raw) deadline) ∷ later) × AreEvents left rest calls later)
+    ((raw : RawCall) × (later : List Event) × (left ≡ []) × IsAsked procedure params.now (Raw raw) × (events ≡ Went (one.Send target (Raw raw) deadline) ∷ later)
+    × AreEvents left rest calls later)
     ⊎ ((left ≡ [] → (raw : RawCall) → IsAsked procedure params.now (Raw raw) → ⊥) × AreEvents left rest calls events)
 AreEvents left rest (Begin bytes ∷ calls) events =
     (later : List Event) × (events ≡ begins_by left rest bytes.now ++ later) × AreEvents (left_behind left rest bytes.now) (rest_behind rest bytes.now) calls later
@@ -89,8 +91,8 @@ AreInTurn left (Null ∷ events) = AreInTurn left events
 AreInTurn left (Came line ∷ events) = AreInTurn (left_by left (heard line)) events
 AreInTurn left (Went step ∷ events) = (left ≡ []) × AreInTurn (left_by_step step) events
 
--- these calls are one list of events, and no other, each in its turn; and they bring the client to what its rule makes of the steps
--- among those events
+-- these calls are one list of events, and no other, each in its turn; and they bring the client to what its rule makes of the
+-- steps among those events
 pub record IsOverEvents (width : ℕ) (calls : List Step) (t : Stage) : Type 0 where
   pub events : List Event
   pub are : AreEvents the_word [] calls events

@@ -1,6 +1,7 @@
 //! What a call of the C library returns, in plain fields.
 
 ghost use Rattle.std.specs.Prelude.{◌≡◌, ◌↔◌};
+ghost use Rattle.geocom_c.specs.Beginning.{unbegun_with};
 ghost use Rattle.geocom_c.specs.declared.header.TheConstants.{MORE};
 
 use crate::header::MORE;
@@ -22,7 +23,7 @@ pub struct GeocomDeadline {
     pub is_set: u32,
 }
 
-/// What came of a synchronization: a fault or 0, and how many bytes of a line are to be written.
+/// What a `geocom_client_begin` returns: a fault or 0, how many bytes of a line are to be sent, and how far the synchronization is.
 #[repr(C)]
 #[derive(Clone, Copy)]
 pub struct GeocomBeginning {
@@ -31,7 +32,7 @@ pub struct GeocomBeginning {
     pub count: u32,
     /// How many null procedures are answered, of eight.
     pub answered: u32,
-    /// 1 once all are; otherwise 0.
+    /// 1 once all eight are answered; otherwise 0.
     pub has_begun: u32,
 }
 
@@ -65,7 +66,7 @@ pub(crate) fn refused(fault: u32) -> GeocomCount
     GeocomCount { fault, count: 0 }
 }
 
-// Success: `count` bytes of a line are to be written, and `answered` null procedures are answered so far.
+// Success: `count` bytes of a line are to be sent, and `answered` null procedures are answered so far.
 pub(crate) fn begun(count: u32, answered: u8) -> GeocomBeginning
     ensures fault { result.fault ≡ 0 }
     ensures count { result.count ≡ count }
@@ -82,7 +83,7 @@ pub(crate) fn begun(count: u32, answered: u8) -> GeocomBeginning
 
 // The fault of a synchronization that heard nothing; all other fields are 0.
 pub(crate) fn unbegun(fault: u32) -> GeocomBeginning
-    ensures { result ≡ record { fault = fault; count = 0; answered = 0; has_begun = 0 } }
+    ensures { result ≡ unbegun_with fault }
 {
     GeocomBeginning {
         fault,
@@ -92,7 +93,8 @@ pub(crate) fn unbegun(fault: u32) -> GeocomBeginning
     }
 }
 
-// Success of a feed whose bytes ended a frame of this kind, and which wrote `count` records. `used` is 0 here; `using` sets it.
+// Success of a feed whose bytes ended a frame of this kind, and which wrote `count` records. `line_fault` is the number of what is
+// wrong with the line, or 0. `used` is 0 here; `using` sets it.
 pub(crate) fn heard(kind: u32, line_fault: u32, count: u32) -> GeocomHeard
     ensures { result ≡ record { used = 0; fault = 0; count = count; kind = kind; line_fault = line_fault } }
 {

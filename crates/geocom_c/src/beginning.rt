@@ -1,17 +1,15 @@
 //! The synchronization: a client sends nothing before eight null procedures were answered, so that no old reply is taken for an
 //! answer.
 
-ghost use Rattle.std.specs.Prelude.{◌≡◌, ◌≢◌, ◌↔◌, ◌<◌, ◌≤◌, ◌+◌, ◌++◌, ℕ, Bool, List, [], length, take, drop, Some, None, true, false};
-ghost use Rattle.std.specs.List.{position};
-ghost use Rattle.gc_lines.specs.Frames.{is_line_feed, frame_of, rest_behind};
-ghost use Rattle.gc_catalogue.specs.declared.asked.Asked.{Asked};
+ghost use Rattle.std.specs.Prelude.{◌≡◌, ◌≤◌, ℕ, List, length, drop};
+ghost use Rattle.gc_lines.specs.Frames.{rest_behind};
 ghost use Rattle.gc_client.specs.Beginning.{asks};
-ghost use Rattle.gc_client.specs.Rule.{Windowed};
-ghost use Rattle.geocom_c.specs.Beginning.{given, given_if, IsGiven, left_behind, left_past};
+ghost use Rattle.geocom_c.specs.Beginning.{given, given_if, left_behind, left_past, BeginFaultLeavesAll, GivesLine, HearsBytes, HearsFirst, IsGiven, KeepsUnended, TellsBegun};
 ghost use Rattle.gc_client.specs.Beginning.{the_word};
-ghost use Rattle.geocom_c.specs.Rest.{IsCut, IsRest};
-ghost use Rattle.geocom_c.specs.State.{StandsFor, IsAstray, left_of};
-ghost use Rattle.geocom_c.specs.declared.header.TheConstants.{LINE_ROOM, NO_ROOM, NO_CLIENT};
+ghost use Rattle.geocom_c.specs.Rest.{IsValid, IsRest, UsesBytes};
+ghost use Rattle.geocom_c.specs.Rooms.{KeepsLength, LeavesRest, TellsNoClient, TellsNoRoom};
+ghost use Rattle.geocom_c.specs.State.{IsClients};
+ghost use Rattle.geocom_c.specs.declared.header.TheConstants.{LINE_ROOM};
 
 use crate::answers::{GeocomBeginning, begun, unbegun};
 use crate::header::{LINE_ROOM, NO_CLIENT, NO_ROOM};
@@ -35,12 +33,10 @@ fn hear_frame(beginning: &mut Beginning, frame: &Frame)
 // Takes bytes through the first line feed, and hands the line that it ends to the synchronization. Without a line feed all
 // bytes are kept. Returns how many were used.
 fn hear_line(rest: &mut GeocomRest, beginning: &mut Beginning, bytes: &[u8]) -> usize
-    requires { IsCut rest.old }
-    ensures used { (result ≤ length bytes.now) × (0 < length bytes.now → 0 < result) }
-    ensures more { (r : List ℕ) → IsRest rest.old r → position is_line_feed bytes.now ≡ None
-        → (result ≡ length bytes.now) × IsRest rest.new (r ++ bytes.now) × (beginning.new ≡ beginning.old) }
-    ensures frame { (r : List ℕ) (at : ℕ) → IsRest rest.old r → position is_line_feed bytes.now ≡ Some at
-        → (result ≡ at + 1) × IsRest rest.new [] × (beginning.new ≡ left_past beginning.old (frame_of (r ++ take at bytes.now))) }
+    requires { IsValid rest.old }
+    ensures used { UsesBytes result bytes.now }
+    ensures more { KeepsUnended bytes.now result rest.old rest.new beginning.old beginning.new }
+    ensures frame { HearsFirst bytes.now result rest.old rest.new beginning.old beginning.new }
 {
     let (used, frame) = rest.frame(bytes);
     match frame {
@@ -58,7 +54,7 @@ fn hear_line(rest: &mut GeocomRest, beginning: &mut Beginning, bytes: &[u8]) -> 
 
 // Uses all bytes: hands each line that they end to the synchronization, which discards those after the eighth answer.
 fn hear_all(rest: &mut GeocomRest, beginning: &mut Beginning, bytes: &[u8])
-    requires { IsCut rest.old }
+    requires { IsValid rest.old }
     ensures { (r : List ℕ) → IsRest rest.old r
         → IsRest rest.new (rest_behind r bytes.now) × (beginning.new ≡ left_behind beginning.old r bytes.now) }
 {
@@ -74,8 +70,8 @@ fn hear_all(rest: &mut GeocomRest, beginning: &mut Beginning, bytes: &[u8])
 fn ask(beginning: &Beginning, line: &mut [u8]) -> u32
     requires { LINE_ROOM ≤ length line.old }
     ensures asked { (told : GeocomBeginning) → told.count ≡ result → IsGiven (asks beginning.now) told line.new }
-    ensures untouched { drop result line.new ≡ drop result line.old }
-    ensures length { length line.new ≡ length line.old }
+    ensures untouched { LeavesRest result line.old line.new }
+    ensures length { KeepsLength line.old line.new }
 {
     match beginning.ask() {
         Some(text) => {
@@ -92,8 +88,8 @@ fn ask(beginning: &Beginning, line: &mut [u8]) -> u32
 fn ask_if(is_waiting: bool, beginning: &Beginning, line: &mut [u8]) -> u32
     requires { LINE_ROOM ≤ length line.old }
     ensures asked { (told : GeocomBeginning) → told.count ≡ result → IsGiven (given_if is_waiting beginning.now) told line.new }
-    ensures untouched { drop result line.new ≡ drop result line.old }
-    ensures length { length line.new ≡ length line.old }
+    ensures untouched { LeavesRest result line.old line.new }
+    ensures length { KeepsLength line.old line.new }
 {
     if is_waiting {
         return 0;
@@ -101,7 +97,8 @@ fn ask_if(is_waiting: bool, beginning: &Beginning, line: &mut [u8]) -> u32
     ask(beginning, line)
 }
 
-// Whether the null procedure that was sent is still waited for: bytes came, and answered none.
+// Whether the null procedure that was sent is still waited for: bytes came, and answered none. `before` and `after` are how many null
+// procedures were answered before and after these bytes.
 fn is_waiting(bytes: &[u8], before: u8, after: u8) -> bool
     requires before { before ≤ 8 }
     requires after { after ≤ 8 }
@@ -126,18 +123,16 @@ pub extern "C" fn geocom_client_begin(
     bytes: &[u8],
     line: &mut [u8],
 ) -> GeocomBeginning
-    ensures heard { LINE_ROOM ≤ length line.old → (c : Windowed Asked) (rest : List ℕ) → StandsFor state.old c rest
-        → (result.fault ≡ 0) × StandsFor state.new c (rest_behind rest bytes.now)
-        × (left_of state.new ≡ left_behind (left_of state.old) rest bytes.now) }
-    ensures given { result.fault ≡ 0 → IsGiven (given bytes.now (left_of state.old) (left_of state.new)) result line.new }
-    ensures begun { result.fault ≡ 0 → (result.has_begun ≡ 1) ↔ (left_of state.new ≡ []) }
+    ensures heard { LINE_ROOM ≤ length line.old → HearsBytes bytes.now state.old state.new result.fault }
+    ensures given { GivesLine bytes.now state.old state.new result line.new }
+    ensures begun { TellsBegun result state.new }
     ensures answered { result.fault ≡ 0 → result.answered ≡ state.new.answered }
-    ensures room { (result.fault ≡ NO_ROOM) ↔ (length line.old < LINE_ROOM) }
-    ensures astray { (result.fault ≡ NO_CLIENT) ↔ ((LINE_ROOM ≤ length line.old) × IsAstray state.old) }
-    ensures done { result.fault ≡ 0 → (c : Windowed Asked) × (rest : List ℕ) × StandsFor state.old c rest }
-    ensures refused { result.fault ≢ 0 → (result ≡ record { fault = result.fault; count = 0; answered = 0; has_begun = 0 }) × (state.new ≡ state.old) × (line.new ≡ line.old) }
-    ensures untouched { drop result.count line.new ≡ drop result.count line.old }
-    ensures length { length line.new ≡ length line.old }
+    ensures room { TellsNoRoom line.old LINE_ROOM result.fault }
+    ensures astray { TellsNoClient line.old LINE_ROOM state.old result.fault }
+    ensures done { result.fault ≡ 0 → IsClients state.old }
+    ensures refused { BeginFaultLeavesAll result state.old state.new line.old line.new }
+    ensures untouched { LeavesRest result.count line.old line.new }
+    ensures length { KeepsLength line.old line.new }
 {
     if line.len() < LINE_ROOM {
         return unbegun(NO_ROOM);

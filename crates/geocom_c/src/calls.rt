@@ -1,13 +1,13 @@
 //! The calls that need no text: a new client, a moment, the earliest deadline, and how many are outstanding.
 
-ghost use Rattle.std.specs.Prelude.{◌≡◌, ◌≢◌, ◌↔◌, ◌<◌, ◌≤◌, ℕ, List, [], length, take, drop, Some, None, if◌then◌else◌};
-ghost use Rattle.gc_catalogue.specs.declared.asked.Asked.{Asked};
-ghost use Rattle.gc_client.specs.Rule.{Windowed, IsWidth, deadlines, IsEarliest};
+ghost use Rattle.std.specs.Prelude.{◌≡◌, ◌≢◌, ◌↔◌, ◌≤◌, [], length, take};
+ghost use Rattle.gc_client.specs.Rule.{IsWidth};
 ghost use Rattle.gc_client.specs.Rule;
 ghost use Rattle.gc_client.specs.Beginning.{the_word};
-ghost use Rattle.geocom_c.specs.State.{StandsFor, IsAstray, left_of};
-ghost use Rattle.geocom_c.specs.Deadlines.{HasExpired, earliest_in};
-ghost use Rattle.geocom_c.specs.declared.header.TheConstants.{VERSION, NO_WIDTH, NO_ROOM, NO_CLIENT};
+ghost use Rattle.geocom_c.specs.State.{StandsFor, IsAstray, IsClients, KeepsAnswered, left_of};
+ghost use Rattle.geocom_c.specs.Rooms.{FaultLeavesAll, FitsTheWindow, KeepsLength, LeavesRest, TellsNoClient, TellsNoRoom};
+ghost use Rattle.geocom_c.specs.Deadlines.{Expires, IsBlankIfUnset, TellsEarliest, TellsWaiting};
+ghost use Rattle.geocom_c.specs.declared.header.TheConstants.{VERSION, NO_WIDTH, NO_CLIENT};
 ghost use Rattle.gc_client.specs.declared.window.TheConstants.{WINDOW};
 
 use crate::answers::{GeocomCount, GeocomDeadline, counted, refused};
@@ -30,7 +30,7 @@ pub extern "C" fn geocom_version() -> u32
     VERSION
 }
 
-/// Makes a client that hasn't begun, and has sent nothing. It lets `width` requests wait, 1 to 7.
+/// Makes a client that hasn't synchronized, and has sent nothing. At most `width` requests may be outstanding, 1 to 7. Returns 0.
 ///
 /// Fault 61: another width; the state is as it was.
 #[unsafe(no_mangle)]
@@ -50,14 +50,14 @@ pub extern "C" fn geocom_client_init(state: &mut GeocomClient, width: u8) -> u32
 fn put_targets(targets: &mut [u32], due: &[u32])
     requires { length due.now ≤ length targets.old }
     ensures targets { take (length due.now) targets.new ≡ due.now }
-    ensures untouched { drop (length due.now) targets.new ≡ drop (length due.now) targets.old }
-    ensures length { length targets.new ≡ length targets.old }
+    ensures untouched { LeavesRest (length due.now) targets.old targets.new }
+    ensures length { KeepsLength targets.old targets.new }
 {
     targets[..due.len()].copy_from_slice(due);
 }
 
-/// Times out each request whose deadline is at most `now`, and writes the targets of those that hadn't timed out before,
-/// `count` of them. What is after these stays.
+/// Times out each request whose deadline is at most `now`, and writes the targets of those that hadn't timed out before to the
+/// front of `targets`: `count` of them, and nothing after these.
 ///
 /// Faults: 62, `targets` has fewer than seven places; 63, the state is no client's. After a fault nothing has changed.
 #[unsafe(no_mangle)]
@@ -66,16 +66,15 @@ pub extern "C" fn geocom_client_expire(
     now: u64,
     targets: &mut [u32],
 ) -> GeocomCount
-    ensures expired { WINDOW ≤ length targets.old → (c : Windowed Asked) (rest : List ℕ) → StandsFor state.old c rest
-        → HasExpired c rest now state.new result targets.new }
-    ensures room { (result.fault ≡ NO_ROOM) ↔ (length targets.old < WINDOW) }
-    ensures astray { (result.fault ≡ NO_CLIENT) ↔ ((WINDOW ≤ length targets.old) × IsAstray state.old) }
-    ensures done { result.fault ≡ 0 → (c : Windowed Asked) × (rest : List ℕ) × StandsFor state.old c rest }
-    ensures refused { result.fault ≢ 0 → (result.count ≡ 0) × (state.new ≡ state.old) × (targets.new ≡ targets.old) }
-    ensures few { result.count ≤ WINDOW }
-    ensures answered { state.new.answered ≡ state.old.answered }
-    ensures untouched { drop result.count targets.new ≡ drop result.count targets.old }
-    ensures length { length targets.new ≡ length targets.old }
+    ensures expired { WINDOW ≤ length targets.old → Expires now state.old state.new result targets.new }
+    ensures room { TellsNoRoom targets.old WINDOW result.fault }
+    ensures astray { TellsNoClient targets.old WINDOW state.old result.fault }
+    ensures done { result.fault ≡ 0 → IsClients state.old }
+    ensures refused { FaultLeavesAll result state.old state.new targets.old targets.new }
+    ensures few { FitsTheWindow result.count }
+    ensures answered { KeepsAnswered state.old state.new }
+    ensures untouched { LeavesRest result.count targets.old targets.new }
+    ensures length { KeepsLength targets.old targets.new }
 {
     if targets.len() < WINDOW {
         return refused(NO_ROOM);
@@ -95,12 +94,11 @@ pub extern "C" fn geocom_client_expire(
 /// Fault 63: the state is no client's.
 #[unsafe(no_mangle)]
 pub extern "C" fn geocom_client_next_deadline(state: &GeocomClient) -> GeocomDeadline
-    ensures earliest { (c : Windowed Asked) (rest : List ℕ) → StandsFor state.now c rest → (result.fault ≡ 0)
-        × IsEarliest (deadlines c.ids.waiting) (earliest_in result) }
+    ensures earliest { TellsEarliest state.now result }
     ensures astray { (result.fault ≡ NO_CLIENT) ↔ IsAstray state.now }
-    ensures done { result.fault ≡ 0 → (c : Windowed Asked) × (rest : List ℕ) × StandsFor state.now c rest }
+    ensures done { result.fault ≡ 0 → IsClients state.now }
     ensures refused { result.fault ≢ 0 → result.is_set ≡ 0 }
-    ensures unset { result.is_set ≢ 1 → (result.is_set ≡ 0) × (result.deadline ≡ 0) }
+    ensures unset { IsBlankIfUnset result }
 {
     let Some(client) = load(state) else {
         return GeocomDeadline {
@@ -123,10 +121,9 @@ pub extern "C" fn geocom_client_next_deadline(state: &GeocomClient) -> GeocomDea
 /// Fault 63: the state is no client's.
 #[unsafe(no_mangle)]
 pub extern "C" fn geocom_client_waiting(state: &GeocomClient) -> GeocomCount
-    ensures waiting { (c : Windowed Asked) (rest : List ℕ) → StandsFor state.now c rest → (result.fault ≡ 0)
-        × (result.count ≡ length c.ids.waiting) }
+    ensures waiting { TellsWaiting state.now result }
     ensures astray { (result.fault ≡ NO_CLIENT) ↔ IsAstray state.now }
-    ensures done { result.fault ≡ 0 → (c : Windowed Asked) × (rest : List ℕ) × StandsFor state.now c rest }
+    ensures done { result.fault ≡ 0 → IsClients state.now }
     ensures refused { result.fault ≢ 0 → result.count ≡ 0 }
 {
     match load(state) {

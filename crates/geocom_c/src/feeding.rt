@@ -1,23 +1,22 @@
 //! Feeding: bytes come in any pieces, and the line that a line feed ends settles requests; so does a restart.
 
-ghost use Rattle.std.specs.Prelude.{◌≡◌, ◌≢◌, ◌↔◌, ◌<◌, ◌≤◌, ◌+◌, ◌++◌, ℕ, List, [], length, take, drop, Some, None, IsTrue};
-ghost use Rattle.std.specs.List.{position};
-ghost use Rattle.gc_lines.specs.Frames.{is_line_feed, frame_of};
+ghost use Rattle.std.specs.Prelude.{◌≡◌, ◌↔◌, ◌<◌, ◌≤◌, ℕ, List, length, drop, IsTrue};
 ghost use Rattle.gc_catalogue.specs.declared.asked.Asked.{Asked};
 ghost use Rattle.gc_client.specs.Rule.{Windowed};
 ghost use Rattle.gc_client.specs.Beginning.{the_word};
 ghost use Rattle.gc_client.specs.declared.window.TheConstants.{WINDOW};
 ghost use Rattle.geocom_c.specs.Beginning.{anew};
-ghost use Rattle.geocom_c.specs.Rest.{IsCut, IsRest};
-ghost use Rattle.geocom_c.specs.State.{StandsFor, IsAstray, left_of};
-ghost use Rattle.geocom_c.specs.Feeding.{FeedsFrame, HasRestarted, HasRoom, IsFed, behind, unended};
+ghost use Rattle.geocom_c.specs.Rest.{IsValid, UsesBytes};
+ghost use Rattle.geocom_c.specs.State.{Becomes, IsAstray, IsClients, KeepsAnswered, StandsFor, left_of};
+ghost use Rattle.geocom_c.specs.Rooms.{FaultLeavesAll, FitsTheWindow, KeepsLength, LeavesRest, TellsNoClient, TellsNoRoom};
+ghost use Rattle.geocom_c.specs.Feeding.{FeedFaultLeavesState, FeedsFirst, FeedsUnended, HasRoom, IsFed, IsSilent, Restarts, behind};
 ghost use Rattle.geocom_c.specs.declared.header.TheConstants.{NO_ROOM, NO_CLIENT};
 
 use crate::answers::{GeocomCount, GeocomHeard, counted, heard, refused, unheard, using};
 use crate::header::{
     CLEARED, MORE, NO_CLIENT, NO_ROOM, OVERLONG, SETTLED, STRAY, TEXT_ROOM, UNREAD,
 };
-use crate::listed::tell;
+use crate::listed::list_line;
 use crate::rest::{GeocomRest, put};
 use crate::settled::{GeocomSettlement, put_lost, put_records};
 use crate::state::{GeocomClient, load, store};
@@ -43,20 +42,19 @@ fn hear(
 ) -> GeocomHeard
     requires { HasRoom settlements.old text.old }
     ensures fed { IsFed client (Frame.Line line.now) result settlements.new text.new }
-    ensures state { (rest : List ℕ) → IsRest state.old.rest rest → state.old.answered ≤ 8
-        → StandsFor state.new (behind client (Frame.Line line.now)) rest }
-    ensures answered { state.new.answered ≡ state.old.answered }
-    ensures untouched { drop result.count settlements.new ≡ drop result.count settlements.old }
-    ensures records { length settlements.new ≡ length settlements.old }
-    ensures text { length text.new ≡ length text.old }
-    ensures few { result.count ≤ WINDOW }
-    ensures silent { result.count ≡ 0 → (settlements.new ≡ settlements.old) × (text.new ≡ text.old) }
+    ensures state { Becomes state.old state.new (behind client (Frame.Line line.now)) }
+    ensures answered { KeepsAnswered state.old state.new }
+    ensures untouched { LeavesRest result.count settlements.old settlements.new }
+    ensures records { KeepsLength settlements.old settlements.new }
+    ensures text { KeepsLength text.old text.new }
+    ensures few { FitsTheWindow result.count }
+    ensures silent { IsSilent result.count settlements.old settlements.new text.old text.new }
 {
     let told = client.on_line(line);
     store(state, client);
     match told {
         Heard::Settled(settled) => {
-            let answer = tell(line);
+            let answer = list_line(line);
             put(text, 0, answer.text.as_slice());
             put_records(settlements, settled.as_slice(), &answer);
             heard(SETTLED, 0, settled.len() as u32)
@@ -77,12 +75,12 @@ fn feed_frame(
     requires { HasRoom settlements.old text.old }
     ensures fed { IsFed client frame.now result settlements.new text.new }
     ensures state { (rest : List ℕ) → StandsFor state.old client rest → StandsFor state.new (behind client frame.now) rest }
-    ensures answered { state.new.answered ≡ state.old.answered }
-    ensures untouched { drop result.count settlements.new ≡ drop result.count settlements.old }
-    ensures records { length settlements.new ≡ length settlements.old }
-    ensures text { length text.new ≡ length text.old }
-    ensures few { result.count ≤ WINDOW }
-    ensures silent { result.count ≡ 0 → (settlements.new ≡ settlements.old) × (text.new ≡ text.old) }
+    ensures answered { KeepsAnswered state.old state.new }
+    ensures untouched { LeavesRest result.count settlements.old settlements.new }
+    ensures records { KeepsLength settlements.old settlements.new }
+    ensures text { KeepsLength text.old text.new }
+    ensures few { FitsTheWindow result.count }
+    ensures silent { IsSilent result.count settlements.old settlements.new text.old text.new }
 {
     match frame {
         Frame::Line(line) => hear(state, client, line, settlements, text),
@@ -101,19 +99,17 @@ fn feed(
     text: &mut [u8],
 ) -> GeocomHeard
     requires room { HasRoom settlements.old text.old }
-    requires cut { IsCut state.old.rest }
-    ensures more { (rest : List ℕ) → StandsFor state.old client rest → position is_line_feed bytes.now ≡ None
-        → (result ≡ unended (length bytes.now)) × StandsFor state.new client (rest ++ bytes.now) }
-    ensures frame { (rest : List ℕ) (at : ℕ) → StandsFor state.old client rest → position is_line_feed bytes.now ≡ Some at
-        → FeedsFrame client (frame_of (rest ++ take at bytes.now)) (at + 1) state.new result settlements.new text.new }
+    requires cut { IsValid state.old.rest }
+    ensures more { FeedsUnended client bytes.now state.old state.new result }
+    ensures frame { FeedsFirst client bytes.now state.old state.new result settlements.new text.new }
     ensures fault { result.fault ≡ 0 }
-    ensures answered { state.new.answered ≡ state.old.answered }
-    ensures used { (result.used ≤ length bytes.now) × (0 < length bytes.now → 0 < result.used) }
-    ensures untouched { drop result.count settlements.new ≡ drop result.count settlements.old }
-    ensures records { length settlements.new ≡ length settlements.old }
-    ensures text { length text.new ≡ length text.old }
-    ensures few { result.count ≤ WINDOW }
-    ensures silent { result.count ≡ 0 → (settlements.new ≡ settlements.old) × (text.new ≡ text.old) }
+    ensures answered { KeepsAnswered state.old state.new }
+    ensures used { UsesBytes result.used bytes.now }
+    ensures untouched { LeavesRest result.count settlements.old settlements.new }
+    ensures records { KeepsLength settlements.old settlements.new }
+    ensures text { KeepsLength text.old text.new }
+    ensures few { FitsTheWindow result.count }
+    ensures silent { IsSilent result.count settlements.old settlements.new text.old text.new }
 {
     let (used, frame) = state.rest.frame(bytes);
     match frame {
@@ -143,23 +139,20 @@ pub extern "C" fn geocom_client_feed(
     settlements: &mut [GeocomSettlement],
     text: &mut [u8],
 ) -> GeocomHeard
-    ensures more { HasRoom settlements.old text.old → (c : Windowed Asked) (rest : List ℕ) → StandsFor state.old c rest
-        → position is_line_feed bytes.now ≡ None → (result ≡ unended (length bytes.now)) × StandsFor state.new c (rest ++ bytes.now) }
-    ensures frame { HasRoom settlements.old text.old → (c : Windowed Asked) (rest : List ℕ) (at : ℕ) → StandsFor state.old c rest
-        → position is_line_feed bytes.now ≡ Some at
-        → FeedsFrame c (frame_of (rest ++ take at bytes.now)) (at + 1) state.new result settlements.new text.new }
+    ensures more { HasRoom settlements.old text.old → (c : Windowed Asked) → FeedsUnended c bytes.now state.old state.new result }
+    ensures frame { HasRoom settlements.old text.old → (c : Windowed Asked)
+        → FeedsFirst c bytes.now state.old state.new result settlements.new text.new }
     ensures used { (result.used ≤ length bytes.now) × (result.fault ≡ 0 → 0 < length bytes.now → 0 < result.used) }
     ensures room { (result.fault ≡ NO_ROOM) ↔ (HasRoom settlements.old text.old → ⊥) }
     ensures astray { (result.fault ≡ NO_CLIENT) ↔ (HasRoom settlements.old text.old × IsAstray state.old) }
-    ensures done { result.fault ≡ 0 → (c : Windowed Asked) × (rest : List ℕ) × StandsFor state.old c rest }
-    ensures refused { result.fault ≢ 0 → (result.used ≡ 0) × (result.count ≡ 0) × (result.kind ≡ 0) × (result.line_fault ≡ 0)
-        × (state.new ≡ state.old) }
-    ensures few { result.count ≤ WINDOW }
-    ensures silent { result.count ≡ 0 → (settlements.new ≡ settlements.old) × (text.new ≡ text.old) }
-    ensures answered { state.new.answered ≡ state.old.answered }
-    ensures untouched { drop result.count settlements.new ≡ drop result.count settlements.old }
-    ensures records { length settlements.new ≡ length settlements.old }
-    ensures text { length text.new ≡ length text.old }
+    ensures done { result.fault ≡ 0 → IsClients state.old }
+    ensures refused { FeedFaultLeavesState result state.old state.new }
+    ensures few { FitsTheWindow result.count }
+    ensures silent { IsSilent result.count settlements.old settlements.new text.old text.new }
+    ensures answered { KeepsAnswered state.old state.new }
+    ensures untouched { LeavesRest result.count settlements.old settlements.new }
+    ensures records { KeepsLength settlements.old settlements.new }
+    ensures text { KeepsLength text.old text.new }
 {
     if !has_room(settlements, text) {
         return unheard(NO_ROOM);
@@ -193,16 +186,15 @@ pub extern "C" fn geocom_client_restart(
     state: &mut GeocomClient,
     settlements: &mut [GeocomSettlement],
 ) -> GeocomCount
-    ensures restarted { WINDOW ≤ length settlements.old → (c : Windowed Asked) (rest : List ℕ) → StandsFor state.old c rest
-        → HasRestarted c state.new result settlements.new }
+    ensures restarted { WINDOW ≤ length settlements.old → Restarts state.old state.new result settlements.new }
     ensures begins { result.fault ≡ 0 → left_of state.new ≡ anew (left_of state.old) }
-    ensures room { (result.fault ≡ NO_ROOM) ↔ (length settlements.old < WINDOW) }
-    ensures astray { (result.fault ≡ NO_CLIENT) ↔ ((WINDOW ≤ length settlements.old) × IsAstray state.old) }
-    ensures done { result.fault ≡ 0 → (c : Windowed Asked) × (rest : List ℕ) × StandsFor state.old c rest }
-    ensures refused { result.fault ≢ 0 → (result.count ≡ 0) × (state.new ≡ state.old) × (settlements.new ≡ settlements.old) }
-    ensures few { result.count ≤ WINDOW }
-    ensures untouched { drop result.count settlements.new ≡ drop result.count settlements.old }
-    ensures length { length settlements.new ≡ length settlements.old }
+    ensures room { TellsNoRoom settlements.old WINDOW result.fault }
+    ensures astray { TellsNoClient settlements.old WINDOW state.old result.fault }
+    ensures done { result.fault ≡ 0 → IsClients state.old }
+    ensures refused { FaultLeavesAll result state.old state.new settlements.old settlements.new }
+    ensures few { FitsTheWindow result.count }
+    ensures untouched { LeavesRest result.count settlements.old settlements.new }
+    ensures length { KeepsLength settlements.old settlements.new }
 {
     if settlements.len() < WINDOW {
         return refused(NO_ROOM);

@@ -1,12 +1,11 @@
 //! Any sequence of calls: from `geocom_client_init` on, a state stands for what the client's rule makes of the calls.
 
-ghost use Rattle.std.specs.Prelude.{◌≡◌, ◌<◌, ◌≤◌, ℕ, List, ◌∷◌, length, drop, slice_get, Some};
-ghost use Rattle.gc_lines.specs.Frames.{rest_behind};
-ghost use Rattle.gc_catalogue.specs.declared.asked.Asked.{Asked};
+ghost use Rattle.std.specs.Prelude.{◌≡◌, ◌<◌, ℕ, List, ◌∷◌, length, drop, slice_get, Some};
 ghost use Rattle.gc_client.specs.Rule.{IsWidth};
-ghost use Rattle.gc_client.specs.OneForOne.{Course, IsOneForOne};
-ghost use Rattle.geocom_c.specs.State.{StandsFor};
-ghost use Rattle.geocom_c.specs.Following.{hearing, FedTo, CallsReach, IsAt, Reached, Stage, opened};
+ghost use Rattle.gc_client.specs.OneForOne.{IsOneForOne};
+ghost use Rattle.geocom_c.specs.Rest.{UsesBytes};
+ghost use Rattle.geocom_c.specs.State.{KeepsAnswered};
+ghost use Rattle.geocom_c.specs.Following.{FeedsBut, FeedsBytes, CallsReach, IsAt, Reached, Stage, opened};
 
 use crate::beginning::geocom_client_begin;
 use crate::calls::{geocom_client_expire, geocom_client_init};
@@ -21,7 +20,8 @@ use crate::state::GeocomClient;
 use gc_client::WINDOW;
 use gc_values::MOST_ITEMS;
 
-/// A call on a state.
+/// A call on a state: each variant is the `geocom_client_` function of its name, with the arguments but the state and the rooms for
+/// what it writes.
 #[derive(Clone, Copy)]
 pub enum Step<'a> {
     Send {
@@ -58,10 +58,9 @@ const VACANT: GeocomSettlement = GeocomSettlement {
 
 // Feeds bytes through the first line feed, and returns how many were used: all if there is none, or if the feed has a fault.
 fn feed_line(state: &mut GeocomClient, bytes: &[u8]) -> usize
-    ensures used { (result ≤ length bytes.now) × (0 < length bytes.now → 0 < result) }
-    ensures fed { (width : ℕ) (x : Course Asked) (rest : List ℕ) → StandsFor state.old (record { width = width; ids = x.client }) rest
-        → FedTo width x rest bytes.now state.new (drop result bytes.now) }
-    ensures answered { state.new.answered ≡ state.old.answered }
+    ensures used { UsesBytes result bytes.now }
+    ensures fed { FeedsBut bytes.now (drop result bytes.now) state.old state.new }
+    ensures answered { KeepsAnswered state.old state.new }
 {
     let mut settlements = [VACANT; WINDOW];
     let mut text = [0; TEXT_ROOM];
@@ -74,9 +73,8 @@ fn feed_line(state: &mut GeocomClient, bytes: &[u8]) -> usize
 
 // Feeds bytes until all are used.
 fn feed_all(state: &mut GeocomClient, bytes: &[u8])
-    ensures fed { (width : ℕ) (x : Course Asked) (rest : List ℕ) → StandsFor state.old (record { width = width; ids = x.client }) rest
-        → StandsFor state.new (record { width = width; ids = (hearing width x rest bytes.now).client }) (rest_behind rest bytes.now) }
-    ensures answered { state.new.answered ≡ state.old.answered }
+    ensures fed { FeedsBytes bytes.now state.old state.new }
+    ensures answered { KeepsAnswered state.old state.new }
 {
     let mut left = bytes;
     while !left.is_empty() {

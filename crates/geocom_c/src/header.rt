@@ -14,10 +14,10 @@ pub const VERSION: u32 = 2;
 
 // Rooms.
 
-/// How much room a request line takes with its CR LF.
+/// The most bytes that a request line has with its CR LF.
 pub const LINE_ROOM: usize = 514;
 
-/// How much room a line and its items take: the items are parts of the line.
+/// The most bytes of an answer's text: a line of at most 512, and after it the items of its parameters, which are parts of it.
 pub const TEXT_ROOM: usize = 1024;
 
 // The library's own faults, and that of a full window, which is gc_client's.
@@ -31,7 +31,7 @@ pub const NO_WIDTH: u32 = 61;
 /// Less room than the call asks for.
 pub const NO_ROOM: u32 = 62;
 
-/// Bytes that stand for no client: a state that `geocom_client_init` never made, or that was written over.
+/// The state is no client's: `geocom_client_init` never made it, or its bytes were overwritten.
 pub const NO_CLIENT: u32 = 63;
 
 /// The client hasn't synchronized: `geocom_client_begin` hasn't heard the eighth answer, at first or after a restart.

@@ -23,8 +23,8 @@ pub fn simulators_answers_are_their_own()
     ensures { SimulatorsAnswersAreTheirOwn }
 {}
 
-/// What is sent is safe if the instrument treats a raw request as any other, and if no call asks for such a procedure. It is
-/// also safe if each command follows the table closely: one of the seven requests before it is a call of the table that a reply
+/// What is sent is safe over an instrument that retains its own reply, or none, after every request, and over any instrument if
+/// no call sends a raw request. A request is also safe if one of the seven requests before it is a call of the table that a reply
 /// ended.
 pub fn calls_are_safe<State>()
     ensures { CallsAreSafe State }
@@ -42,8 +42,8 @@ pub fn few_killed_may_begin<State>()
     ensures { FewKilledMayBegin State }
 {}
 
-/// Some calls meet every premise of these laws: over an instrument that counts what it executes, with a request for any procedure that isn't
-/// in the table, and over the simulator.
+/// Some calls meet every premise of these laws: over an instrument that counts what it executes, with a request for any procedure
+/// that isn't in the table, and over the simulator.
 pub fn some_calls_are_in_the_field()
     ensures { SomeCallsAreInField }
 {}

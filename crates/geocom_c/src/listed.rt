@@ -1,10 +1,9 @@
 //! The text of an answer: the line at its front, and after it the items of its parameters, each where its place says.
 
-ghost use Rattle.std.specs.Prelude.{◌≡◌, ◌≤◌, ◌+◌, ◌++◌, ℕ, List, length};
+ghost use Rattle.std.specs.Prelude.{◌≤◌, ◌+◌, length};
 ghost use Rattle.arrayvec.specs.ArrayVec.{array_vec_len};
-ghost use Rattle.gc_values.specs.Params.{IsParams};
-ghost use Rattle.geocom_c.specs.FirstAre.{FirstAre};
-ghost use Rattle.geocom_c.specs.Settled.{StandsAt, AreStanding, total, IsTold};
+ghost use Rattle.geocom_c.specs.Rooms.{IsExtended, KeepsLength};
+ghost use Rattle.geocom_c.specs.Settled.{IsTextOf, ListsItems, StandIn, total};
 ghost use Rattle.geocom_c.specs.declared.header.TheConstants.{TEXT_ROOM};
 
 use crate::header::TEXT_ROOM;
@@ -26,9 +25,10 @@ pub(crate) const NOWHERE: GeocomItem = GeocomItem {
     length: 0,
 };
 
-// A line with the items of its parameters after it, how many these are, and where each is.
+// The text of an answer: its line, and the items of its parameters after it; how many items these are, and where each is in
+// `text`.
 #[derive(Drop)]
-pub(crate) struct Told {
+pub(crate) struct ListedLine {
     pub text: ArrayVec<u8, TEXT_ROOM>,
     pub items: u16,
     pub places: [GeocomItem; MOST_ITEMS],
@@ -38,9 +38,9 @@ pub(crate) struct Told {
 fn put_items(text: &mut ArrayVec<u8, TEXT_ROOM>, places: &mut [GeocomItem], items: &Items<'_>)
     requires few { length items.now ≤ length places.old }
     requires room { array_vec_len text.old + total items.now ≤ TEXT_ROOM }
-    ensures front { (more : List ℕ) × (text.new.items ≡ text.old.items ++ more) }
-    ensures places { FirstAre (StandsAt text.new.items) places.new items.now }
-    ensures length { length places.new ≡ length places.old }
+    ensures front { IsExtended text.old.items text.new.items }
+    ensures places { StandIn text.new.items places.new items.now }
+    ensures length { KeepsLength places.old places.new }
 {
     for k in 0..items.len() {
         let item = items.get(k);
@@ -53,11 +53,10 @@ fn put_items(text: &mut ArrayVec<u8, TEXT_ROOM>, places: &mut [GeocomItem], item
 }
 
 // Appends the items of parameters, if these are a list, and notes how many there are and where each is.
-fn list(told: &mut Told, params: &[u8])
+fn list(told: &mut ListedLine, params: &[u8])
     requires { array_vec_len told.old.text + length params.now ≤ TEXT_ROOM }
-    ensures front { (more : List ℕ) × (told.new.text.items ≡ told.old.text.items ++ more) }
-    ensures listed { (items : List (List ℕ)) → IsParams params.now items → length items ≤ 16
-        → AreStanding told.new.items told.new.places told.new.text.items items }
+    ensures front { IsExtended told.old.text.items told.new.text.items }
+    ensures listed { ListsItems told.new.text.items told.new.items told.new.places params.now }
 {
     match split(params) {
         Ok(items) => {
@@ -68,11 +67,11 @@ fn list(told: &mut Told, params: &[u8])
     }
 }
 
-// A line, with the items of its parameters after it if it is a reply.
-pub(crate) fn tell(line: &Line) -> Told
-    ensures { IsTold result.text.items result.items result.places line.now.items }
+// The text of a line: the line, and the items of its parameters after it if it is a reply; otherwise no items.
+pub(crate) fn list_line(line: &Line) -> ListedLine
+    ensures { IsTextOf result line.now.items }
 {
-    let mut told = Told {
+    let mut told = ListedLine {
         text: ArrayVec::new(),
         items: 0,
         places: [NOWHERE; MOST_ITEMS],

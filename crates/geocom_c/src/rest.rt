@@ -1,10 +1,10 @@
 //! The bytes of an incomplete line: a state keeps of them what the frame of the next line feed depends on.
 
-ghost use Rattle.std.specs.Prelude.{◌≡◌, ◌≢◌, ◌<◌, ◌≤◌, ◌↔◌, All, ◌+◌, ◌++◌, ℕ, List, [], length, take, drop, Some, None, IsTrue};
+ghost use Rattle.std.specs.Prelude.{◌≡◌, ◌≢◌, ◌≤◌, ◌↔◌, All, ◌+◌, ◌++◌, ℕ, List, [], length, drop, None, IsTrue};
 ghost use Rattle.std.specs.List.{position};
-ghost use Rattle.gc_lines.specs.Frames.{is_line_feed, frame_of};
-ghost use Rattle.gc_lines.specs.declared.frame.Frame.{Frame};
-ghost use Rattle.geocom_c.specs.Rest.{kept, IsCut, IsRest};
+ghost use Rattle.gc_lines.specs.Frames.{is_line_feed};
+ghost use Rattle.geocom_c.specs.Rest.{IsValid, IsRest, UsesBytes, UsesFrame, UsesUnended};
+ghost use Rattle.geocom_c.specs.Rooms.{IsWritten, KeepsLength, LeavesRest};
 
 use gc_lines::{Assembler, Frame};
 
@@ -15,7 +15,9 @@ const KEPT: usize = 514;
 #[repr(C)]
 #[derive(Clone, Copy)]
 pub struct GeocomRest {
+    /// How many bytes are kept, at most 514.
     pub length: u16,
+    /// The kept bytes, at the front.
     pub bytes: [u8; KEPT],
 }
 
@@ -31,32 +33,30 @@ impl GeocomRest {
     }
 
     // Whether at most 514 bytes are kept, and no line feed among them.
-    pub(crate) fn is_cut(&self) -> bool
-        ensures { IsTrue result ↔ IsCut self.now }
+    pub(crate) fn is_valid(&self) -> bool
+        ensures { IsTrue result ↔ IsValid self.now }
     {
         let length = usize::from(self.length);
         length <= KEPT && has_no_line_feed(&self.bytes[..length])
     }
 
-    // How many bytes of a piece stand through its first line feed, and the frame that this ends, with the bytes that are kept
-    // before the piece. Without a line feed: all bytes, and `More`.
+    // How many bytes a piece has through its first line feed, and the frame that this line feed ends: of the kept bytes, and these
+    // after them. Without a line feed: the length of the piece, and `More`.
     pub(crate) fn frame(&self, piece: &[u8]) -> (usize, Frame)
-        requires { IsCut self.now }
-        ensures used { (result.0 ≤ length piece.now) × (0 < length piece.now → 0 < result.0) }
-        ensures more { (rest : List ℕ) → IsRest self.now rest → position is_line_feed piece.now ≡ None
-            → (result.0 ≡ length piece.now) × (result.1 ≡ Frame.More) }
-        ensures frame { (rest : List ℕ) (at : ℕ) → IsRest self.now rest → position is_line_feed piece.now ≡ Some at
-            → (result.0 ≡ at + 1) × (result.1 ≡ frame_of (rest ++ take at piece.now)) }
+        requires { IsValid self.now }
+        ensures used { UsesBytes result.0 piece.now }
+        ensures more { UsesUnended self.now piece.now result.0 result.1 }
+        ensures frame { UsesFrame self.now piece.now result.0 result.1 }
     {
         let mut assembler = Assembler::new();
         let _ = assembler.take(&self.bytes[..usize::from(self.length)]);
         assembler.take(piece)
     }
 
-    // Keeps more bytes, none of which is a line feed: as many as there is room for. If not all fit, the last of them stands in
-    // the last place.
+    // Keeps the bytes of a piece that has no line feed: as many as there is room for. If not all fit, the last byte of the piece
+    // overwrites the last place.
     pub(crate) fn keep(&mut self, piece: &[u8])
-        requires { IsCut self.old }
+        requires { IsValid self.old }
         ensures { (rest : List ℕ) → IsRest self.old rest → position is_line_feed piece.now ≡ None
             → IsRest self.new (rest ++ piece.now) }
     {
@@ -81,15 +81,15 @@ fn has_no_line_feed(bytes: &[u8]) -> bool
 /// Writes a text over the bytes from place `at` on.
 pub(crate) fn put(bytes: &mut [u8], at: usize, text: &[u8])
     requires { at + length text.now ≤ length bytes.old }
-    ensures text { take (at + length text.now) bytes.new ≡ take at bytes.old ++ text.now }
-    ensures untouched { drop (at + length text.now) bytes.new ≡ drop (at + length text.now) bytes.old }
-    ensures length { length bytes.new ≡ length bytes.old }
+    ensures text { IsWritten at text.now bytes.old bytes.new }
+    ensures untouched { LeavesRest (at + length text.now) bytes.old bytes.new }
+    ensures length { KeepsLength bytes.old bytes.new }
     ensures fits { at + length text.now ≤ length bytes.new }
 {
     bytes[at..at + text.len()].copy_from_slice(text);
 }
 
-/// The bytes from a place on.
+/// The bytes from place `at` on.
 pub(crate) fn bytes_from(bytes: &[u8], at: usize) -> &[u8]
     requires { at ≤ length bytes.now }
     ensures { result.now ≡ drop at bytes.now }

@@ -1,19 +1,15 @@
 //! Sending: a call's number and parameters become its request line, or are refused.
 
-ghost use Rattle.std.specs.Prelude.{◌≡◌, ◌≢◌, ◌↔◌, ◌<◌, ◌≤◌, ℕ, List, [], length, take, drop, Some};
+ghost use Rattle.std.specs.Prelude.{◌≡◌, ◌≢◌, ◌<◌, ◌≤◌, length, Some};
 ghost use Rattle.gc_lines.specs.Lines.{with_end};
-ghost use Rattle.gc_catalogue.specs.declared.asked.Asked.{Asked};
 ghost use Rattle.gc_catalogue.specs.declared.asked.Asked.TheVariants.{Table};
-ghost use Rattle.gc_catalogue.specs.declared.call.Call.{Call};
-ghost use Rattle.gc_catalogue.specs.declared.fault.CallFault.{CallFault};
 ghost use Rattle.gc_catalogue.specs.Asked.{asked_line};
 ghost use Rattle.gc_catalogue.specs.CallFault.{refusal_number};
 ghost use Rattle.gc_catalogue.specs.Calls.{IsCall, IsRefusal};
-ghost use Rattle.gc_client.specs.Rule.{Windowed, sends};
-ghost use Rattle.geocom_c.specs.Rest.{IsRest};
-ghost use Rattle.geocom_c.specs.State.{StandsFor, IsAstray, left_of};
-ghost use Rattle.geocom_c.specs.Sending.{IsSent, SendsEach};
-ghost use Rattle.geocom_c.specs.declared.header.TheConstants.{LINE_ROOM, WINDOW_FULL, NO_ROOM, NO_CLIENT, NOT_BEGUN};
+ghost use Rattle.geocom_c.specs.State.{KeepsAnswered};
+ghost use Rattle.geocom_c.specs.Rooms.{FaultLeavesAll, KeepsLength, LeavesRest, TellsNoClient, TellsNoRoom, WritesText};
+ghost use Rattle.geocom_c.specs.Sending.{IsRefusalNumber, RefusesEach, RefusesUnbegun, SendsAsked, SendsEach, TellsDone, TellsFull, TellsUnbegun, sent_of};
+ghost use Rattle.geocom_c.specs.declared.header.TheConstants.{LINE_ROOM, WINDOW_FULL};
 
 use crate::answers::{GeocomCount, counted, refused};
 use crate::header::{LINE_ROOM, NO_CLIENT, NO_ROOM, NOT_BEGUN};
@@ -23,7 +19,8 @@ use gc_catalogue::{Asked, decode_call};
 use gc_client::{Client, SlotsOf};
 use gc_lines::Request;
 
-// Sends a request, and writes its line with CR LF into `line`. If the window is full, the fault is 31, and nothing has changed.
+// Sends a request, writes its line with CR LF to the front of `line`, and returns how many bytes these are. If the window is
+// full, the fault is 31, and nothing has changed.
 pub(crate) fn send_asked(
     state: &mut GeocomClient,
     mut client: Client<SlotsOf<Asked>>,
@@ -33,17 +30,15 @@ pub(crate) fn send_asked(
     line: &mut [u8],
 ) -> GeocomCount
     requires { LINE_ROOM ≤ length line.old }
-    ensures sent { (rest : List ℕ) → IsRest state.old.rest rest → state.old.answered ≤ 8
-        → IsSent client rest asked (sends client.width client.ids target asked deadline)
-        (record { old = state.old; new = state.new; before = line.old; after = line.new; told = result }) }
-    ensures given { result.fault ≡ 0 → take result.count line.new ≡ with_end (asked_line (Some client.ids.next) asked) }
-    ensures untouched { drop result.count line.new ≡ drop result.count line.old }
-    ensures length { length line.new ≡ length line.old }
-    ensures answered { state.new.answered ≡ state.old.answered }
+    ensures sent { SendsAsked client asked target deadline (sent_of state.old state.new line.old line.new result) }
+    ensures given { WritesText result line.new (with_end (asked_line (Some client.ids.next) asked)) }
+    ensures untouched { LeavesRest result.count line.old line.new }
+    ensures length { KeepsLength line.old line.new }
+    ensures answered { KeepsAnswered state.old state.new }
     ensures full { result.fault ≡ WINDOW_FULL → length client.ids.waiting ≡ client.width }
     ensures done { result.fault ≡ 0 → length client.ids.waiting < client.width }
     ensures either { (result.fault ≢ 0) → result.fault ≡ WINDOW_FULL }
-    ensures refused { result.fault ≢ 0 → (result.count ≡ 0) × (state.new ≡ state.old) × (line.new ≡ line.old) }
+    ensures refused { FaultLeavesAll result state.old state.new line.old line.new }
 {
     match client.send(target, asked, deadline) {
         Ok(text) => {
@@ -72,24 +67,19 @@ pub extern "C" fn geocom_client_send(
     line: &mut [u8],
 ) -> GeocomCount
     ensures sent { LINE_ROOM ≤ length line.old → SendsEach Table (IsCall procedure params.now) target deadline
-        (record { old = state.old; new = state.new; before = line.old; after = line.new; told = result }) }
-    ensures call { LINE_ROOM ≤ length line.old → (c : Windowed Asked) (rest : List ℕ) (e : CallFault) → StandsFor state.old c rest
-        → left_of state.old ≡ [] → IsRefusal procedure params.now e → result.fault ≡ refusal_number e }
-    ensures begins { LINE_ROOM ≤ length line.old → (c : Windowed Asked) (rest : List ℕ) → StandsFor state.old c rest
-        → left_of state.old ≢ [] → result.fault ≡ NOT_BEGUN }
-    ensures begun { result.fault ≡ NOT_BEGUN → left_of state.old ≢ [] }
-    ensures room { (result.fault ≡ NO_ROOM) ↔ (length line.old < LINE_ROOM) }
-    ensures astray { (result.fault ≡ NO_CLIENT) ↔ ((LINE_ROOM ≤ length line.old) × IsAstray state.old) }
-    ensures full { result.fault ≡ WINDOW_FULL → (c : Windowed Asked) × (rest : List ℕ) × (call : Call) × StandsFor state.old c rest
-        × (left_of state.old ≡ []) × IsCall procedure params.now call × (length c.ids.waiting ≡ c.width) }
-    ensures done { result.fault ≡ 0 → (c : Windowed Asked) × (rest : List ℕ) × (call : Call) × StandsFor state.old c rest
-        × (left_of state.old ≡ []) × IsCall procedure params.now call × (length c.ids.waiting < c.width) }
-    ensures refusal { result.fault ≢ 0 → result.fault ≢ WINDOW_FULL → result.fault ≢ NO_ROOM → result.fault ≢ NO_CLIENT
-        → result.fault ≢ NOT_BEGUN → (e : CallFault) × IsRefusal procedure params.now e × (result.fault ≡ refusal_number e) }
-    ensures refused { result.fault ≢ 0 → (result.count ≡ 0) × (state.new ≡ state.old) × (line.new ≡ line.old) }
-    ensures answered { state.new.answered ≡ state.old.answered }
-    ensures untouched { drop result.count line.new ≡ drop result.count line.old }
-    ensures length { length line.new ≡ length line.old }
+        (sent_of state.old state.new line.old line.new result) }
+    ensures call { LINE_ROOM ≤ length line.old → RefusesEach (IsRefusal procedure params.now) refusal_number state.old result.fault }
+    ensures begins { LINE_ROOM ≤ length line.old → RefusesUnbegun state.old result.fault }
+    ensures begun { TellsUnbegun state.old result.fault }
+    ensures room { TellsNoRoom line.old LINE_ROOM result.fault }
+    ensures astray { TellsNoClient line.old LINE_ROOM state.old result.fault }
+    ensures full { TellsFull (IsCall procedure params.now) state.old result.fault }
+    ensures done { TellsDone (IsCall procedure params.now) state.old result.fault }
+    ensures refusal { IsRefusalNumber (IsRefusal procedure params.now) refusal_number result.fault }
+    ensures refused { FaultLeavesAll result state.old state.new line.old line.new }
+    ensures answered { KeepsAnswered state.old state.new }
+    ensures untouched { LeavesRest result.count line.old line.new }
+    ensures length { KeepsLength line.old line.new }
 {
     if line.len() < LINE_ROOM {
         return refused(NO_ROOM);

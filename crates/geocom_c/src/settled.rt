@@ -1,16 +1,13 @@
 //! The records of settlements: how a request ended, in plain fields.
 
-ghost use Rattle.std.specs.Prelude.{◌≡◌, ◌≤◌, ℕ, List, [], length, drop, map, All, None};
-ghost use Rattle.gc_catalogue.specs.Asked.{asked_request, IsAskedReading};
-ghost use Rattle.gc_catalogue.specs.declared.asked.Asked.{Asked};
-ghost use Rattle.gc_client.specs.declared.pending.Pending.{Pending};
-ghost use Rattle.gc_client.specs.Rule.{lost};
-ghost use Rattle.gc_client.specs.Settlements.{IsReadBy, ReadsBy, settlement_seen};
-ghost use Rattle.geocom_c.specs.FirstAre.{FirstAre};
-ghost use Rattle.geocom_c.specs.Settled.{IsTold, IsKind, IsAnswered, IsUnanswered, IsRecord, IsBy, AreBy};
+ghost use Rattle.std.specs.Prelude.{◌≡◌, ◌≤◌, [], length};
+ghost use Rattle.gc_catalogue.specs.Asked.{IsAskedReading};
+ghost use Rattle.gc_client.specs.Settlements.{IsReadBy, settlement_seen};
+ghost use Rattle.geocom_c.specs.Rooms.{KeepsLength, LeavesRest};
+ghost use Rattle.geocom_c.specs.Settled.{AreLost, AreRead, AreRecords, IsKind, IsProcedureOf, IsRecord, IsTextOf, IsUnanswered, ListsAnswer, ListsAnswers, TellsReading};
 
 use crate::header::{ANSWERED, COM_FAULT, LATE, LOST, NONE, REFUSED, UNREADABLE, VALUE};
-use crate::listed::{GeocomItem, NOWHERE, Told};
+use crate::listed::{GeocomItem, ListedLine, NOWHERE};
 use gc_catalogue::{Asked, Reading};
 use gc_client::{Outcome, Settlement};
 use gc_lines::Line;
@@ -31,7 +28,7 @@ pub struct GeocomSettlement {
     pub line_length: u16,
     /// How many items the answer's value has, or the parameters of an answer to a raw request.
     pub items: u16,
-    /// Where they are in the text.
+    /// Where these items are in the text: the first `items` places.
     pub places: [GeocomItem; MOST_ITEMS],
     /// [`ANSWERED`], [`LATE`] or [`LOST`].
     pub outcome: u8,
@@ -42,7 +39,7 @@ pub struct GeocomSettlement {
 // The record of a request that ended with this outcome, without an answer.
 fn unanswered(settlement: &Settlement<Asked>, outcome: u8) -> GeocomSettlement
     ensures target { result.target ≡ settlement.now.target }
-    ensures procedure { result.procedure ≡ (asked_request None settlement.now.call).rpc }
+    ensures procedure { IsProcedureOf result.procedure settlement.now.call }
     ensures unanswered { IsUnanswered result outcome }
 {
     GeocomSettlement {
@@ -69,18 +66,17 @@ fn kind_of(reading: &Reading) -> (u8, u16)
     }
 }
 
-// The record of a request that was answered.
+// The record of a request that was answered by this line, which reads as `reading`. `told` is the text of the line.
 fn answered(
     settlement: &Settlement<Asked>,
     reading: &Reading,
     line: &Line,
-    told: &Told,
+    told: &ListedLine,
 ) -> GeocomSettlement
-    requires { IsTold told.now.text.items told.now.items told.now.places line.now.items }
+    requires { IsTextOf told.now line.now.items }
     ensures target { result.target ≡ settlement.now.target }
-    ensures procedure { result.procedure ≡ (asked_request None settlement.now.call).rpc }
-    ensures answered { ReadsBy IsAskedReading settlement.now.call line.now.items reading.now
-        → IsAnswered result told.now.text.items settlement.now.call line.now.items }
+    ensures procedure { IsProcedureOf result.procedure settlement.now.call }
+    ensures answered { TellsReading result told.now.text.items settlement.now.call line.now.items reading.now }
 {
     let (kind, code) = kind_of(reading);
     GeocomSettlement {
@@ -95,10 +91,11 @@ fn answered(
     }
 }
 
-// The record of a settlement.
-fn record_of(settlement: &Settlement<Asked>, told: &Told) -> GeocomSettlement
-    requires { (line : List ℕ) × IsTold told.now.text.items told.now.items told.now.places line × IsBy line (settlement_seen settlement.now).outcome }
-    ensures { IsReadBy IsAskedReading settlement.now.call settlement.now.outcome → IsRecord told.now.text.items result (settlement_seen settlement.now) }
+// The record of a settlement. `told` is the text of the line that settled it.
+fn record_of(settlement: &Settlement<Asked>, told: &ListedLine) -> GeocomSettlement
+    requires { ListsAnswer told.now settlement.now }
+    ensures { IsReadBy IsAskedReading settlement.now.call settlement.now.outcome
+        → IsRecord told.now.text.items result (settlement_seen settlement.now) }
 {
     match &settlement.outcome {
         Outcome::Answered(reading, line) => answered(settlement, reading, line, told),
@@ -111,14 +108,14 @@ fn record_of(settlement: &Settlement<Asked>, told: &Told) -> GeocomSettlement
 pub(crate) fn put_records(
     records: &mut [GeocomSettlement],
     settled: &[Settlement<Asked>],
-    told: &Told,
+    told: &ListedLine,
 )
     requires room { length settled.now ≤ length records.old }
-    requires told { (line : List ℕ) × IsTold told.now.text.items told.now.items told.now.places line × AreBy line (map settlement_seen settled.now) }
-    requires read { All (λ s. IsReadBy IsAskedReading s.call s.outcome) settled.now }
-    ensures records { FirstAre (IsRecord told.now.text.items) records.new (map settlement_seen settled.now) }
-    ensures untouched { drop (length settled.now) records.new ≡ drop (length settled.now) records.old }
-    ensures length { length records.new ≡ length records.old }
+    requires told { ListsAnswers told.now settled.now }
+    requires read { AreRead settled.now }
+    ensures records { AreRecords told.now.text.items records.new settled.now }
+    ensures untouched { LeavesRest (length settled.now) records.old records.new }
+    ensures length { KeepsLength records.old records.new }
 {
     for k in 0..settled.len() {
         records[k] = record_of(&settled[k], told);
@@ -128,10 +125,10 @@ pub(crate) fn put_records(
 // Writes to the front of `records` a record for each of these requests, which are lost.
 pub(crate) fn put_lost(records: &mut [GeocomSettlement], settled: &[Settlement<Asked>])
     requires room { length settled.now ≤ length records.old }
-    requires lost { (ps : List (Pending Asked)) × (map settlement_seen settled.now ≡ map lost ps) }
-    ensures records { FirstAre (IsRecord []) records.new (map settlement_seen settled.now) }
-    ensures untouched { drop (length settled.now) records.new ≡ drop (length settled.now) records.old }
-    ensures length { length records.new ≡ length records.old }
+    requires lost { AreLost settled.now }
+    ensures records { AreRecords [] records.new settled.now }
+    ensures untouched { LeavesRest (length settled.now) records.old records.new }
+    ensures length { KeepsLength records.old records.new }
 {
     for k in 0..settled.len() {
         records[k] = unanswered(&settled[k], LOST);

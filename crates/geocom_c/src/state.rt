@@ -7,36 +7,46 @@ ghost use Rattle.gc_client.specs.Beginning.{the_word};
 ghost use Rattle.gc_client.specs.declared.pending.Pending.{Pending};
 ghost use Rattle.gc_client.specs.Rule.{Windowed};
 ghost use Rattle.gc_client.specs.Rule;
-ghost use Rattle.geocom_c.specs.FirstAre.{FirstAre};
-ghost use Rattle.geocom_c.specs.Rest.{kept, IsCut, IsRest};
-ghost use Rattle.geocom_c.specs.State.{IsLineOf, IsPlace, HasHead, StandsFor, IsAstray, left_of};
+ghost use Rattle.geocom_c.specs.Rest.{kept};
+ghost use Rattle.geocom_c.specs.State.{Becomes, HasHead, HoldRequests, IsAstray, IsLineOf, IsOnlyReading, IsPlace, KeepsAnswered, StandsFor, left_of};
+ghost use Rattle.geocom_c.specs.Rooms.{KeepsLength};
 
 use crate::rest::GeocomRest;
 use gc_catalogue::{Asked, decode_asked, encode_asked};
 use gc_client::{Client, IDS, Pending, SlotsOf, WINDOW, Window};
 use gc_lines::{Line, Request, read_request};
 
-/// A request that waits. `line` is its request line without an id, `length` bytes of it.
+/// An outstanding request.
 #[repr(C)]
 #[derive(Clone, Copy)]
 pub struct GeocomWaiting {
+    /// When it times out, by the caller's clock.
     pub deadline: u64,
+    /// Whom it is for, as it was handed to `geocom_client_send` or `geocom_client_send_raw`.
     pub target: u32,
+    /// How many bytes of `line` are used, at most 512.
     pub length: u16,
+    /// 1 if it has timed out; otherwise 0.
     pub given_up: u8,
+    /// Its request line without an id and without CR LF.
     pub line: [u8; 512],
 }
 
-/// A client: the outstanding requests, oldest first, the bytes of an incomplete line, its width, the next id, how many are
-/// outstanding, and how many null procedures of its synchronization are answered: 8 once it has synchronized.
+/// A client.
 #[repr(C)]
 #[derive(Clone, Copy)]
 pub struct GeocomClient {
+    /// The outstanding requests, oldest first, in the first `waiting` places.
     pub places: [GeocomWaiting; WINDOW],
+    /// The bytes of an incomplete line.
     pub rest: GeocomRest,
+    /// How many requests may be outstanding, 1 to 7.
     pub width: u8,
+    /// The id of the next request, 0 to 7.
     pub next: u8,
+    /// How many requests are outstanding.
     pub waiting: u8,
+    /// How many null procedures of the synchronization are answered: 8 once the client has synchronized.
     pub answered: u8,
 }
 
@@ -49,7 +59,7 @@ const VACANT: GeocomWaiting = GeocomWaiting {
     line: [0; 512],
 };
 
-// A client of this width that hasn't begun, at the start of a line.
+// A new client of this width, which hasn't synchronized, with no bytes of an incomplete line.
 pub(crate) fn fresh(width: u8) -> GeocomClient
     requires least { 1 ≤ width }
     requires most { width ≤ WINDOW }
@@ -66,7 +76,8 @@ pub(crate) fn fresh(width: u8) -> GeocomClient
     }
 }
 
-// What a request without an id asks for. `None`: it has an id, or it may not be asked for.
+// What a request without an id asks for: a call of the table, or a raw call. `None`: it has an id, or its number and parameters
+// are neither.
 fn asked_of(request: &Request<'_>) -> Option<Asked>
     ensures found { IfSome result (λ asked. (request.now.id ≡ None) × IsAsked request.now.rpc request.now.params.now asked) }
     ensures only { (asked : Asked) → request.now.id ≡ None → IsAsked request.now.rpc request.now.params.now asked
@@ -103,7 +114,7 @@ fn asked_at(place: &GeocomWaiting) -> Option<Asked>
     asked_in(&place.line[..length])
 }
 
-// The mark that a byte stands for: 0 is false and 1 true. `None`: any other byte.
+// The flag that a byte stands for: 0 is `false` and 1 is `true`. `None`: any other byte.
 fn mark_of(byte: u8) -> Option<bool>
     ensures found { IfSome result (λ mark. byte ≡ (if mark then 1 else 0)) }
     ensures only { (mark : Bool) → byte ≡ (if mark then 1 else 0) → result ≡ Some mark }
@@ -134,7 +145,7 @@ fn read_place(place: &GeocomWaiting) -> Option<Pending<Asked>>
     })
 }
 
-// The bytes of a line, and zeros after them.
+// The bytes of a line, and zeros after them, 512 bytes in all.
 fn padded(line: &Line) -> [u8; 512]
     ensures { take (length line.now.items) result ≡ line.now.items }
 {
@@ -162,8 +173,8 @@ fn read_places(places: &[GeocomWaiting], count: usize) -> Option<SlotsOf<Asked>>
     requires few { count ≤ WINDOW }
     requires there { count ≤ length places.now }
     ensures count { IfSome result (λ ps. length ps ≡ count) }
-    ensures found { IfSome result (λ ps. FirstAre IsPlace places.now ps) }
-    ensures only { (ps : List (Pending Asked)) → length ps ≡ count → FirstAre IsPlace places.now ps → result ≡ Some ps }
+    ensures found { IfSome result (λ ps. HoldRequests places.now ps) }
+    ensures only { IsOnlyReading places.now count result }
 {
     let mut window = SlotsOf::new();
     for k in 0..count {
@@ -178,15 +189,15 @@ fn read_places(places: &[GeocomWaiting], count: usize) -> Option<SlotsOf<Asked>>
 // Writes the bytes of these requests into the first places.
 fn write_places(places: &mut [GeocomWaiting], window: &SlotsOf<Asked>)
     requires { length window.now ≤ length places.old }
-    ensures places { FirstAre IsPlace places.new window.now }
-    ensures length { length places.new ≡ length places.old }
+    ensures places { HoldRequests places.new window.now }
+    ensures length { KeepsLength places.old places.new }
 {
     for k in 0..window.len() {
         places[k] = write_place(&window.get(k));
     }
 }
 
-// Whether the numbers of a state are a client's: its width, its next id, how many requests are outstanding, and how many null
+// Whether the numbers of a state can be a client's: its width, its next id, how many requests are outstanding, and how many null
 // procedures are answered.
 fn has_head(state: &GeocomClient) -> bool
     ensures { IsTrue result ↔ HasHead state.now }
@@ -204,7 +215,7 @@ pub(crate) fn load(state: &GeocomClient) -> Option<Client<SlotsOf<Asked>>>
     ensures only { (c : Windowed Asked) (rest : List ℕ) → StandsFor state.now c rest → result ≡ Some c }
     ensures none { result ≡ None → IsAstray state.now }
 {
-    if !has_head(state) || !state.rest.is_cut() {
+    if !has_head(state) || !state.rest.is_valid() {
         return None;
     }
     let Some(window) = read_places(&state.places, usize::from(state.waiting)) else {
@@ -213,12 +224,12 @@ pub(crate) fn load(state: &GeocomClient) -> Option<Client<SlotsOf<Asked>>>
     Some(Client::resume(window, state.width, state.next))
 }
 
-// Writes a client into a state. The bytes of an incomplete line stay, and so does the number of null procedures that are
-// answered.
+// Writes a client into a state. The bytes of an incomplete line and the number of null procedures that are answered stay as they
+// are.
 pub(crate) fn store(state: &mut GeocomClient, client: Client<SlotsOf<Asked>>)
-    ensures client { (rest : List ℕ) → IsRest state.old.rest rest → state.old.answered ≤ 8 → StandsFor state.new client rest }
+    ensures client { Becomes state.old state.new client }
     ensures rest { state.new.rest ≡ state.old.rest }
-    ensures answered { state.new.answered ≡ state.old.answered }
+    ensures answered { KeepsAnswered state.old state.new }
 {
     let (window, width, next) = client.into_parts();
     state.width = width;

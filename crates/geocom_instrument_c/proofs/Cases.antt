@@ -10,13 +10,13 @@ use Rattle.geocom_instrument_c.specs.Feeding.{Answers, IsFed, IsFedTo, IsNothing
 use Rattle.geocom_instrument_c.specs.Setting.{IsAnew, IsRestarted}
 use Rattle.geocom_instrument_c.specs.declared.replied.GeocomReplied.{GeocomReplied}
 
--- a line that gets no reply
+-- if the instrument hears a line and has no reply, a result that says so (`IsNothing`) meets `Answers`
 pub unanswered : (s n : SlowState) (frame : Frame) (line old new : List ℕ) (now used : ℕ) (r : GeocomReplied) → frame ≡ Line (record { items = line })
     → AppendsAnswer (Hears s line now n) old new false → IsNothing used r → Answers s frame now n used r
 unanswered s n frame line old new now used r is heard nothing =
     subst (λ (f : Frame). Answers s f now n used r) (sym is) (record { text = None; hears = (None, heard.0, refl); says = nothing })
 
--- a line that gets a reply, which goes out with its line end
+-- if the instrument hears a line and has a reply, a result with that reply and its CR LF (`IsSent`) meets `Answers`
 pub answered : (s n : SlowState) (frame : Frame) (line old new sent : List ℕ) (now used : ℕ) (r : GeocomReplied) → frame ≡ Line (record { items = line })
     → AppendsAnswer (Hears s line now n) old new true → old ≡ [] → sent ≡ new ++ 13 ∷ 10 ∷ [] → IsSent sent used n.free_from r → Answers s frame now n used r
 answered s n frame line old new sent now used r is heard empty ends told =
@@ -24,14 +24,14 @@ answered s n frame line old new sent now used r is heard empty ends told =
     subst (λ (f : Frame). Answers s f now n used r) (sym is)
     (record { text = Some (with_end heard.0); hears = (Some heard.0, heard.1, refl); says = subst (λ (x : List ℕ). IsSent x used n.free_from r) whole told })
 
--- an instrument that is there was fed
+-- if an instrument is there, what `IsFedTo` says of it is what `IsFed` says
 pub fed : (o : Option BenchState) (b n : BenchState) (bytes : List ℕ) (now : ℕ) (r : GeocomReplied) → o ≡ Some b → IsFedTo b bytes now n r → IsFed o bytes now (Some n) r
 fed o b n bytes now r is so = record {
   absent = λ none. let bad : Some b ≡ None = sym is ∙ none in cc;
   present = λ d e. let both : Some b ≡ Some d = sym is ∙ e in let same : b ≡ d = cc in (n, refl, subst (λ (x : BenchState). IsFedTo x bytes now n r) same so);
 }
 
--- an instrument that is there was restarted
+-- if an instrument is there, what `IsAnew` says of it is what `IsRestarted` says, with no fault
 pub restarted : (o : Option BenchState) (b n : BenchState) → o ≡ Some b → IsAnew b n → IsRestarted o (Some n) 0
 restarted o b n is so = record {
   absent = λ none. let bad : Some b ≡ None = sym is ∙ none in cc;

@@ -31,16 +31,17 @@ pub record IsSent (text : List ℕ) (used due : ℕ) (r : GeocomReplied) : Type 
   pub reply : take r.count r.reply ≡ text
   pub goes_out : r.due ≡ due
 
--- the text, if there is one, is the reply, which goes out at the moment `due`
-abbrev pub Says : Option (List ℕ) → ℕ → ℕ → GeocomReplied → Type 0
-Says None used due r = IsNothing used r
-Says (Some text) used due r = IsSent text used due r
+-- the result of a feed that used this many bytes: the text, if there is one, is the reply, which goes out at the moment `due`
+abbrev pub CarriesReply : Option (List ℕ) → ℕ → ℕ → GeocomReplied → Type 0
+CarriesReply None used due r = IsNothing used r
+CarriesReply (Some text) used due r = IsSent text used due r
 
--- the instrument hears a frame at the moment `now`, and what it replies is the answer
+-- the instrument hears a frame at the moment `now`, which changes its state from `before` to `after`; and the result has its reply,
+-- if there is one
 pub record Answers (before : SlowState) (frame : Frame) (now : ℕ) (after : SlowState) (used : ℕ) (r : GeocomReplied) : Type 0 where
   pub text : Option (List ℕ)
   pub hears : HearsFrame before frame now after text
-  pub says : Says text used after.free_from r
+  pub says : CarriesReply text used after.free_from r
 
 -- bytes without a line feed: they are kept, and nothing else is done
 pub record IsKept (before : BenchState) (bytes : List ℕ) (after : BenchState) (r : GeocomReplied) : Type 0 where
@@ -48,18 +49,18 @@ pub record IsKept (before : BenchState) (bytes : List ℕ) (after : BenchState) 
   pub same : after.slow ≡ before.slow
   pub more : (rest : List ℕ) → StandsFor before.under_way rest → StandsFor after.under_way (rest ++ bytes)
 
--- bytes whose first line feed stands at this place: the instrument hears the frame that it ends, at the moment `now`, and what it replies
--- is the answer. All bytes through the line feed were used, and no byte of a line is left
-pub record IsAnswered (before : BenchState) (bytes : List ℕ) (at now : ℕ) (after : BenchState) (r : GeocomReplied) : Type 0 where
+-- bytes whose first line feed is at this place: the instrument hears the frame that the line feed ends, at the moment `now`, and the
+-- result has its reply, if there is one. All bytes through the line feed were used, and no byte of a line is left
+pub record HearsFirstFrame (before : BenchState) (bytes : List ℕ) (at now : ℕ) (after : BenchState) (r : GeocomReplied) : Type 0 where
   pub answers : (rest : List ℕ) → StandsFor before.under_way rest → Answers before.slow (frame_of (rest ++ take at bytes)) now after.slow (at + 1) r
   pub start : StandsFor after.under_way []
 
--- bytes that were fed at the moment `now`
+-- bytes were fed to an instrument at the moment `now`: through the first line feed, or all if there is none
 pub record IsFedTo (before : BenchState) (bytes : List ℕ) (now : ℕ) (after : BenchState) (r : GeocomReplied) : Type 0 where
   pub none : position is_line_feed bytes ≡ None → IsKept before bytes after r
-  pub some : (at : ℕ) → position is_line_feed bytes ≡ Some at → IsAnswered before bytes at now after r
+  pub some : (at : ℕ) → position is_line_feed bytes ≡ Some at → HearsFirstFrame before bytes at now after r
 
--- the same where there may be no instrument
+-- bytes were fed at the moment `now` where there may be no instrument: without one no byte was used, and the result says so
 pub record IsFed (before : Option BenchState) (bytes : List ℕ) (now : ℕ) (after : Option BenchState) (r : GeocomReplied) : Type 0 where
   pub absent : before ≡ None → (after ≡ None) × IsUnheard r
   pub present : (b : BenchState) → before ≡ Some b → (c : BenchState) × (after ≡ Some c) × IsFedTo b bytes now c r

@@ -41,7 +41,8 @@ impl Bench {
         }
     }
 
-    // Takes bytes through the first line feed, and gives the reply to the line that it ends, if there is one.
+    // Takes bytes that came at the moment `now`, through the first line feed, and gives the reply to the line that it ends, if there
+    // is one. Without a line feed all bytes are used, and there is no reply.
     fn feed(&mut self, bytes: &[u8], now: u64) -> GeocomReplied
         ensures { IsFedTo self.old bytes.now now self.new result }
     {
@@ -59,7 +60,8 @@ impl Bench {
     }
 }
 
-// What the instrument replies to a frame that came at this moment. `used` is how many bytes of the feed were used.
+// Hands the instrument a frame that came at the moment `now`, and gives its reply, if there is one, with CR LF. `used` is how many
+// bytes of the feed were used.
 fn answer(slow: &mut SlowInstrument, frame: Lent<'_>, now: u64, used: usize) -> GeocomReplied
     ensures { Answers slow.old (lent_seen frame.entry) now slow.new used result }
 {
@@ -97,8 +99,8 @@ impl GeocomInstrument {
         GeocomInstrument { bench: None }
     }
 
-    /// Takes bytes that came at this moment, through the first line feed, and gives the reply to the line that it ends, if there is
-    /// one.
+    /// Takes bytes that came at the moment `now`, through the first line feed, and gives the reply to the line that it ends, if there
+    /// is one. Without an instrument no byte is used, and the result has the fault that there is none.
     pub(crate) fn feed(&mut self, bytes: &[u8], now: u64) -> GeocomReplied
         ensures { IsFed self.old bytes.now now self.new result }
     {
@@ -108,7 +110,7 @@ impl GeocomInstrument {
         bench.feed(bytes, now)
     }
 
-    /// Restarts the instrument, if there is one. Returns 0, or the fault that there is none.
+    /// Restarts the instrument, and discards the bytes of an incomplete line. Returns 0, or the fault that there is no instrument.
     pub(crate) fn restart(&mut self) -> u32
         ensures { IsRestarted self.old self.new result }
     {

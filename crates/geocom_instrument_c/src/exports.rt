@@ -1,5 +1,5 @@
 //! The calls for C: an instrument lies in memory of the caller's, at a pointer. What a call does with it is in `bench.rt` and
-//! `setting.rt`; here alone are pointers.
+//! `setting.rt`; only this file handles pointers.
 
 ghost use Rattle.std.specs.Borrow.{full_share, sem};
 ghost use Rattle.std.specs.Prelude.{Option};
@@ -13,16 +13,16 @@ use crate::bench::GeocomInstrument;
 use crate::replied::{GeocomMade, GeocomReplied};
 use std::alloc::Global;
 
-/// How many bytes an instrument takes. They lie at a place that 16 divides, as `malloc` gives it.
+/// How many bytes an instrument takes. They must be aligned to 16 bytes, as those that `malloc` returns are.
 #[unsafe(no_mangle)]
 pub extern "C" fn geocom_instrument_size() -> usize {
     std::mem::size_of::<GeocomInstrument>()
 }
 
-/// Sets up the instrument of a scene's text in the room at `at`. It takes memory while it reads, and gives it back.
+/// Sets up the instrument of a scene's text in the room at `at`. The call takes memory while it reads, and gives it back.
 ///
-/// Faults: 41, more targets, faults, replies or delays than an instrument has; 51, `line` is the first line without a form; 52, memory
-/// was refused; 53, more than 65,536 bytes. After a fault no instrument is there, and each call answers 69.
+/// Faults: 41, more targets, faults, replies or delays than an instrument has; 51, the scene's line number `line` doesn't read; 52,
+/// memory was refused; 53, more than 65,536 bytes. After a fault no instrument is there, and each call returns fault 69.
 #[unsafe(no_mangle)]
 pub unsafe extern "C" fn geocom_instrument_init(
     alloc: Global,
@@ -54,7 +54,7 @@ pub unsafe extern "C" fn geocom_instrument_feed(
 }
 
 /// Restarts the instrument, and discards the bytes of an incomplete line. The scene goes on: its counts, its targets and its
-/// noise stay.
+/// noise stay. Returns 0.
 ///
 /// Fault 69: no instrument is there.
 #[unsafe(no_mangle)]

@@ -5,7 +5,7 @@ ghost use Rattle.gc_texts.specs.Faults.{run_fault_number};
 ghost use Rattle.gc_texts.specs.declared.fault.RunFault.{RunFault};
 ghost use Rattle.geocom_instrument_c.specs.declared.header.TheConstants.{NO_INSTRUMENT, REPLY_ROOM};
 
-/// How much room a reply takes with its CR LF.
+/// The most bytes that a reply has with its CR LF.
 pub const REPLY_ROOM: usize = 514;
 
 /// No instrument is there: none was set up, or its scene was refused.

@@ -5,27 +5,34 @@ ghost use Rattle.geocom_instrument_c.specs.Feeding.{IsNothing, IsSent, IsUnheard
 
 use crate::header::{NO_INSTRUMENT, REPLY_ROOM};
 
-/// What came of setting an instrument up: 0, or the fault that refused the scene, and the number of its faulty line, where it has one.
+/// What came of setting an instrument up.
 #[repr(C)]
 #[derive(Clone, Copy)]
 pub struct GeocomMade {
+    /// 0, or the fault for which the scene was refused.
     pub fault: u32,
+    /// The number of the scene's faulty line, from 1 on; 0 if the fault names none.
     pub line: u32,
 }
 
-/// What came of a feed: how many bytes were used, and the reply that goes out at the moment `due`, `count` bytes with CR LF.
+/// What came of a feed.
 #[repr(C)]
 #[derive(Clone, Copy)]
 pub struct GeocomReplied {
+    /// How many bytes of the feed were used.
     pub used: usize,
+    /// The moment at which the reply goes out, in milliseconds; 0 if there is no reply.
     pub due: u64,
+    /// 0, or the fault that no instrument is there.
     pub fault: u32,
+    /// How many bytes of `reply` are used; 0 if there is no reply.
     pub count: u32,
+    /// The reply, with its CR LF.
     pub reply: [u8; REPLY_ROOM],
 }
 
 impl GeocomReplied {
-    /// No reply, and this many bytes were used.
+    /// The result of a feed that used this many bytes and got no reply.
     pub(crate) fn nothing(used: usize) -> GeocomReplied
         ensures { IsNothing used result }
     {
@@ -38,7 +45,7 @@ impl GeocomReplied {
         }
     }
 
-    /// No instrument is there, and no byte was used.
+    /// The result of a feed where there is no instrument: no byte was used.
     pub(crate) fn unheard() -> GeocomReplied
         ensures { IsUnheard result }
     {
@@ -51,7 +58,7 @@ impl GeocomReplied {
         }
     }
 
-    /// This reply, which goes out at the moment `due`, and this many bytes were used.
+    /// The result of a feed that used this many bytes, and got this reply, which goes out at the moment `due`.
     pub(crate) fn sent(used: usize, text: &[u8], due: u64) -> GeocomReplied
         requires { length text.now ≤ 514 }
         ensures { IsSent text.now used due result }

@@ -10,7 +10,8 @@ use gc_texts::RunFault;
 use std::alloc::Global;
 
 impl GeocomInstrument {
-    /// Sets up the instrument of a scene's text, in its opening state, or leaves none where the scene is refused.
+    /// Sets up the instrument of a scene's text, in its opening state. If the scene is refused, no instrument is there afterwards, and
+    /// the result has the fault, and the scene's line that it names, if it names one.
     pub(crate) fn set_up(&mut self, alloc: Global, scene: &[u8]) -> GeocomMade
         ensures { IsSetUp scene.now self.new result }
     {
@@ -30,7 +31,7 @@ impl GeocomInstrument {
     }
 }
 
-// The number of the line that a fault names, or 0.
+// The number of the scene's line that a fault names; 0 if it names none.
 fn line_of(fault: RunFault) -> u32
     ensures { result ≡ line_of fault }
 {

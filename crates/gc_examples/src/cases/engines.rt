@@ -1,5 +1,5 @@
-//! Runs of the engines. A case has the engine and its input, and what its ports do where they don't go well; it expects how the run
-//! ends, what it writes, what goes out over a link, and where it asks for them the sizes of its writes. Where it names no sizes of the
+//! Runs of the engines. A case has the engine and its input, and after how many calls each port fails, if it does; it expects how the
+//! run ends, what it writes, what is sent over a link, and the sizes of its writes if the case has them. If it names no sizes of the
 //! input's pieces, the input comes whole and in single bytes, and with `cuts each` cut in two at every place, too.
 
 use crate::cases::outcome::Came;
@@ -12,10 +12,10 @@ use std::io;
 pub struct Engines;
 
 impl Player for Engines {
-    // Sets a run up as the case says, and plays it.
+    // Sets a run up as the case says, and compares what it comes to with what the case expects.
     fn play(&self, rt: &HostRuntime, case: &Case<'_>, wrong: &mut Told) -> io::Result<()> {
         let mut setup = Setup::unset(rt.alloc());
-        match setup.take(case) {
+        match setup.take(rt.alloc(), case) {
             Ok(()) => play_setup(rt.alloc(), case, &setup, wrong),
             Err(_) => wrong.lack(),
         }
@@ -23,8 +23,8 @@ impl Player for Engines {
     }
 }
 
-// Runs a set-up, and tells what came. Where the set-up gives no sizes of pieces, the input comes in other pieces, too
-// (`differing`), and what differs then is told behind the end.
+// Runs a set-up, and compares what came with what the case expects. If the set-up gives no sizes of pieces, the input comes in other
+// pieces, too, and in which of these the run comes to something else (`differing`) is appended to how it ended.
 fn play_setup(alloc: Global, case: &Case<'_>, setup: &Setup, wrong: &mut Told) {
     let whole = setup.run(alloc, setup.sizes.as_slice());
     let otherwise = if setup.sizes.is_empty() {
@@ -32,11 +32,11 @@ fn play_setup(alloc: Global, case: &Case<'_>, setup: &Setup, wrong: &mut Told) {
     } else {
         ""
     };
-    whole.tell(alloc, case, otherwise, wrong);
+    whole.compare(alloc, case, otherwise, wrong);
 }
 
-/// In which pieces the input comes to something else than `whole`, which it came to in one piece: in single bytes, or, where
-/// `is_each` asks for it, cut in two somewhere. Empty: in none.
+/// In words, in which pieces the input comes to something else than `whole`, which it came to in one piece: in single bytes, or, if
+/// `is_each`, cut in two somewhere. Empty if in none.
 pub fn differing(alloc: Global, setup: &Setup, whole: &Came, is_each: bool) -> &'static str {
     if !setup.is_same_single(alloc, whole) {
         return ", and otherwise in single bytes";
@@ -47,7 +47,7 @@ pub fn differing(alloc: Global, setup: &Setup, whole: &Came, is_each: bool) -> &
     ""
 }
 
-/// Appends the size of a single byte for each byte of an input.
+/// Appends the size 1 for each byte of an input, so that it comes in single bytes.
 pub fn push_single(sizes: &mut Vec<usize>, input: &[u8]) -> Result<(), AllocError> {
     for _ in input {
         sizes.push(1)?;

@@ -1,5 +1,5 @@
-//! A port that fails at its call k, for each k from 0 until a run ends well. A case has the engine, its input and the port. It
-//! expects groups of such runs in a row that came to the same: how many they are, how they ended, and what was written. There
+//! Runs whose port fails at its call k, for each k from 0 until a run ends well. A case has the engine, its input and the port. It
+//! expects groups of runs in a row that came to the same: how many they are, how they ended, and what was written. In its text
 //! `a part` stands for the first k bytes of what a run without a fault writes, and `byte +` for a number of bytes that is 0 in
 //! the first run of a group and one more in each further one.
 
@@ -13,8 +13,8 @@ use std::io;
 /// Plays `.failing`.
 pub struct Failing;
 
-// No run has so many calls.
-const CALLS: u64 = 1000;
+// The most calls at which a port fails in turn. No run has so many.
+const MOST_CALLS: u64 = 1000;
 
 // The keys under which a case has its groups, in their order.
 const KEYS: [&str; 5] = ["first", "second", "third", "fourth", "fifth"];
@@ -23,7 +23,7 @@ impl Player for Failing {
     // Sets a run up as the case says, with the input in single bytes, and plays it with a port that fails at each call in turn.
     fn play(&self, rt: &HostRuntime, case: &Case<'_>, wrong: &mut Told) -> io::Result<()> {
         let mut setup = Setup::unset(rt.alloc());
-        match take_single(case, &mut setup) {
+        match take_single(rt.alloc(), case, &mut setup) {
             Ok(()) => play_calls(rt.alloc(), case, &mut setup, wrong),
             Err(_) => wrong.lack(),
         }
@@ -32,16 +32,17 @@ impl Player for Failing {
 }
 
 // Takes the set-up that a case says, with the input in single bytes.
-fn take_single(case: &Case<'_>, setup: &mut Setup) -> Result<(), AllocError> {
-    setup.take(case)?;
+fn take_single(alloc: Global, case: &Case<'_>, setup: &mut Setup) -> Result<(), AllocError> {
+    setup.take(alloc, case)?;
     push_single(&mut setup.sizes, setup.input.as_slice())
 }
 
-// Runs a set-up with its port failing at call k, for each k until a run ends well, and tells the groups of runs.
+// Runs a set-up with its port failing at call k, for each k until a run ends well, and compares the groups of runs with those that
+// the case expects.
 fn play_calls(alloc: Global, case: &Case<'_>, setup: &mut Setup, wrong: &mut Told) {
     let whole = setup.run(alloc, &[]);
     let mut groups = Groups::new(alloc);
-    for k in 0..CALLS {
+    for k in 0..MOST_CALLS {
         setup.fail_at(case.value("port"), k);
         if play_call(alloc, case, setup, &whole, k, &mut groups, wrong) {
             break;
@@ -50,7 +51,8 @@ fn play_calls(alloc: Global, case: &Case<'_>, setup: &mut Setup, wrong: &mut Tol
     groups.finish(alloc, case, wrong);
 }
 
-// Plays a run whose port fails at call k, and says whether it went well.
+// Plays a run whose port fails at call k, adds it to the groups, and returns whether it went well. `whole` is what the run without a fault
+// came to.
 fn play_call(
     alloc: Global,
     case: &Case<'_>,
@@ -62,13 +64,14 @@ fn play_call(
 ) -> bool {
     let came = setup.run(alloc, setup.sizes.as_slice());
     let mut output = Told::new(alloc);
-    tell_output(&came, whole, case.value("port"), k, &mut output);
+    append_output(&came, whole, case.value("port"), k, &mut output);
     groups.add(alloc, case, &came.end, &output, wrong);
     came.end.is_done()
 }
 
-// Tells what was written by the run whose port failed at call k.
-fn tell_output(came: &Came, whole: &Came, port: &str, k: u64, output: &mut Told) {
+// Appends what was written by the run whose port failed at call k; for the output port `a part`, if that is the first k bytes of what
+// the run without a fault wrote.
+fn append_output(came: &Came, whole: &Came, port: &str, k: u64, output: &mut Told) {
     let written = came.output.bytes.as_slice();
     if port == "output" && whole.begins_with(written, k) {
         output.text("a part");
@@ -77,8 +80,8 @@ fn tell_output(came: &Came, whole: &Came, port: &str, k: u64, output: &mut Told)
     }
 }
 
-// Tells what the run with a failing call came to. `place` is the run's place in its group, counted from 0.
-fn tell_call(end: &End, output: &Told, place: u64, text: &mut Told) {
+// Appends how a run with a failing call ended, and what it wrote (`output`). `place` is the run's place in its group, counted from 0.
+fn append_call(end: &End, output: &Told, place: u64, text: &mut Told) {
     text.told(&end.text);
     match end.bytes {
         Some(bytes) if bytes as u64 == place => text.text(" byte +"),
@@ -89,11 +92,14 @@ fn tell_call(end: &End, output: &Told, place: u64, text: &mut Told) {
     text.told(output);
 }
 
-// The group of runs in a row that came to the same, by its text and their count, and how many groups were before it.
+// The last group of runs in a row that came to the same.
 #[derive(Drop)]
 struct Groups {
+    // How many groups were before it.
     before: usize,
+    // What each of its runs came to.
     text: Told,
+    // How many runs it has.
     count: u64,
 }
 
@@ -107,10 +113,10 @@ impl Groups {
         }
     }
 
-    // Adds a call to the last group, or begins another one with it.
+    // Adds a run to the last group, if it came to the same, or begins another one with it.
     fn add(&mut self, alloc: Global, case: &Case<'_>, end: &End, output: &Told, wrong: &mut Told) {
         let mut text = Told::new(alloc);
-        tell_call(end, output, self.count, &mut text);
+        append_call(end, output, self.count, &mut text);
         if self.count > 0 && text.as_bytes() == self.text.as_bytes() {
             self.count = self.count.saturating_add(1);
         } else {
@@ -118,7 +124,7 @@ impl Groups {
         }
     }
 
-    // Begins a group with a call.
+    // Ends the last group, if there is one, and begins another one with this run.
     fn begin(
         &mut self,
         alloc: Global,
@@ -129,27 +135,27 @@ impl Groups {
     ) {
         self.close(alloc, case, wrong);
         self.text.clear();
-        tell_call(end, output, 0, &mut self.text);
+        append_call(end, output, 0, &mut self.text);
         self.count = 1;
     }
 
-    // Compares the group of calls that ended last with what the case expects, if a call was made.
+    // Ends the last group, if it has a run: compares it with what the case expects, and counts it.
     fn close(&mut self, alloc: Global, case: &Case<'_>, wrong: &mut Told) {
         if self.count > 0 {
-            self.tell(alloc, case, wrong);
+            self.compare(alloc, case, wrong);
             self.before = self.before.saturating_add(1);
         }
     }
 
-    // Tells the group, and compares it with what the case has under the group's key.
-    fn tell(&self, alloc: Global, case: &Case<'_>, wrong: &mut Told) {
+    // Compares the group, how many runs it has and what they came to, with what the case has under the group's key.
+    fn compare(&self, alloc: Global, case: &Case<'_>, wrong: &mut Told) {
         let mut told = Told::new(alloc);
         told.counted(&self.count, " calls: ");
         told.told(&self.text);
         case.tell_told(KEYS.get(self.before).copied().unwrap_or("?"), &told, wrong);
     }
 
-    // Tells the last group, and nothing for each later key, so that none is missed.
+    // Compares the last group, and then an empty text for each later key, so that no group which the case expects is missed.
     fn finish(&mut self, alloc: Global, case: &Case<'_>, wrong: &mut Told) {
         self.close(alloc, case, wrong);
         for key in KEYS.iter().skip(self.before) {

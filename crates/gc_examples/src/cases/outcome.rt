@@ -9,9 +9,9 @@ use std::alloc::Global;
 /// How a run ended.
 #[derive(Drop)]
 pub struct End {
-    /// `done`, or the fault as it is printed, with how many lines went before where they are counted.
+    /// `done`, or the fault as it is printed, with how many lines were written before, if the engine counts them.
     pub text: Told,
-    /// The bytes of the line that a write fell short of, which the text leaves out.
+    /// How many bytes of its line a failed write took, which the text leaves out; `None` if no write failed.
     pub bytes: Option<usize>,
 }
 
@@ -25,7 +25,7 @@ pub struct Came {
 }
 
 impl Came {
-    /// Nothing yet, over these two sinks.
+    /// A run that hasn't begun, with one sink for its output and one for what it sends over the link.
     pub fn new(alloc: Global, output: Taking, link: Taking) -> Came {
         Came {
             end: End::new(alloc),
@@ -35,13 +35,13 @@ impl Came {
     }
 
     /// Whether another run ended in the same way and wrote the same bytes, in however many writes.
-    pub fn is(&self, other: &Came) -> bool {
-        self.end.is(&other.end)
+    pub fn is_same_as(&self, other: &Came) -> bool {
+        self.end.is_same_as(&other.end)
             && self.output.bytes.as_slice() == other.output.bytes.as_slice()
             && self.link.bytes.as_slice() == other.link.bytes.as_slice()
     }
 
-    /// Whether it went well, and wrote this.
+    /// Whether the run ended well and wrote exactly `output`.
     pub fn wrote(&self, output: &[u8]) -> bool {
         self.end.is_done() && self.output.bytes.as_slice() == output
     }
@@ -51,19 +51,20 @@ impl Came {
         front.len() as u64 == count && self.output.bytes.starts_with(front)
     }
 
-    /// Tells what came for the keys of a case. `otherwise`, which is said of other pieces of the input, stands behind the end.
-    pub fn tell(&self, alloc: Global, case: &Case<'_>, otherwise: &str, wrong: &mut Told) {
-        self.end.tell(alloc, case, otherwise, wrong);
+    /// Compares how the run ended, what it wrote, and the sizes of its writes with what the case has under its keys. `otherwise`, in
+    /// which pieces of the input it came to something else, is appended to the end.
+    pub fn compare(&self, alloc: Global, case: &Case<'_>, otherwise: &str, wrong: &mut Told) {
+        self.end.compare(alloc, case, otherwise, wrong);
         case.tell("output", self.output.bytes.as_slice(), wrong);
         case.tell("sent", self.link.bytes.as_slice(), wrong);
         if !case.has("writes", "") {
-            tell_writes(alloc, case, self.output.sizes.as_slice(), wrong);
+            compare_writes(alloc, case, self.output.sizes.as_slice(), wrong);
         }
     }
 }
 
-// Tells how many bytes each write of the output had, with a space between.
-fn tell_writes(alloc: Global, case: &Case<'_>, sizes: &[usize], wrong: &mut Told) {
+// Compares how many bytes each write of the output had, with a space between, with the case's `writes`.
+fn compare_writes(alloc: Global, case: &Case<'_>, sizes: &[usize], wrong: &mut Told) {
     let mut text = Told::new(alloc);
     let mut between = "";
     for size in sizes {
@@ -87,15 +88,15 @@ impl End {
         self.text.as_bytes().starts_with(b"done")
     }
 
-    // Whether both runs ended in the same way. False where memory ran out for the text of `self`.
-    fn is(&self, other: &End) -> bool {
+    // Whether both runs ended in the same way; `false` if memory ran out for the text of `self`.
+    fn is_same_as(&self, other: &End) -> bool {
         !self.text.is_lacking()
             && self.text.as_bytes() == other.text.as_bytes()
             && self.bytes == other.bytes
     }
 
-    // Tells the text, with the bytes if there are any, and `otherwise` behind them.
-    fn tell(&self, alloc: Global, case: &Case<'_>, otherwise: &str, wrong: &mut Told) {
+    // Compares the text, with the bytes if there are any, and `otherwise` after them, with the case's `end`.
+    fn compare(&self, alloc: Global, case: &Case<'_>, otherwise: &str, wrong: &mut Told) {
         let mut told = Told::new(alloc);
         told.told(&self.text);
         if let Some(bytes) = self.bytes {
@@ -105,14 +106,14 @@ impl End {
         case.tell_told("end", &told, wrong);
     }
 
-    // Takes the end of a run whose write fell short: so many lines went out whole, and so many bytes of the next.
+    // Stores the end of a run whose write failed: `replies` lines were written whole, and `bytes` bytes of the next.
     fn fall_short(&mut self, replies: u64, bytes: usize) {
         self.text.titled("fault 43 reply ", &replies);
         self.bytes = Some(bytes);
     }
 
-    /// Takes the end of an engine that counts its lines.
-    pub fn serve(&mut self, end: Result<Served, ServeFault>) {
+    /// Stores the end of a run of an engine that counts the lines that it writes.
+    pub fn set_served(&mut self, end: Result<Served, ServeFault>) {
         match end {
             Err(ServeFault::Write { replies, bytes }) => self.fall_short(replies, bytes),
             Ok(Served { replies }) => self.text.titled("done ", &replies),
@@ -123,8 +124,8 @@ impl End {
         }
     }
 
-    /// Takes the end of an engine that doesn't count its lines.
-    pub fn run(&mut self, end: Result<(), RunFault>) {
+    /// Stores the end of a run of an engine that doesn't count the lines that it writes.
+    pub fn set_run(&mut self, end: Result<(), RunFault>) {
         match end {
             Ok(()) => self.text.text("done"),
             Err(RunFault::Write { replies, bytes }) => self.fall_short(replies, bytes),

@@ -4,6 +4,7 @@
 
 ghost use Rattle.std.specs.Prelude.{◌≤◌, length};
 
+use crate::cases::setup::size;
 use gc_cases::{Case, Player, Told, bytes_of};
 use gc_catalogue::{Answer, Asked, Asking, Call, Reading};
 use gc_lines::{Line, ToWriter, read_reply};
@@ -13,11 +14,17 @@ use gc_values::ValueFault;
 use std::alloc::Global;
 use std::io;
 
+// When the run of each record began, in milliseconds since 1970.
+const RUN_BEGIN: u64 = 1_795_388_880_000;
+
+// When the command of a record ended, in milliseconds since 1970, if the case doesn't say it.
+const DEFAULT_UTC: u64 = 1_795_388_907_123;
+
 /// Plays `.records`.
 pub struct Records;
 
 impl Player for Records {
-    // Writes the record of a case, and compares it with what the case has under `is`.
+    // Writes the record of a case, or its form's head, and compares it with what the case has under `is`.
     fn play(&self, rt: &HostRuntime, case: &Case<'_>, wrong: &mut Told) -> io::Result<()> {
         let mut written = Told::new(rt.alloc());
         match form_of(case.value("form")) {
@@ -29,7 +36,7 @@ impl Player for Records {
     }
 }
 
-// The form of records that a word names.
+// The form of records that a word names. `None`: it names none.
 fn form_of(word: &str) -> Option<Form> {
     match word {
         "lines" => Some(Form::Lines),
@@ -40,7 +47,7 @@ fn form_of(word: &str) -> Option<Form> {
     }
 }
 
-// Writes the record, or what stands in front of all where there is no command.
+// Writes the record of a case; without a command, the head that is written before all records.
 fn write_case(alloc: Global, case: &Case<'_>, form: Form, written: &mut Told) {
     if case.has("command", "") {
         let _ = write_head(&mut ToWriter::new(written.writer()), form);
@@ -68,7 +75,7 @@ fn write_named(alloc: Global, case: &Case<'_>, form: Form, name: &[u8], written:
     }
 }
 
-// Writes the record of a command with this reply, for a target of this name.
+// Writes the record of a command with this reply, for a target of this name, of which at most 64 bytes are used.
 fn write_ending(
     case: &Case<'_>,
     form: Form,
@@ -111,11 +118,11 @@ fn put_record(
 // The moments of a record: when its request was sent, if it was, and when its command ended.
 fn when_of(case: &Case<'_>) -> When {
     When {
-        run: 1795388880000,
+        run: RUN_BEGIN,
         stamp: Stamp {
             sent: case.value("sent").parse::<u64>().ok(),
-            utc: case.value("utc").parse::<u64>().unwrap_or(1795388907123),
-            cycle: case.value("cycle").parse::<u64>().unwrap_or(2),
+            utc: case.number("utc", DEFAULT_UTC),
+            cycle: case.number("cycle", 2),
             // (no record shows the place in the station's list)
             place: 40,
             turn: turn_of(case),
@@ -123,16 +130,17 @@ fn when_of(case: &Case<'_>) -> When {
     }
 }
 
-// Which command of the text a record is of, and in which attempt.
+// Which command of a station's text a record is of, and in which attempt: place 3 and the first attempt, where the case doesn't say.
 fn turn_of(case: &Case<'_>) -> Turn {
     Turn {
-        place: case.value("place").parse::<usize>().unwrap_or(3),
-        attempt: case.value("attempt").parse::<u64>().unwrap_or(1),
+        place: size(case, "place", 3),
+        attempt: case.number("attempt", 1),
+        // (no record shows the command's place in its chain)
         link: 0,
     }
 }
 
-// A reply's line.
+// The line of a reply; an empty one if the reply is too long for a line.
 fn line_of(reply: &[u8]) -> Line {
     let mut line = Line::new();
     let _ = line.try_extend_from_slice(reply);
@@ -151,7 +159,7 @@ fn command_of(alloc: Global, text: &[u8]) -> Wish {
     }
 }
 
-// What a reply says of what was asked; a refusal where the line is no reply.
+// What a reply says of what was asked; a refusal with code 0 if the line is no reply.
 fn reading_of(asked: &Asked, line: &Line) -> Reading {
     let mut reading = Reading::Refused(0);
     if let Ok(reply) = read_reply(line.as_slice()) {
@@ -160,8 +168,8 @@ fn reading_of(asked: &Asked, line: &Line) -> Reading {
     reading
 }
 
-// How a command ended; where no word says it, as its reply reads. `zeroed` is what the reply says with return code 0, as one does
-// whose return code is accepted.
+// How a command ended: as `word` says, or, if it says nothing, as its reply reads. `zeroed` is what the reply says if its return code
+// is taken as 0, as that of a reply is whose return code is accepted.
 fn ending_of<'a>(
     word: &str,
     reading: &'a Reading,
@@ -184,7 +192,7 @@ fn ending_of<'a>(
     }
 }
 
-// The quality of an answer whose reply says this, where no return code is accepted beside 0.
+// The quality of an answer whose reply says this, if no return code but 0 is accepted.
 fn quality_of(reading: &Reading) -> Quality {
     match reading {
         Reading::Value(_) | Reading::Unreadable(_) => Quality::Fine,
@@ -192,7 +200,7 @@ fn quality_of(reading: &Reading) -> Quality {
     }
 }
 
-// The answer in what a reply says.
+// The answer in what a reply says. `None`: it is a refusal, or doesn't read.
 fn answer_in(reading: &Reading) -> Option<&Answer> {
     match reading {
         Reading::Value(answer) => Some(answer),

@@ -1,7 +1,7 @@
-//! Runs of a scene's text: it is read, or its instrument is served.
+//! Runs of a scene's text: it is read, or its instrument answers requests.
 
 use crate::cases::outcome::Came;
-use crate::cases::setup::Setup;
+use crate::cases::setup::{Engine, Setup};
 use crate::cases::sink::Taking;
 use gc_engines::{read_rule_scene, read_scene, read_still_scene, read_timed_scene};
 use gc_instrument::serve;
@@ -12,7 +12,7 @@ use gc_texts::{RunFault, before, behind, number_of};
 use itoa::Buffer;
 use std::alloc::Global;
 
-// Writes the instrument's reply to a line, which may have a CR at its end, and says whether there is one.
+// Writes the instrument's reply to a line, which may have a CR at its end. Returns whether there was a reply, and was written.
 fn answers_line(instrument: &mut SceneInstrument, line: &[u8], output: &mut Taking) -> bool {
     let mut text = Outgoing::new();
     if !instrument.reply_onto(line.strip_suffix(b"\r").unwrap_or(line), &mut text) {
@@ -22,73 +22,62 @@ fn answers_line(instrument: &mut SceneInstrument, line: &[u8], output: &mut Taki
     write_whole(output, text.as_slice()).is_ok()
 }
 
+// The fault of reading a scene, if there is one, without the instrument that was read.
+fn without_instrument<T: Drop>(read: Result<T, RunFault>) -> Result<(), RunFault> {
+    match read {
+        Ok(_) => Ok(()),
+        Err(fault) => Err(fault),
+    }
+}
+
 impl Setup {
-    // Serves with the scene's instrument.
+    // Has the instrument of the scene, which has no rules, answer the requests of `source`.
     pub(crate) fn serve(&self, alloc: Global, source: &mut PieceSource<'_>, came: &mut Came) {
         match read_scene(alloc, self.scene.as_slice()) {
             Ok(mut instrument) => {
                 let end = serve(&mut instrument, source, &mut came.output, self.allowed);
-                came.end.serve(end);
+                came.end.set_served(end);
             }
-            Err(fault) => came.end.run(Err(fault)),
+            Err(fault) => came.end.set_run(Err(fault)),
         }
     }
 
-    // Serves with the instrument of the scene, which has rules.
+    // Has the instrument of the scene, which has rules, answer the requests of `source`; if the case has moments, those of the input,
+    // each at its moment.
     pub(crate) fn serve_rules(&self, alloc: Global, source: &mut PieceSource<'_>, came: &mut Came) {
         match read_rule_scene(alloc, self.scene.as_slice()) {
             Ok(mut instrument) if self.moments.is_empty() => {
                 let end = serve_scene(&mut instrument, source, &mut came.output, self.allowed);
-                came.end.serve(end);
+                came.end.set_served(end);
             }
             Ok(mut instrument) => self.serve_by_moments(&mut instrument, came),
-            Err(fault) => came.end.run(Err(fault)),
+            Err(fault) => came.end.set_run(Err(fault)),
         }
     }
 
-    // Serves so many lines of the input as there are moments, each at its own.
+    // Has the instrument answer as many lines of the input as there are moments, each at its own moment.
     fn serve_by_moments(&self, instrument: &mut SceneInstrument, came: &mut Came) {
         let mut left = self.input.as_slice();
         let mut replies = 0u64;
         for moment in self.moments.iter() {
-            instrument.at(*moment as u64);
+            instrument.set_moment(*moment as u64);
             if answers_line(instrument, before(b'\n', left), &mut came.output) {
                 replies = replies.saturating_add(1);
             }
             left = behind(b'\n', left);
         }
-        came.end.serve(Ok(Served { replies }));
+        came.end.set_served(Ok(Served { replies }));
     }
 
-    // Reads the input as a scene.
-    pub(crate) fn read(&self, alloc: Global) -> Result<(), RunFault> {
-        match read_scene(alloc, self.input.as_slice()) {
-            Ok(_) => Ok(()),
-            Err(fault) => Err(fault),
-        }
-    }
-
-    // Reads the input as a scene with rules.
-    pub(crate) fn read_rules(&self, alloc: Global) -> Result<(), RunFault> {
-        match read_rule_scene(alloc, self.input.as_slice()) {
-            Ok(_) => Ok(()),
-            Err(fault) => Err(fault),
-        }
-    }
-
-    // Reads the input as a scene that `serve` takes.
-    pub(crate) fn read_timed(&self, alloc: Global) -> Result<(), RunFault> {
-        match read_timed_scene(alloc, self.input.as_slice()) {
-            Ok(_) => Ok(()),
-            Err(fault) => Err(fault),
-        }
-    }
-
-    // Reads the input as a scene with rules for an instrument without a clock.
-    pub(crate) fn read_still_rules(&self, alloc: Global) -> Result<(), RunFault> {
-        match read_still_scene(alloc, self.input.as_slice()) {
-            Ok(_) => Ok(()),
-            Err(fault) => Err(fault),
+    // Reads the input as a scene of the kind that the engine names, without rules for any other engine. The error is the fault of the
+    // input's text.
+    pub(crate) fn read_input_scene(&self, alloc: Global) -> Result<(), RunFault> {
+        let text = self.input.as_slice();
+        match self.engine {
+            Engine::RuleScene => without_instrument(read_rule_scene(alloc, text)),
+            Engine::TimedScene => without_instrument(read_timed_scene(alloc, text)),
+            Engine::StillScene => without_instrument(read_still_scene(alloc, text)),
+            _ => without_instrument(read_scene(alloc, text)),
         }
     }
 
@@ -100,14 +89,15 @@ impl Setup {
                 for row in self.input.split(|byte| *byte == b'\n') {
                     serve_row(&mut slow, row, &mut came.output);
                 }
-                came.end.run(Ok(()));
+                came.end.set_run(Ok(()));
             }
-            Err(fault) => came.end.run(Err(fault)),
+            Err(fault) => came.end.set_run(Err(fault)),
         }
     }
 }
 
-// Gives an instrument the line of a row, which begins with its moment, and writes the reply after the moment at which it is sent.
+// Gives an instrument the line of a row, which begins with its moment in milliseconds, and writes the moment at which the reply is
+// sent, and the reply. Without a reply nothing is written.
 fn serve_row(slow: &mut SlowInstrument, row: &[u8], output: &mut Taking) {
     let at = number_of(before(b' ', row), 4_294_967_295).unwrap_or(0);
     let mut reply = Line::new();

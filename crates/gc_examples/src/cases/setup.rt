@@ -1,4 +1,4 @@
-//! What a case says of a run: the engine, what goes in, and how long each port goes well.
+//! What a case says of a run: the engine, its input, and how many calls of each port are answered.
 
 ghost use Rattle.std.specs.Prelude.{◌≤◌};
 ghost use Rattle.gc_client.specs.declared.window.TheConstants.{WINDOW};
@@ -7,7 +7,7 @@ use crate::cases::engines::push_single;
 use crate::cases::outcome::Came;
 use crate::cases::sink::Taking;
 use gc_ask::{Duplex, run_ask, run_loop_on};
-use gc_cases::{Case, push_all};
+use gc_cases::{Case, input_of, number_or, push_all};
 use gc_engines::{
     read_scene, read_still_scene, run_check, run_check_log, run_drill_on, run_drill_scene, run_exec,
 };
@@ -19,31 +19,52 @@ use std::alloc::{AllocError, Global};
 /// Which engine a case goes through.
 #[derive(Clone, Copy, PartialEq, Eq)]
 pub enum Engine {
+    /// `exec` on the simulator.
     Exec,
+    /// The instrument of a scene without rules answers the input.
     Serve,
+    /// `check` of the input.
     Check,
+    /// `check` of the input as a log.
     CheckLog,
+    /// `drill` of the input, on the instrument of a scene without rules.
     Drill,
+    /// `ask` of the input's commands, over a link that gives what the case says.
     Ask,
+    /// `loop` of the input's commands, with the instrument of a scene without rules.
     Loop,
+    /// The input is read as a scene without rules.
     Scene,
+    /// The instrument of a scene with rules answers the input.
     Rules,
+    /// `drill` of the input, on the instrument of a scene with rules.
     DrillRules,
+    /// The input is read as a scene with rules.
     RuleScene,
+    /// The instrument of a scene whose replies take time answers the input, each line at its moment.
     Slow,
+    /// The input is read as a scene whose replies may take time.
     TimedScene,
+    /// The input is read as a scene with rules for an instrument without a clock.
     StillScene,
+    /// The case names no engine.
     None,
 }
 
-/// How many calls of each port are answered.
+/// How many calls of each port are answered before it fails.
 #[derive(Clone, Copy)]
 pub struct Answers {
+    /// Reads of the input.
     pub input: u64,
+    /// Writes of the output.
     pub output: u64,
+    /// Reads of the link by the client.
     pub link_in: u64,
+    /// Writes to the link by the client.
     pub link_out: u64,
+    /// Reads by the instrument of `loop`.
     pub instrument_in: u64,
+    /// Writes by the instrument of `loop`.
     pub instrument_out: u64,
 }
 
@@ -52,10 +73,11 @@ pub struct Answers {
 pub struct Setup {
     pub engine: Engine,
     pub input: Vec<u8>,
-    /// In which pieces the input comes.
+    /// The sizes of the pieces in which the input comes.
     pub sizes: Vec<usize>,
-    /// What the link gives of itself, and in which pieces.
+    /// What the link of `ask` gives, whatever is sent.
     pub link: Vec<u8>,
+    /// The sizes of the pieces in which the link gives it.
     pub link_sizes: Vec<usize>,
     /// The text of the scene whose instrument answers.
     pub scene: Vec<u8>,
@@ -64,11 +86,13 @@ pub struct Setup {
     /// How many reads are allowed.
     pub allowed: u32,
     pub answers: Answers,
-    /// The most bytes that one write of the output, and of the link, takes.
+    /// The most bytes that one write of the output takes.
     pub most: usize,
+    /// The most bytes that one write of the link takes.
     pub link_most: usize,
-    /// Whether a drill prints its totals, and how wide its window is.
+    /// Whether a drill prints its totals.
     pub totals: bool,
+    /// The width of a drill's window, as the case says it.
     pub width: u64,
 }
 
@@ -93,17 +117,18 @@ fn engine_of(word: &str) -> Engine {
     }
 }
 
-// The number under a key; `or` if there is none.
+// The value under a key as a number of 32 bits; `or` if it isn't one.
 pub(crate) fn small_number(case: &Case<'_>, key: &str, or: u32) -> u32 {
     case.value(key).parse::<u32>().unwrap_or(or)
 }
 
-// The size under a key; `or` if there is none.
-fn size(case: &Case<'_>, key: &str, or: usize) -> usize {
+// The value under a key as a size; `or` if it isn't one.
+pub(crate) fn size(case: &Case<'_>, key: &str, or: usize) -> usize {
     case.value(key).parse::<usize>().unwrap_or(or)
 }
 
-// Appends the sizes of a text, with a space between. `N x M` stands for the size M so many times.
+// Appends the sizes of a text, which has a space between two sizes. `N x M` stands for N times the size M. A word
+// that is no number is skipped.
 fn push_sizes(sizes: &mut Vec<usize>, text: &str) -> Result<(), AllocError> {
     if let Some((times, size)) = text.split_once(" x ") {
         return push_times(sizes, times, size);
@@ -116,10 +141,10 @@ fn push_sizes(sizes: &mut Vec<usize>, text: &str) -> Result<(), AllocError> {
     Ok(())
 }
 
-// Appends a size so many times.
+// Appends the size that `size` writes as many times as `times` says. Each is 0 if it is no number.
 fn push_times(sizes: &mut Vec<usize>, times: &str, size: &str) -> Result<(), AllocError> {
     let size = size.parse::<usize>().unwrap_or(0);
-    for _ in 0..times.parse::<u64>().unwrap_or(0) {
+    for _ in 0..number_or(times, 0) {
         sizes.push(size)?;
     }
     Ok(())
@@ -152,29 +177,20 @@ impl Setup {
         }
     }
 
-    /// A run of which nothing is said yet.
+    /// A run without an engine and without input, before a case says what they are.
     pub fn unset(alloc: Global) -> Setup {
         Setup::new(alloc, Engine::None, Vec::new(alloc))
     }
 
-    /// Takes the set-up that a case says.
-    pub fn take(&mut self, case: &Case<'_>) -> Result<(), AllocError> {
+    /// Sets the run up as a case says. The error is that memory ran out.
+    pub fn take(&mut self, alloc: Global, case: &Case<'_>) -> Result<(), AllocError> {
         self.engine = engine_of(case.value("engine"));
         self.take_numbers(case);
-        self.take_input(case)?;
+        self.input = input_of(alloc, case)?;
         self.take_bytes(case)
     }
 
-    // Takes the bytes under `front`, those under `input`, so many times as `times` says, and those under `behind`.
-    fn take_input(&mut self, case: &Case<'_>) -> Result<(), AllocError> {
-        push_all(&mut self.input, case.value("front"))?;
-        for _ in 0..case.number("times", 1) {
-            push_all(&mut self.input, case.value("input"))?;
-        }
-        push_all(&mut self.input, case.value("behind"))
-    }
-
-    // Takes the sizes of the input's pieces, what the link gives and in which pieces, the moments, and the scene.
+    // Takes from a case the sizes of the input's pieces, what the link gives and in which pieces, the moments, and the scene.
     fn take_bytes(&mut self, case: &Case<'_>) -> Result<(), AllocError> {
         push_sizes(&mut self.sizes, case.value("sizes"))?;
         push_all(&mut self.link, case.value("link"))?;
@@ -183,8 +199,8 @@ impl Setup {
         push_all(&mut self.scene, case.value("scene"))
     }
 
-    // Takes the numbers: of reads that are allowed, of calls that each port answers, of bytes that a write takes; and those of
-    // a drill.
+    // Takes from a case how many reads are allowed, how many calls each port answers, how many bytes a write takes, and of a drill
+    // whether it prints totals, and its width.
     fn take_numbers(&mut self, case: &Case<'_>) {
         self.allowed = small_number(case, "allowed", u32::MAX);
         self.answers.input = case.number("reads", u64::MAX);
@@ -197,8 +213,8 @@ impl Setup {
         self.width = case.number("width", 7);
     }
 
-    /// Lets a port fail at its call k, counted from 0. The port `allowed` stands for the number of reads that are allowed. For an
-    /// unknown port the input fails at once.
+    /// Has a port fail at its call k, counted from 0. The port `allowed` stands for the number of reads that are allowed. If the port
+    /// is unknown, the input fails at its first call.
     pub fn fail_at(&mut self, port: &str, k: u64) {
         match port {
             "input" => self.answers.input = k,
@@ -212,7 +228,7 @@ impl Setup {
         }
     }
 
-    // How many requests may wait: 1 where the case says so, and 7 else.
+    // How many requests of a drill may be outstanding: 1 if the case says so, otherwise 7.
     fn width(&self) -> u8
         ensures least { 1 ≤ result }
         ensures most { result ≤ WINDOW }
@@ -220,7 +236,7 @@ impl Setup {
         if self.width == 1 { 1 } else { 7 }
     }
 
-    /// Whether the input in single bytes comes to `whole`, which it came to in one piece.
+    /// Whether the input in single bytes comes to `whole`, which it came to in one piece; `false` if memory runs out.
     pub fn is_same_single(&self, alloc: Global, whole: &Came) -> bool {
         let mut ones = Vec::new(alloc);
         push_single(&mut ones, self.input.as_slice()).is_ok()
@@ -239,10 +255,10 @@ impl Setup {
 
     // Whether the input in pieces of these sizes comes to `whole`.
     fn comes_to(&self, alloc: Global, sizes: &[usize], whole: &Came) -> bool {
-        self.run(alloc, sizes).is(whole)
+        self.run(alloc, sizes).is_same_as(whole)
     }
 
-    /// Runs the engine over the input in pieces of these sizes.
+    /// Runs the engine over the input in pieces of these sizes, and returns how it ended and what it wrote.
     pub fn run(&self, alloc: Global, sizes: &[usize]) -> Came {
         let output = Taking::new(alloc, self.most, self.answers.output);
         let link = Taking::new(alloc, self.link_most, self.answers.link_out);
@@ -252,7 +268,8 @@ impl Setup {
         came
     }
 
-    // Runs the engine over this source, and takes how it ended and what it wrote into `came`.
+    // Runs the engine over this source, and stores in `came` how it ended and what it wrote: engines that read or serve a scene in
+    // scene_runs.rt, the other ones here.
     fn run_on(&self, alloc: Global, source: &mut PieceSource<'_>, came: &mut Came) {
         match self.engine {
             Engine::Exec | Engine::Check | Engine::CheckLog => self.answer(source, came),
@@ -264,13 +281,13 @@ impl Setup {
         }
     }
 
-    // Runs an engine that counts its lines.
+    // Runs `exec`, `check` or `check` of a log, which count the lines that they write, and stores in `came` how it ended.
     fn answer(&self, source: &mut PieceSource<'_>, came: &mut Came) {
         let end = self.answer_to(source, &mut came.output);
-        came.end.serve(end);
+        came.end.set_served(end);
     }
 
-    // Runs that engine, and returns how it ended.
+    // Runs `exec`, `check` or `check` of a log, and returns how it ended.
     fn answer_to(
         &self,
         source: &mut PieceSource<'_>,
@@ -283,13 +300,13 @@ impl Setup {
         }
     }
 
-    // Runs an engine that doesn't count its lines.
+    // Runs one of the engines that don't count the lines that they write, and stores in `came` how it ended.
     fn play(&self, alloc: Global, source: &mut PieceSource<'_>, came: &mut Came) {
         let end = self.play_to(alloc, source, &mut came.link, &mut came.output);
-        came.end.run(end);
+        came.end.set_run(end);
     }
 
-    // Runs that engine, and returns how it ended.
+    // Runs one of the engines that don't count the lines that they write, over this link and this output, and returns how it ended.
     fn play_to(
         &self,
         alloc: Global,
@@ -302,14 +319,11 @@ impl Setup {
             Engine::DrillRules => self.drill_rules(alloc, source, output),
             Engine::Ask => self.ask(alloc, source, link, output),
             Engine::Loop => self.ask_in_a_loop(alloc, source, output),
-            Engine::RuleScene => self.read_rules(alloc),
-            Engine::TimedScene => self.read_timed(alloc),
-            Engine::StillScene => self.read_still_rules(alloc),
-            _ => self.read(alloc),
+            _ => self.read_input_scene(alloc),
         }
     }
 
-    // Drills with the scene's instrument.
+    // Drills the input on the instrument of the scene, which has no rules.
     fn drill(
         &self,
         alloc: Global,
@@ -320,7 +334,7 @@ impl Setup {
         run_drill_on(alloc, instrument, source, output, self.totals, self.width())
     }
 
-    // Drills with the instrument of the scene, which has rules.
+    // Drills the input on the instrument of the scene, which has rules.
     fn drill_rules(
         &self,
         alloc: Global,
@@ -335,7 +349,7 @@ impl Setup {
         }
     }
 
-    // Asks the commands of the input.
+    // Asks the commands of the input over a link that gives what the case says.
     fn ask(
         &self,
         alloc: Global,
@@ -351,7 +365,7 @@ impl Setup {
         run_ask(alloc, source, &mut link_in, link, output, self.allowed)
     }
 
-    // Asks the commands of the input over two pipes.
+    // Asks the commands of the input over two pipes, with the scene's instrument at their other end.
     fn ask_in_a_loop(
         &self,
         alloc: Global,
@@ -362,7 +376,8 @@ impl Setup {
         self.loop_over(alloc, &up, &down, source, output)
     }
 
-    // Asks the commands of `source`, with the scene's instrument at the other end of these two pipes.
+    // Asks the commands of `source` over two pipes: the client writes to `up` and reads from `down`, and the scene's instrument does
+    // the reverse.
     fn loop_over(
         &self,
         alloc: Global,

@@ -1,18 +1,18 @@
 //! Events with each delivery in single bytes.
 
-use crate::cases::world::Worlds;
+use crate::cases::world::WorldRows;
 use gc_client::Slots;
 use gc_world::Event;
 use std::alloc::{AllocError, Global};
 
-/// The most bytes of a line under way, with CR LF.
+/// The most bytes of a line in flight, with CR LF.
 const MOST_BYTES: usize = 514;
 
-/// These events, with deliveries of one byte in place of each delivery of a line: as many as the line still has bytes to go, or
-/// one where no line is under way. `world` plays the events, to see how far a line is.
+/// These events, with deliveries of one byte in place of each delivery of a line: one for each byte of the line that isn't delivered
+/// yet, or one delivery if no line is in flight. `world` plays the events, to see how far a line is delivered.
 pub fn in_single_bytes(
     alloc: Global,
-    world: &Worlds,
+    world: &WorldRows,
     events: &[Event],
 ) -> Result<Vec<Event>, AllocError> {
     let mut pieces = Vec::new(alloc);
@@ -23,7 +23,7 @@ pub fn in_single_bytes(
 // Appends these events, each delivery in single bytes.
 fn push_all(
     alloc: Global,
-    world: &Worlds,
+    world: &WorldRows,
     events: &[Event],
     pieces: &mut Vec<Event>,
 ) -> Result<(), AllocError> {
@@ -36,7 +36,7 @@ fn push_all(
 // Appends an event: a delivery in single bytes, and any other event as it is.
 fn push_event(
     alloc: Global,
-    world: &Worlds,
+    world: &WorldRows,
     event: Event,
     pieces: &mut Vec<Event>,
 ) -> Result<(), AllocError> {
@@ -53,10 +53,10 @@ fn push(event: Event, pieces: &mut Vec<Event>) -> Result<(), AllocError> {
     Ok(())
 }
 
-// Appends `byte`, the delivery of one byte, until no line is half delivered in its direction.
+// Appends `byte`, the delivery of one byte, until no line is half delivered in its direction, at most `MOST_BYTES` times.
 fn deliver(
     alloc: Global,
-    world: &Worlds,
+    world: &WorldRows,
     byte: Event,
     pieces: &mut Vec<Event>,
 ) -> Result<(), AllocError> {
@@ -69,10 +69,10 @@ fn deliver(
     Ok(())
 }
 
-// Whether after these events the direction of `byte` is at the start of a line.
+// Whether after these events the direction of `byte` is at the start of a line. The error is that memory ran out.
 fn is_whole(
     alloc: Global,
-    world: &Worlds,
+    world: &WorldRows,
     events: &[Event],
     byte: Event,
 ) -> Result<bool, AllocError> {

@@ -5,18 +5,23 @@ ghost use Rattle.std.specs.Prelude.{None};
 use gc_lines::{PortFailed, Sink};
 use std::alloc::Global;
 
-/// Takes up to `most` bytes of each write, and fails after `answers` of them.
+/// Takes up to `most` bytes of each write, and fails after `answers` writes.
 #[derive(Drop)]
 pub struct Taking {
+    /// What it took.
     pub bytes: Vec<u8>,
+    /// How many bytes came with each write, also of those that it didn't take.
     pub sizes: Vec<usize>,
+    // The most bytes that it takes of a write.
     most: usize,
+    // How many more writes it takes.
     answers: u64,
+    // Whether a write has failed. Then each further one fails.
     failed: bool,
 }
 
 impl Taking {
-    /// A sink that took nothing yet, with these bounds.
+    /// A sink that took nothing yet, and takes `most` bytes of each of `answers` writes.
     pub fn new(alloc: Global, most: usize, answers: u64) -> Taking {
         Taking {
             bytes: Vec::new(alloc),
@@ -28,7 +33,8 @@ impl Taking {
     }
 }
 
-// Keeps the first `most` of these bytes, and how many bytes came, and returns how many were kept: 0 where no memory was found.
+// Appends the first `most` of these bytes to `kept`, and how many bytes came to `sizes`. Returns how many bytes were kept: 0 if memory
+// ran out.
 fn store(kept: &mut Vec<u8>, sizes: &mut Vec<usize>, most: usize, bytes: &[u8]) -> usize {
     let taken = bytes.get(..most).unwrap_or(bytes);
     let is_stored = kept.extend_from_slice(taken).is_ok();
@@ -43,7 +49,8 @@ impl Sink for Taking {
 
     ghost failed = { λ s. s.failed };
 
-    // Takes the first bytes, `most` at most. It fails after `answers` writes, and where no memory is found.
+    // Takes the first bytes, at most `most`, and returns how many. `Err`: no write is left, memory ran out or no byte was taken, now or at
+    // an earlier write.
     fn write(&mut self, bytes: &[u8]) -> Result<usize, PortFailed> {
         if self.failed || self.answers == 0 {
             self.failed = true;
@@ -58,6 +65,7 @@ impl Sink for Taking {
         Ok(n)
     }
 
+    // Whether a write has failed.
     fn has_failed(&self) -> bool {
         self.failed
     }

@@ -1,7 +1,8 @@
-//! Cases of texts. A text is read, and what it gives is told; so are a line of a log, the trouble of a line, a place, and how a
-//! fault is printed.
+//! Cases of texts. A text is read as the case's `as` says: as commands, a schedule, a station's tasks, a line of a log, a place and
+//! so on; or it names a fault, which is printed. The case expects under `is` what comes of it, as the functions here append it to
+//! `came`.
 
-use crate::cases::setup::small_number;
+use crate::cases::setup::{size, small_number};
 use gc_cases::{Case, Player, Told, bytes_of};
 use gc_catalogue::Asked;
 use gc_engines::read_schedule;
@@ -19,7 +20,7 @@ use std::io;
 pub struct Texts;
 
 impl Player for Texts {
-    // Plays the text that a case spells.
+    // Reads the text that a case spells, and compares what comes of it with what the case expects.
     fn play(&self, rt: &HostRuntime, case: &Case<'_>, wrong: &mut Told) -> io::Result<()> {
         match bytes_of(rt.alloc(), case.value("text")) {
             Ok(text) => play_text(rt.alloc(), case, text.as_slice(), wrong),
@@ -32,68 +33,68 @@ impl Player for Texts {
 // Compares what the text reads as with the case's value under `is`; and where the case has a value under `of`, which names a
 // target, also the name of that target. What differs goes to `wrong`.
 fn play_text(alloc: Global, case: &Case<'_>, text: &[u8], wrong: &mut Told) {
-    let mut is = Told::new(alloc);
-    read(alloc, case, text, &mut is);
-    case.tell_told("is", &is, wrong);
+    let mut came = Told::new(alloc);
+    read(alloc, case, text, &mut came);
+    case.tell_told("is", &came, wrong);
     if !case.has("of", "") {
-        tell_name(alloc, case, text, wrong);
+        compare_name(alloc, case, text, wrong);
     }
 }
 
-// Tells what a text is, read as the case says.
-fn read(alloc: Global, case: &Case<'_>, text: &[u8], is: &mut Told) {
+// Appends what comes of a text that is read as the case's `as` says.
+fn read(alloc: Global, case: &Case<'_>, text: &[u8], came: &mut Told) {
     match case.value("as") {
-        "line" => is.bytes(line_at(text, small_number(case, "line", 0))),
-        "trouble" => trouble(text, is),
-        "log" => log(text, is),
-        "fault" => fault(case, is),
-        word => read_text(alloc, word, case, text, is),
+        "line" => came.bytes(line_at(text, small_number(case, "line", 0))),
+        "trouble" => tell_trouble(text, came),
+        "log" => write_as_log_line(text, came),
+        "fault" => print_fault(case, came),
+        word => read_text(alloc, word, case, text, came),
     }
 }
 
-// Tells what a text is, read as this word says, which is none of those that `read` knows.
-fn read_text(alloc: Global, word: &str, case: &Case<'_>, text: &[u8], is: &mut Told) {
+// Appends what comes of a text that is read as this word says, which is none of those that `read` knows.
+fn read_text(alloc: Global, word: &str, case: &Case<'_>, text: &[u8], came: &mut Told) {
     match word {
-        "commands" => commands(alloc, text, is),
-        "schedule" => schedule(alloc, text, is),
-        "tasks" => tasks(alloc, case, text, is),
-        "call" => call(alloc, case, text, is),
-        "place" => place(text, is),
-        "log line" => log_line(text, is),
-        _ => is.text("no such text"),
+        "commands" => read_as_commands(alloc, text, came),
+        "schedule" => read_as_schedule(alloc, text, came),
+        "tasks" => read_as_tasks(alloc, case, text, came),
+        "call" => read_as_call(alloc, case, text, came),
+        "place" => read_as_place(text, came),
+        "log line" => read_as_log_line(text, came),
+        _ => came.text("no such text"),
     }
 }
 
-// Tells each command of a text, in a line for each; or the fault.
-fn commands(alloc: Global, text: &[u8], is: &mut Told) {
+// Reads a text as commands, and appends each of them in a line; or the fault.
+fn read_as_commands(alloc: Global, text: &[u8], came: &mut Told) {
     match read_commands(alloc, text) {
-        Ok(commands) => tell_commands(commands.as_slice(), is),
-        Err(fault) => is.display(&fault),
+        Ok(commands) => append_commands(commands.as_slice(), came),
+        Err(fault) => came.display(&fault),
     }
 }
 
-// Tells each command in a line: its target and its call.
-fn tell_commands(commands: &[Command], is: &mut Told) {
+// Appends each command in a line: its target and its call.
+fn append_commands(commands: &[Command], came: &mut Told) {
     for command in commands {
-        is.counted(&command.target, " ");
-        is.debug(&command.call);
-        is.text("\n");
+        came.counted(&command.target, " ");
+        came.debug(&command.call);
+        came.text("\n");
     }
 }
 
-// Tells each event of a schedule, in a line for each; or the fault.
-fn schedule(alloc: Global, text: &[u8], is: &mut Told) {
+// Reads a text as a schedule, and appends each of its events in a line; or the fault.
+fn read_as_schedule(alloc: Global, text: &[u8], came: &mut Told) {
     match read_schedule(alloc, text) {
-        Ok(events) => tell_events(events.as_slice(), is),
-        Err(fault) => is.display(&fault),
+        Ok(events) => append_events(events.as_slice(), came),
+        Err(fault) => came.display(&fault),
     }
 }
 
-// Tells each event in a line.
-fn tell_events(events: &[Event], is: &mut Told) {
+// Appends each event in a line.
+fn append_events(events: &[Event], came: &mut Told) {
     for event in events {
-        is.debug(event);
-        is.text("\n");
+        came.debug(event);
+        came.text("\n");
     }
 }
 
@@ -103,113 +104,114 @@ fn tasks_of(alloc: Global, case: &Case<'_>, text: &[u8]) -> Result<Tasks, RunFau
     read_tasks(alloc, text, deadline, case.has("mode", "chained"))
 }
 
-// Tells each task of a station's text, in a line for each, and how many names there are; or the fault.
-fn tasks(alloc: Global, case: &Case<'_>, text: &[u8], is: &mut Told) {
+// Reads a station's text, and appends each of its tasks in a line, and how many names there are; or the fault.
+fn read_as_tasks(alloc: Global, case: &Case<'_>, text: &[u8], came: &mut Told) {
     match tasks_of(alloc, case, text) {
-        Ok(all) => tell_tasks(case, &all, is),
-        Err(fault) => is.display(&fault),
+        Ok(all) => append_tasks(case, &all, came),
+        Err(fault) => came.display(&fault),
     }
 }
 
-// Tells each task in a line, and then how many names there are; and of a case with `turns told` each task's turn, and how many tasks
-// are the set-up.
-fn tell_tasks(case: &Case<'_>, all: &Tasks, is: &mut Told) {
+// Appends each task in a line, and then how many names there are. If the case says `turns told`, each task's turn is appended, too, and
+// how many tasks the setup has.
+fn append_tasks(case: &Case<'_>, all: &Tasks, came: &mut Told) {
     let turns = case.has("turns", "told");
     for task in all.tasks.as_slice() {
-        tell_task(task, is);
-        tell_near(task, is);
-        tell_accepted(task, is);
+        append_task(task, came);
+        append_near(task, came);
+        append_accepted(task, came);
         if turns {
-            tell_turn(task, is);
+            append_turn(task, came);
         }
-        is.text("\n");
+        came.text("\n");
     }
-    is.counted(&all.names.len(), " names");
+    came.counted(&all.names.len(), " names");
     if turns {
-        is.titled(" setup ", &all.setup);
+        came.titled(" setup ", &all.setup);
     }
 }
 
-// Tells a task's turn: its place, its attempt and its link; how many others this attempt and those behind it have; its rule; and whether
-// it sets the clock.
-fn tell_turn(task: &Task, is: &mut Told) {
-    is.titled(" place ", &task.turn.place);
-    is.titled(" attempt ", &task.turn.attempt);
-    is.titled(" link ", &task.turn.link);
-    is.titled(" others ", &task.others);
+// Appends a task's turn: its place, its attempt and its link; how many other tasks this attempt and those after it have; the rule by
+// which it is asked again; and whether it sets the clock.
+fn append_turn(task: &Task, came: &mut Told) {
+    came.titled(" place ", &task.turn.place);
+    came.titled(" attempt ", &task.turn.attempt);
+    came.titled(" link ", &task.turn.link);
+    came.titled(" others ", &task.others);
     for code in &task.again.codes.codes {
         if *code != 0 {
-            is.titled(" again ", code);
+            came.titled(" again ", code);
         }
     }
-    tell_outcomes(task, is);
-    is.either(task.now, " now", "");
+    append_outcomes(task, came);
+    came.either(task.now, " now", "");
 }
 
-// Tells the outcomes of a task's rule.
-fn tell_outcomes(task: &Task, is: &mut Told) {
-    is.either(task.again.unreadable, " unreadable", "");
-    is.either(task.again.elsewhere, " elsewhere", "");
-    is.either(task.again.late, " late", "");
-    is.either(task.again.lost, " lost", "");
-    is.either(task.again.skipped, " skipped", "");
+// Appends the outcomes after which a task is asked again.
+fn append_outcomes(task: &Task, came: &mut Told) {
+    came.either(task.again.unreadable, " unreadable", "");
+    came.either(task.again.elsewhere, " elsewhere", "");
+    came.either(task.again.late, " late", "");
+    came.either(task.again.lost, " lost", "");
+    came.either(task.again.skipped, " skipped", "");
 }
 
-// Tells what the first task of a text asks for where it goes out at the moment under `utc`, in milliseconds since 1970.
-fn call(alloc: Global, case: &Case<'_>, text: &[u8], is: &mut Told) {
+// Appends what the first task of a text asks for if it is sent at the moment under `utc`, in milliseconds since 1970; or `no task`, or the
+// fault.
+fn read_as_call(alloc: Global, case: &Case<'_>, text: &[u8], came: &mut Told) {
     match tasks_of(alloc, case, text) {
         Ok(all) => match all.tasks.as_slice().first() {
-            Some(task) => is.debug(&task.call_at(case.value("utc").parse::<u64>().unwrap_or(0))),
-            None => is.text("no task"),
+            Some(task) => came.debug(&task.call_at(case.number("utc", 0))),
+            None => came.text("no task"),
         },
-        Err(fault) => is.display(&fault),
+        Err(fault) => came.display(&fault),
     }
 }
 
-// Tells the target, the procedure and the deadline of a task, and whether it is chained.
-fn tell_task(task: &Task, is: &mut Told) {
-    is.display(&task.command.target);
-    is.titled(" ", &task.command.call.number());
-    tell_raw(&task.command.call, is);
-    is.titled(" within ", &task.deadline);
-    is.either(task.chained, " chained", "");
+// Appends the target, the procedure and the deadline of a task, and whether it is chained.
+fn append_task(task: &Task, came: &mut Told) {
+    came.display(&task.command.target);
+    came.titled(" ", &task.command.call.number());
+    append_raw(&task.command.call, came);
+    came.titled(" within ", &task.deadline);
+    came.either(task.chained, " chained", "");
 }
 
-// Tells the parameters of a procedure that isn't in the table, in brackets.
-fn tell_raw(asked: &Asked, is: &mut Told) {
+// Appends the parameters of a procedure that isn't in the table, in brackets.
+fn append_raw(asked: &Asked, came: &mut Told) {
     if let Asked::Raw(raw) = asked {
-        is.text(" [");
-        is.escaped(raw.params());
-        is.text("]");
+        came.text(" [");
+        came.escaped(raw.params());
+        came.text("]");
     }
 }
 
-// Tells where the target of a task stands, if the text says it, and within which tolerance.
-fn tell_near(task: &Task, is: &mut Told) {
+// Appends where the target of a task is, and the tolerance, if the text says them.
+fn append_near(task: &Task, came: &mut Told) {
     if let Some(near) = task.near {
-        is.titled(" near ", &near.place.hz);
-        is.titled(" ", &near.place.v);
-        is.titled(" ", &near.tolerance);
+        came.titled(" near ", &near.place.hz);
+        came.titled(" ", &near.place.v);
+        came.titled(" ", &near.tolerance);
     }
 }
 
-// Tells the return codes that are accepted beside 0.
-fn tell_accepted(task: &Task, is: &mut Told) {
+// Appends the return codes that a task accepts beside 0.
+fn append_accepted(task: &Task, came: &mut Told) {
     for code in &task.accepted.codes {
         if *code != 0 {
-            is.titled(" accepting ", code);
+            came.titled(" accepting ", code);
         }
     }
 }
 
-// Tells the name of the target that the case asks for.
-fn tell_name(alloc: Global, case: &Case<'_>, text: &[u8], wrong: &mut Told) {
+// Compares the name of the target whose number is under `of` with the case's `name`.
+fn compare_name(alloc: Global, case: &Case<'_>, text: &[u8], wrong: &mut Told) {
     let mut name = Told::new(alloc);
     name_of(alloc, case, text, &mut name);
     case.tell_told("name", &name, wrong);
 }
 
-// Tells the name of the target that stands under `of`, or the fault of the text.
+// Appends the name of the target whose number is under `of` to `name`, or the fault of the text.
 fn name_of(alloc: Global, case: &Case<'_>, text: &[u8], name: &mut Told) {
     match tasks_of(alloc, case, text) {
         Ok(all) => name.bytes(all.name_of(small_number(case, "of", 0))),
@@ -217,46 +219,46 @@ fn name_of(alloc: Global, case: &Case<'_>, text: &[u8], name: &mut Told) {
     }
 }
 
-// Tells what the program prints of a line at fault, taken as the third line.
-fn trouble(line: &[u8], is: &mut Told) {
-    if trouble_of(line).tell(3, is.writer()).is_err() {
-        is.lack();
+// Appends what the program prints of a faulty line of a text, as if it were the text's third line.
+fn tell_trouble(line: &[u8], came: &mut Told) {
+    if trouble_of(line).tell(3, came.writer()).is_err() {
+        came.lack();
     }
 }
 
-// Tells the place that a word names.
-fn place(word: &[u8], is: &mut Told) {
+// Appends the place of a link that a word names, or `none`.
+fn read_as_place(word: &[u8], came: &mut Told) {
     match place_of(str::from_utf8(word).unwrap_or("no text")) {
-        Some(place) => is.debug(&place),
-        None => is.text("none"),
+        Some(place) => came.debug(&place),
+        None => came.text("none"),
     }
 }
 
-// Tells a line of a log as its moment, its mark and its bytes.
-fn log_line(line: &[u8], is: &mut Told) {
+// Appends a line of a log as its moment, its mark and its bytes, or `no log line`.
+fn read_as_log_line(line: &[u8], came: &mut Told) {
     match read_log_line(line) {
-        Some(line) => tell_log_line(&line, is),
-        None => is.text("no log line"),
+        Some(line) => append_log_line(&line, came),
+        None => came.text("no log line"),
     }
 }
 
-// Tells the moment, the mark and the bytes of a line of a log, with spaces between.
-fn tell_log_line(line: &LogLine<'_>, is: &mut Told) {
-    is.escaped(line.moment);
-    is.text(" ");
-    is.escaped(line.mark.text());
-    is.text(" ");
-    is.escaped(line.bytes.as_slice());
+// Appends the moment, the mark and the bytes of a line of a log, with spaces between.
+fn append_log_line(line: &LogLine<'_>, came: &mut Told) {
+    came.escaped(line.moment);
+    came.text(" ");
+    came.escaped(line.mark.text());
+    came.text(" ");
+    came.escaped(line.bytes.as_slice());
 }
 
-// Tells the line that a log has of this text, which went out a second after the beginning of 1970.
-fn log(text: &[u8], is: &mut Told) {
-    if put_log(text, is.writer()) {
-        is.text("not written");
+// Appends the line that a log has of this text, as `put_log` writes it, or `not written`.
+fn write_as_log_line(text: &[u8], came: &mut Told) {
+    if put_log(text, came.writer()) {
+        came.text("not written");
     }
 }
 
-// Writes the line that a log has of this text, and says whether the write failed.
+// Writes the line that a log has of this text, as sent one second after the beginning of 1970. Returns `true` if the write failed.
 fn put_log(text: &[u8], written: &mut Vec<u8>) -> bool {
     let mut bytes = LogBytes::new();
     for byte in text {
@@ -267,29 +269,29 @@ fn put_log(text: &[u8], written: &mut Vec<u8>) -> bool {
     sink.has_failed()
 }
 
-// Tells a fault: its number, what `Display` prints, and its line.
-fn fault(case: &Case<'_>, is: &mut Told) {
+// Appends the fault that the case's text names, as `append_fault` does, or `no such fault`.
+fn print_fault(case: &Case<'_>, came: &mut Told) {
     match fault_of(case) {
-        Some(fault) => tell_fault(fault, is),
-        None => is.text("no such fault"),
+        Some(fault) => append_fault(fault, came),
+        None => came.text("no such fault"),
     }
 }
 
-// Tells the fault's number, what `Display` prints of it, and the line that `tell` writes.
-fn tell_fault(fault: RunFault, is: &mut Told) {
-    is.counted(&fault.number(), "\n");
-    is.counted(&fault, "\n");
-    if fault.tell(is.writer()).is_err() {
-        is.lack();
+// Appends a fault's number, what `Display` prints of it, and the line that `tell` writes.
+fn append_fault(fault: RunFault, came: &mut Told) {
+    came.counted(&fault.number(), "\n");
+    came.counted(&fault, "\n");
+    if fault.tell(came.writer()).is_err() {
+        came.lack();
     }
 }
 
-// The fault that a case names.
+// The fault that a case's text names, with its numbers. `None`: there is no such fault.
 fn fault_of(case: &Case<'_>) -> Option<RunFault> {
     Some(match case.value("text") {
         "Write" => RunFault::Write {
             replies: u64::from(small_number(case, "replies", 0)),
-            bytes: case.value("bytes").parse::<usize>().unwrap_or(0),
+            bytes: size(case, "bytes", 0),
         },
         "Schedule" => RunFault::Schedule {
             line: small_number(case, "line", 0),
@@ -298,7 +300,7 @@ fn fault_of(case: &Case<'_>) -> Option<RunFault> {
     })
 }
 
-// The fault of this name, among those without numbers of their own.
+// The fault of this name, among those without numbers. `None`: there is no such fault.
 fn plain_fault_of(word: &str) -> Option<RunFault> {
     Some(match word {
         "SceneFull" => RunFault::SceneFull,

@@ -1,38 +1,41 @@
-//! Rows of the world: events as a schedule has them, and what they lead to on the simulator.
+//! Rows of the world: events as a schedule has them, and what they lead to on the simulator. What a row with an arrow comes to is
+//! appended to `came`.
 
 ghost use Rattle.std.specs.Prelude.{◌≤◌};
 ghost use Rattle.gc_client.specs.declared.window.TheConstants.{WINDOW};
 
 use crate::cases::single_bytes::in_single_bytes;
-use gc_cases::{Case, Player, Rows, Told, play_rows};
+use gc_cases::{Case, Player, Rows, Told, number_or, play_rows};
 use gc_catalogue::Call;
 use gc_client::{Client, Outcome, Ring, Settlement, Slots, Window};
 use gc_engines::read_schedule;
 use gc_instrument::Instrument;
-use gc_values::read_whole;
 use gc_world::{Event, Report, play_width};
 use std::alloc::{AllocError, Global};
 use std::{fs, io};
 
-/// The events so far, how many requests may wait, and the precision of the instrument that is given.
+/// The world that the rows of a case have set up so far: its events, its window and its simulator.
 #[derive(Drop)]
-pub struct Worlds {
+pub struct WorldRows {
+    // The events, as the text of a schedule.
     text: Told,
+    // How many requests may be outstanding, as the case says it.
     width: u8,
+    // The precision of the simulator, in digits after the decimal point.
     precision: i16,
 }
 
-impl Worlds {
+impl WorldRows {
     /// A world without events.
-    pub fn new(alloc: Global) -> Worlds {
-        Worlds {
+    pub fn new(alloc: Global) -> WorldRows {
+        WorldRows {
             text: Told::new(alloc),
             width: 7,
             precision: 15,
         }
     }
 
-    // Adds the line of an event to the schedule.
+    // Adds the line of an event to the schedule: `word` is its kind, and `what` the rest of its line.
     fn add_event(&mut self, word: &str, what: &str) {
         self.text.text(word);
         self.text.text(" ");
@@ -47,7 +50,7 @@ impl Worlds {
         instrument
     }
 
-    // How many requests may wait: from 1 to 6 as the case says, and 7 else.
+    // How many requests may be outstanding: 1 to 6 if the case says so, otherwise 7.
     fn width(&self) -> u8
         ensures least { 1 ≤ result }
         ensures most { result ≤ WINDOW }
@@ -58,7 +61,7 @@ impl Worlds {
         }
     }
 
-    /// What events lead to, over a window.
+    /// The report and the client to which events lead over this window. The error is that memory ran out.
     pub fn play<W: Window<Asked = Call>>(
         &self,
         alloc: Global,
@@ -68,8 +71,8 @@ impl Worlds {
         play_width(alloc, self.instrument(), window, self.width(), events)
     }
 
-    // Tells what events lead to, over a window.
-    fn tell_over<W: Window<Asked = Call>>(
+    // Appends what events lead to over this window. If memory runs out, `came` notes that it lacks a part.
+    fn append_over<W: Window<Asked = Call>>(
         &self,
         alloc: Global,
         window: W,
@@ -77,32 +80,40 @@ impl Worlds {
         came: &mut Told,
     ) {
         match self.play(alloc, window, events) {
-            Ok((report, client)) => tell(&report, &client, came),
+            Ok((report, client)) => append_report(&report, &client, came),
             Err(_) => came.lack(),
         }
     }
 
-    // Tells what events lead to over places, and also over a ring and with each delivery in single bytes, where that differs.
-    fn tell_end(&self, alloc: Global, events: &[Event], came: &mut Told) {
+    // Appends what events lead to over places; and what they lead to over a ring, and with each delivery in single bytes, if that
+    // differs.
+    fn append_end(&self, alloc: Global, events: &[Event], came: &mut Told) {
         let mut told = Told::new(alloc);
-        self.tell_over(alloc, Slots::new(), events, &mut told);
+        self.append_over(alloc, Slots::new(), events, &mut told);
         came.told(&told);
-        self.tell_ring(alloc, events, &told, came);
-        self.tell_pieces(alloc, events, &told, came);
+        self.append_ring(alloc, events, &told, came);
+        self.append_pieces(alloc, events, &told, came);
     }
 
-    // Tells what events lead to over a ring, where that isn't what was told.
-    fn tell_ring(&self, alloc: Global, events: &[Event], told: &Told, came: &mut Told) {
+    // Appends what events lead to over a ring, if that isn't `told`, what they lead to over places.
+    fn append_ring(&self, alloc: Global, events: &[Event], told: &Told, came: &mut Told) {
         match Ring::new(alloc) {
-            Ok(ring) => self.compare(alloc, ring, events, told, ", and over a ring ", came),
+            Ok(ring) => self.append_difference(
+                alloc,
+                ring,
+                events,
+                told,
+                ", and over a ring ",
+                came,
+            ),
             Err(_) => came.lack(),
         }
     }
 
-    // Tells what events lead to with each delivery in single bytes, where that isn't what was told.
-    fn tell_pieces(&self, alloc: Global, events: &[Event], told: &Told, came: &mut Told) {
+    // Appends what events lead to with each delivery in single bytes, if that isn't `told`, what they lead to with deliveries of lines.
+    fn append_pieces(&self, alloc: Global, events: &[Event], told: &Told, came: &mut Told) {
         match in_single_bytes(alloc, self, events) {
-            Ok(pieces) => self.compare(
+            Ok(pieces) => self.append_difference(
                 alloc,
                 Slots::new(),
                 pieces.as_slice(),
@@ -114,8 +125,8 @@ impl Worlds {
         }
     }
 
-    // Tells what these events lead to over this window, behind the words of `way`, where that isn't what was told.
-    fn compare<W: Window<Asked = Call>>(
+    // Appends the words `way` and what these events lead to over this window, if that isn't `told`.
+    fn append_difference<W: Window<Asked = Call>>(
         &self,
         alloc: Global,
         window: W,
@@ -125,89 +136,87 @@ impl Worlds {
         came: &mut Told,
     ) {
         let mut other = Told::new(alloc);
-        self.tell_over(alloc, window, events, &mut other);
+        self.append_over(alloc, window, events, &mut other);
         if other.is_lacking() || other.as_bytes() != told.as_bytes() {
             came.text(way);
             came.told(&other);
         }
     }
 
-    // Plays events, and tells the part of their report that `word` asks for.
+    // Plays events, and appends the part of their report that `word` asks for.
     fn ask(&self, alloc: Global, word: &str, events: &[Event], came: &mut Told) {
         match self.play(alloc, Slots::new(), events) {
-            Ok((report, _)) => tell_part(&report, word, came),
+            Ok((report, _)) => append_part(&report, word, came),
             Err(_) => came.lack(),
         }
     }
 
-    // Tells what the events so far lead to.
-    fn tell_events(&self, alloc: Global, word: &str, came: &mut Told) {
+    // Plays the events so far, and appends all that they lead to if `word` is `end`, otherwise the part of their report that it asks
+    // for.
+    fn append_end_or_part(&self, alloc: Global, word: &str, came: &mut Told) {
         if self.text.is_lacking() {
             came.lack();
         }
         match read_schedule(alloc, self.text.as_bytes()) {
-            Ok(events) if word == "end" => self.tell_end(alloc, events.as_slice(), came),
+            Ok(events) if word == "end" => self.append_end(alloc, events.as_slice(), came),
             Ok(events) => self.ask(alloc, word, events.as_slice(), came),
             Err(_) => came.text("no schedule"),
         }
     }
 }
 
-// Tells the part of a report that a word asks for.
-fn tell_part(report: &Report, word: &str, came: &mut Told) {
+// Appends the part of a report that a word asks for: `executed`, `starts`, `kept`, or `lines`, which is any other word.
+fn append_part(report: &Report, word: &str, came: &mut Told) {
     match word {
         "executed" => came.debug(&report.executed.as_slice()),
         "starts" => came.debug(&report.starts.as_slice()),
         "kept" => came.debug(&report.instrument.kept_id()),
-        _ => tell_starts(report, came),
+        _ => append_starts(report, came),
     }
 }
 
-// Tells whether each direction is at the start of a line.
-fn tell_starts(report: &Report, came: &mut Told) {
+// Appends whether each direction is at the start of a line.
+fn append_starts(report: &Report, came: &mut Told) {
     came.titled("at start: up ", &report.up.at_start());
     came.titled(", down ", &report.down.at_start());
 }
 
-impl Rows for Worlds {
-    // Adds an event, sets the width or the precision, or tells what the events so far lead to.
+impl Rows for WorldRows {
+    // Adds an event, sets the width or the precision, or appends what the events so far lead to.
     fn play(&mut self, alloc: Global, word: &str, what: &str, _bytes: &[u8], came: &mut Told) {
         match word {
             "send" | "up" | "down" | "expire" | "restart" => self.add_event(word, what),
-            "width" => self.width = u8::try_from(number(what)).unwrap_or(7),
-            "precision" => self.precision = i16::try_from(number(what)).unwrap_or(15),
-            "end" | "executed" | "starts" | "kept" | "lines" => self.tell_events(alloc, word, came),
+            "width" => self.width = u8::try_from(number_or(what, 7)).unwrap_or(7),
+            "precision" => self.precision = i16::try_from(number_or(what, 15)).unwrap_or(15),
+            "end" | "executed" | "starts" | "kept" | "lines" => self.append_end_or_part(
+                alloc, word, came,
+            ),
             _ => came.text("an unknown word"),
         }
     }
 }
 
-// The number that a word writes; the greatest `u64` where it writes none.
-fn number(word: &str) -> u64 {
-    read_whole(word.as_bytes(), u64::MAX).unwrap_or(u64::MAX)
-}
-
-// Tells the settlements, each with its number, the counts, how many requests wait, and the next id.
-fn tell<W: Window<Asked = Call>>(report: &Report, client: &Client<W>, came: &mut Told) {
-    tell_settled(report.settled.as_slice(), came);
-    tell_made(report, came);
-    tell_refused(report, came);
+// Appends the settlements, each with its number, the counts, how many requests are outstanding, and the next id.
+fn append_report<W: Window<Asked = Call>>(report: &Report, client: &Client<W>, came: &mut Told) {
+    append_settled(report.settled.as_slice(), came);
+    append_made(report, came);
+    append_refused(report, came);
     came.titled("; ", &client.waiting());
     came.titled(" wait, next ", &client.next_id());
 }
 
-// Tells each settlement: its number, its target and its outcome.
-fn tell_settled(settled: &[Settlement<Call>], came: &mut Told) {
+// Appends each settlement: its number, its target and its outcome.
+fn append_settled(settled: &[Settlement<Call>], came: &mut Told) {
     for (m, settlement) in settled.iter().enumerate() {
         came.counted(&m, " ");
         came.counted(&settlement.target, " ");
-        tell_outcome(&settlement.outcome, came);
+        append_outcome(&settlement.outcome, came);
         came.text(" / ");
     }
 }
 
-// Tells an outcome: its word, and the line of an answer.
-fn tell_outcome(outcome: &Outcome, came: &mut Told) {
+// Appends an outcome: its word, and the line of an answer.
+fn append_outcome(outcome: &Outcome, came: &mut Told) {
     match outcome {
         Outcome::Answered(_, line) => {
             came.text("answered ");
@@ -218,41 +227,41 @@ fn tell_outcome(outcome: &Outcome, came: &mut Told) {
     }
 }
 
-// Tells how many requests were sent and executed, how many replies were made, and how many requests were settled.
-fn tell_made(report: &Report, came: &mut Told) {
+// Appends how many requests were sent and executed, how many replies were made, and how many requests were settled.
+fn append_made(report: &Report, came: &mut Told) {
     came.titled("sent ", &report.sent.len());
     came.titled(" executed ", &report.executed.len());
     came.titled(" made ", &report.made.len());
     came.titled(" settled ", &report.settled.len());
 }
 
-// Tells how many sends were refused, and how many events weren't possible.
-fn tell_refused(report: &Report, came: &mut Told) {
+// Appends how many sends were refused, and how many events weren't possible.
+fn append_refused(report: &Report, came: &mut Told) {
     came.titled(" refused ", &report.refused_sends);
     came.titled(" idle ", &report.idle_events);
 }
 
-/// Rows of the world, after the events of a schedule where the case names one.
+/// Plays `.world`: rows of the world, after the events of a schedule if the case names one.
 pub struct World;
 
 impl Player for World {
     // Plays the rows of a case, after the events of the schedule that it names.
     fn play(&self, rt: &HostRuntime, case: &Case<'_>, wrong: &mut Told) -> io::Result<()> {
-        let mut world = Worlds::new(rt.alloc());
+        let mut world = WorldRows::new(rt.alloc());
         add_events(rt, case.value("schedule"), &mut world.text);
         play_rows(rt.alloc(), case, &mut world, wrong);
         Ok(())
     }
 }
 
-// Adds the events of the schedule that a case begins with, if it names one.
+// Adds the lines of the schedule that a case begins with to `text`, if the case names one; `name` is empty if it doesn't.
 fn add_events(rt: &HostRuntime, name: &str, text: &mut Told) {
     if !name.is_empty() {
         read_events(rt, name, text);
     }
 }
 
-// Adds the events of the schedule of this name.
+// Adds the lines of the schedule in the file of this name to `text`. If the file can't be read, `text` notes that it lacks a part.
 fn read_events(rt: &HostRuntime, name: &str, text: &mut Told) {
     match fs::read_to_string(rt, name) {
         Ok(events) => text.text(events.as_str()),

@@ -1,9 +1,10 @@
 use Rattle.std.proofs.Common.{rules, ◌≡◌, ◌∙◌, List, ℕ, [], drop, length, refl, ap, subst}
+use Rattle.std.proofs.lemmas.List.{nil_from_length}
 use Rattle.std.specs.List.{position}
 use Rattle.gc_lines.specs.Frames.{is_line_feed}
 use Rattle.geocom_c.specs.Rest.{IsRest, kept}
 use Rattle.geocom_c.proofs.Answering.{heard_none, heard_on, heard_some, heard_to_end}
-use Rattle.geocom_c.proofs.Hearings.{either, empty_is, nothing_left}
+use Rattle.geocom_c.proofs.Hearings.{either, nothing_left}
 use Rattle.geocom_c.proofs.beginning.hear_all.Goals as goal
 
 pub loop-left-init : goal.loop-left-init
@@ -28,7 +29,7 @@ loop-left-preserved c = λ r is.
 pub returns : goal.returns
 returns c = λ r is.
     let n : length c.loop-left.left.now ≡ 0 = search rules in
-    let none : c.loop-left.left.now ≡ [] = empty_is c.loop-left.left.now n in
+    let none : c.loop-left.left.now ≡ [] = nil_from_length c.loop-left.left.now n in
     let f = c.loop-left.invariant r is in
     let end = heard_to_end r c.args.bytes.now c.args.beginning.now c.loop-left.rest c.loop-left.beginning c.loop-left.left.now f none in
     (subst (λ (l : List ℕ). IsRest c.loop-left.rest l) end.0 f.is, end.1)

@@ -3,7 +3,7 @@ use Rattle.gc_catalogue.specs.declared.asked.Asked.{Asked}
 use Rattle.gc_client.specs.Rule.{Windowed, expires, expiring}
 use Rattle.geocom_c.specs.State.{StandsFor}
 use Rattle.geocom_c.specs.declared.header.TheConstants.{NO_CLIENT}
-use Rattle.geocom_c.proofs.Clients.{from_some}
+use Rattle.gc_world.proofs.Options.{some_is}
 use Rattle.geocom_c.proofs.calls.geocom_client_expire.Goals as goal
 
 pub returns-in_default-clause-expired : goal.returns-in_default-clause-expired
@@ -21,7 +21,7 @@ returns-clause-expired c = λ room c' rest s.
     let stands = subst (λ (d : Windowed Asked). StandsFor c.store.new.state d rest) c.expire-due.ensures.client (c.store.ensures.client rest s.under_way s.head.part) in
     subst (λ (d : Windowed Asked). (c.counted.result.fault ≡ 0) × StandsFor c.store.new.state (record d { ids = expires d.ids now }) rest
     × (c.counted.result.count ≡ length (expiring now d.ids.waiting)) × (take c.counted.result.count c.put_targets.new.targets ≡ expiring now d.ids.waiting))
-    (from_some c.in-Some.client c' (sym c.in-Some.is ∙ c.load.ensures.only c' rest s))
+    (some_is c.in-Some.client c' (sym c.in-Some.is ∙ c.load.ensures.only c' rest s))
     (c.counted.ensures.fault, stands, n, text)
 
 pub returns-clause-astray : goal.returns-clause-astray

@@ -6,18 +6,18 @@ use Rattle.geocom_c.specs.State.{StandsFor}
 use Rattle.geocom_c.specs.Feeding.{HasRoom, IsFed, behind}
 use Rattle.geocom_c.specs.declared.answers.GeocomHeard.{GeocomHeard}
 use Rattle.geocom_c.specs.declared.header.TheConstants.{NO_CLIENT}
-use Rattle.geocom_c.proofs.Clients.{from_some}
+use Rattle.gc_world.proofs.Options.{some_is}
 use Rattle.geocom_c.proofs.feeding.geocom_client_feed.Goals as goal
 
 pub returns-in-Some-clause-more : goal.returns-in-Some-clause-more
 returns-in-Some-clause-more c = λ room c' rest s none.
-    let same = from_some c.in-Some.client c' (sym c.in-Some.is ∙ c.load.ensures.only c' rest s) in
+    let same = some_is c.in-Some.client c' (sym c.in-Some.is ∙ c.load.ensures.only c' rest s) in
     let told = c.feed.ensures.more rest (subst (λ (d : Windowed Asked). StandsFor c.args.state.now d rest) (sym same) s) none in
     (told.0, subst (λ (d : Windowed Asked). StandsFor c.feed.new.state d (rest ++ c.args.bytes.now)) same told.1)
 
 pub returns-in-Some-clause-frame : goal.returns-in-Some-clause-frame
 returns-in-Some-clause-frame c = λ room c' rest at s some.
-    let same = from_some c.in-Some.client c' (sym c.in-Some.is ∙ c.load.ensures.only c' rest s) in
+    let same = some_is c.in-Some.client c' (sym c.in-Some.is ∙ c.load.ensures.only c' rest s) in
     let frame = frame_of (rest ++ take at c.args.bytes.now) in
     let told = c.feed.ensures.frame rest at (subst (λ (d : Windowed Asked). StandsFor c.args.state.now d rest) (sym same) s) some in
     subst (λ (d : Windowed Asked). (c.feed.result.used ≡ at + 1) × IsFed d frame c.feed.result c.feed.new.settlements c.feed.new.text × StandsFor c.feed.new.state (behind d frame) []) same told

@@ -6,7 +6,7 @@ use Rattle.gc_client.specs.Rule.{Settlement, Windowed, hears, heard}
 use Rattle.gc_client.specs.Settlements.{settlement_seen}
 use Rattle.geocom_c.specs.FirstAre.{FirstAre}
 use Rattle.geocom_c.specs.State.{StandsFor}
-use Rattle.geocom_c.specs.Settled.{IsRecord, AreBy}
+use Rattle.geocom_c.specs.Settled.{IsRecord, AnswersHaveLine}
 use Rattle.geocom_c.specs.declared.answers.GeocomHeard.{GeocomHeard}
 use Rattle.geocom_c.proofs.Places.{first_map}
 use Rattle.geocom_c.proofs.Records.{hears_by, more_record, settling}
@@ -18,7 +18,7 @@ put_records-requires-clause-told c =
     let ids = c.args.client.ids in
     let seen : map settlement_seen c.as_slice-in-Settled.result.now ≡ (hears ids line (heard line)).settlements =
     ap (map settlement_seen) c.as_slice-in-Settled.ensures.value ∙ c.in-Settled.ensures.settled.seen in
-    (line, c.tell-answer.ensures, subst (λ (ss : List (Settlement Asked)). AreBy line ss) (sym seen) (hears_by ids line (heard line)))
+    (line, c.list_line-answer.ensures, subst (λ (ss : List (Settlement Asked)). AnswersHaveLine line ss) (sym seen) (hears_by ids line (heard line)))
 
 pub returns-in-Settled-clause-fed : goal.returns-in-Settled-clause-fed
 returns-in-Settled-clause-fed c =
@@ -29,7 +29,7 @@ returns-in-Settled-clause-fed c =
     let kinds = settling ids (reply_at line) c.in-Settled.ensures.heard in
     let are = c.in-Settled.ensures.settled.seen in
     let seen : map settlement_seen c.as_slice-in-Settled.result.now ≡ ruled = ap (map settlement_seen) c.as_slice-in-Settled.ensures.value ∙ are in
-    let t = c.tell-answer.result.text.items in
+    let t = c.list_line-answer.result.text.items in
     let new = c.put.new.bytes in
     let n = 0 + length c.as_slice.result.now in
     let front : take n new ≡ t = c.put.ensures.text ∙ c.as_slice.ensures.value in
@@ -41,7 +41,7 @@ returns-in-Settled-clause-fed c =
       line_fault = ap (λ (x : GeocomHeard). x.line_fault) h ∙ kinds.1;
       count = let number = ap (λ (x : GeocomHeard). x.count) h in omega (arith, number, c.len.ensures.value, ap length are, length-map c.in-Settled.settled.items settlement_seen);
       front = λ some. ap (take (length line)) whole ∙ take-append-le (length line) t (drop n new)
-          (omega (arith, ap length c.tell-answer.ensures.front, length-take (length line) t)) ∙ c.tell-answer.ensures.front;
+          (omega (arith, ap length c.list_line-answer.ensures.front, length-take (length line) t)) ∙ c.list_line-answer.ensures.front;
       told = subst (λ (ss : List (Settlement Asked)). FirstAre (IsRecord new) c.put_records.new.records ss) seen
           (subst (λ (x : List ℕ). FirstAre (IsRecord x) c.put_records.new.records (map settlement_seen c.as_slice-in-Settled.result.now)) (sym whole) behind);
     }

@@ -9,7 +9,7 @@ use Rattle.gc_catalogue.specs.Calls.{IsCall}
 use Rattle.gc_catalogue.proofs.CallLaws.{no_refusal}
 use Rattle.gc_client.specs.Beginning.{the_word}
 use Rattle.gc_client.specs.Rule.{Windowed, sends}
-use Rattle.gc_client.specs.OneForOne.{goes}
+use Rattle.gc_client.specs.OneForOne.{course_after}
 use Rattle.gc_client.specs.OneForOne as one
 use Rattle.geocom_c.specs.Beginning.{anew, left_behind}
 use Rattle.geocom_c.specs.State.{StandsFor, left_of}
@@ -18,7 +18,7 @@ use Rattle.geocom_c.specs.declared.following.Step.{Step}
 use Rattle.geocom_c.specs.declared.header.TheConstants.{WINDOW_FULL, NOT_BEGUN}
 use Rattle.geocom_c.specs.declared.state.GeocomClient.{GeocomClient}
 use Rattle.geocom_c.proofs.Clients.{never_refused}
-use Rattle.geocom_c.proofs.Hearings.{decided, sent_course}
+use Rattle.geocom_c.proofs.Hearings.{by_equality, sent_course}
 use Rattle.geocom_c.proofs.following.call.Goals as goal
 
 pub returns-in-Begin : goal.returns-in-Begin
@@ -39,7 +39,7 @@ returns-in-Feed c = λ width s steps at. record {
 
 pub returns-in-Expire : goal.returns-in-Expire
 returns-in-Expire c = λ width s steps at. record {
-  stage = record s { reached = goes width s.reached (one.Expire c.in-Expire.now) };
+  stage = record s { reached = course_after width s.reached (one.Expire c.in-Expire.now) };
   at = record {
     stands = (c.geocom_client_expire.ensures.expired (search rules) (record { width = width; ids = s.reached.client }) s.rest at.stands).1;
     left = ap (λ n. drop n the_word) c.geocom_client_expire.ensures.answered ∙ at.left;
@@ -51,7 +51,7 @@ pub returns-in-Restart : goal.returns-in-Restart
 returns-in-Restart c = λ width s steps at.
     let r = c.geocom_client_restart.ensures.restarted (search rules) (record { width = width; ids = s.reached.client }) s.rest at.stands in
     record {
-      stage = record { reached = goes width s.reached one.Restart; rest = []; left = anew s.left };
+      stage = record { reached = course_after width s.reached one.Restart; rest = []; left = anew s.left };
       at = record { stands = r.1; left = c.geocom_client_restart.ensures.begins r.0 ∙ ap anew at.left };
       on = λ t f. subst (λ (e : Step). CallsReach width s (e ∷ steps) t) (sym c.in-Restart.is) f;
     }
@@ -64,7 +64,7 @@ returns-in-Send c = λ width s steps at.
     let answered = ap (λ n. drop n the_word) sent.ensures.answered in
     let by : (call : Call) → left_of c.args.state.now ≡ [] → IsCall c.in-Send.procedure c.in-Send.params.now call
     → Reached width s (c.args.step.now ∷ steps) sent.new.state steps = λ call begun is. record {
-      stage = record s { reached = goes width s.reached (one.Send c.in-Send.target (Table call) c.in-Send.deadline) };
+      stage = record s { reached = course_after width s.reached (one.Send c.in-Send.target (Table call) c.in-Send.deadline) };
       at = record {
         stands = sent_course width s.reached s.rest (Table call) c.in-Send.target (sends width s.reached.client c.in-Send.target (Table call) c.in-Send.deadline)
             (record { old = c.args.state.now; new = sent.new.state; before = _; after = sent.new.line; told = sent.result }) at.stands
@@ -73,14 +73,15 @@ returns-in-Send c = λ width s steps at.
       };
       on = λ t f. subst (λ (e : Step). CallsReach width s (e ∷ steps) t) (sym c.in-Send.is) (inl (call, sym at.left ∙ begun, is, f));
     } in
-    let none : n ≢ 0 → (s.left ≡ [] → (call : Call) → IsCall c.in-Send.procedure c.in-Send.params.now call → ⊥) → Reached width s (c.args.step.now ∷ steps) sent.new.state steps = λ no never. record {
+    let none : n ≢ 0 → (s.left ≡ [] → (call : Call) → IsCall c.in-Send.procedure c.in-Send.params.now call → ⊥)
+    → Reached width s (c.args.step.now ∷ steps) sent.new.state steps = λ no never. record {
       stage = s;
       at = record { stands = subst (λ (t : GeocomClient). StandsFor t client s.rest) (sym (sent.ensures.refused no).1) at.stands; left = answered ∙ at.left };
       on = λ t f. subst (λ (e : Step). CallsReach width s (e ∷ steps) t) (sym c.in-Send.is) (inr (never, f));
     } in
-    decided n 0 (λ e. let d = sent.ensures.done e in by d.2 d.4 d.5)
-    (λ no. decided n WINDOW_FULL (λ e. let d = sent.ensures.full e in by d.2 d.4 d.5)
-    (λ not_full. decided n NOT_BEGUN (λ e. none no (λ begun call is. sent.ensures.begun e (at.left ∙ begun)))
+    by_equality n 0 (λ e. let d = sent.ensures.done e in by d.2 d.4 d.5)
+    (λ no. by_equality n WINDOW_FULL (λ e. let d = sent.ensures.full e in by d.2 d.4 d.5)
+    (λ not_full. by_equality n NOT_BEGUN (λ e. none no (λ begun call is. sent.ensures.begun e (at.left ∙ begun)))
     (λ begun. let r = sent.ensures.refusal no not_full (λ e. let short = sent.ensures.room.0 e in absurd (search rules)) (λ e. absurd ((sent.ensures.astray.0 e).1 client s.rest at.stands)) begun in
     none no (λ left call is. no_refusal _ _ call r.0 is r.1))))
 
@@ -92,7 +93,7 @@ returns-in-SendRaw c = λ width s steps at.
     let answered = ap (λ n. drop n the_word) sent.ensures.answered in
     let by : (raw : RawCall) → left_of c.args.state.now ≡ [] → IsAsked c.in-SendRaw.procedure c.in-SendRaw.params.now (Raw raw)
     → Reached width s (c.args.step.now ∷ steps) sent.new.state steps = λ raw begun is. record {
-      stage = record s { reached = goes width s.reached (one.Send c.in-SendRaw.target (Raw raw) c.in-SendRaw.deadline) };
+      stage = record s { reached = course_after width s.reached (one.Send c.in-SendRaw.target (Raw raw) c.in-SendRaw.deadline) };
       at = record {
         stands = sent_course width s.reached s.rest (Raw raw) c.in-SendRaw.target (sends width s.reached.client c.in-SendRaw.target (Raw raw) c.in-SendRaw.deadline)
             (record { old = c.args.state.now; new = sent.new.state; before = _; after = sent.new.line; told = sent.result }) at.stands
@@ -107,8 +108,8 @@ returns-in-SendRaw c = λ width s steps at.
       at = record { stands = subst (λ (t : GeocomClient). StandsFor t client s.rest) (sym (sent.ensures.refused no).1) at.stands; left = answered ∙ at.left };
       on = λ t f. subst (λ (e : Step). CallsReach width s (e ∷ steps) t) (sym c.in-SendRaw.is) (inr (never, f));
     } in
-    decided n 0 (λ e. let d = sent.ensures.done e in by d.2 d.4 d.5)
-    (λ no. decided n WINDOW_FULL (λ e. let d = sent.ensures.full e in by d.2 d.4 d.5)
-    (λ not_full. decided n NOT_BEGUN (λ e. none no (λ begun call is. sent.ensures.begun e (at.left ∙ begun)))
+    by_equality n 0 (λ e. let d = sent.ensures.done e in by d.2 d.4 d.5)
+    (λ no. by_equality n WINDOW_FULL (λ e. let d = sent.ensures.full e in by d.2 d.4 d.5)
+    (λ not_full. by_equality n NOT_BEGUN (λ e. none no (λ begun call is. sent.ensures.begun e (at.left ∙ begun)))
     (λ begun. let r = sent.ensures.refusal no not_full (λ e. let short = sent.ensures.room.0 e in absurd (search rules)) (λ e. absurd ((sent.ensures.astray.0 e).1 client s.rest at.stands)) begun in
     none no (λ left raw is. never_refused _ _ raw r.0 is r.1))))

@@ -1,6 +1,7 @@
 use Rattle.std.proofs.Common.{rules, ◌≡◌, ◌∙◌, List, ℕ, [], length, refl, sym, subst}
+use Rattle.std.proofs.lemmas.List.{nil_from_length}
 use Rattle.geocom_c.specs.Following.{FedTo}
-use Rattle.geocom_c.proofs.Hearings.{fed_on, fed_all, empty_is}
+use Rattle.geocom_c.proofs.Hearings.{fed_on, fed_all}
 use Rattle.geocom_c.proofs.following.feed_all.Goals as goal
 
 pub loop-left-init : goal.loop-left-init
@@ -22,7 +23,7 @@ returns c =
     record {
       fed = λ width x rest s.
           let n : length c.loop-left.left.now ≡ 0 = search rules in
-          let none : c.loop-left.left.now ≡ [] = empty_is c.loop-left.left.now n in
+          let none : c.loop-left.left.now ≡ [] = nil_from_length c.loop-left.left.now n in
           fed_all width x rest c.args.bytes.now c.loop-left.left.now c.loop-left.state (c.loop-left.invariant.fed width x rest s) none;
       answered = c.loop-left.invariant.answered;
     }

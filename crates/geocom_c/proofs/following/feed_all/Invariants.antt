@@ -5,7 +5,7 @@ use Rattle.geocom_c.specs.State.{StandsFor}
 use Rattle.geocom_c.specs.Following.{FedTo}
 use Rattle.geocom_c.proofs.following.feed_all.Given as goal
 
--- what is left gives what all of it gives
+-- all bytes but those that are left were fed (`FedTo`), and as many null procedures are answered as at first
 abbrev pub invariant-loop-left : goal.invariant-loop-left
 invariant-loop-left l =
     record {
@@ -13,5 +13,6 @@ invariant-loop-left l =
       answered : l.state.answered ≡ l.fn.state.answered;
     }
 
+-- how many bytes are left
 abbrev pub decreases-loop-left : goal.decreases-loop-left
 decreases-loop-left l = length l.left

@@ -3,7 +3,7 @@ use Rattle.geocom_c.specs.FirstAre.{FirstAre}
 use Rattle.geocom_c.specs.Settled.{StandsAt, total}
 use Rattle.geocom_c.proofs.listed.put_items.Given as goal
 
--- the first k stand in the text
+-- the first k items, and nothing else, were appended to the text, and the first k places say where they are
 abbrev pub invariant-loop-k : goal.invariant-loop-k
 invariant-loop-k l =
     record {

@@ -3,10 +3,11 @@ use Rattle.gc_catalogue.specs.declared.asked.Asked.{Asked}
 use Rattle.gc_catalogue.specs.declared.asked.Asked.TheVariants.{Raw}
 use Rattle.gc_catalogue.specs.declared.raw.RawCall.{RawCall}
 use Rattle.gc_client.specs.Rule.{Windowed, sends}
-use Rattle.geocom_c.specs.Sending.{Sent, IsSent}
+use Rattle.geocom_c.specs.Sending.{Sent, SendMeets}
 use Rattle.geocom_c.specs.Rest.{kept}
 use Rattle.geocom_c.proofs.Answering.{is_begun, not_begun}
-use Rattle.geocom_c.proofs.Clients.{as_given, from_some, full_alone, no_raw_astray, other}
+use Rattle.gc_world.proofs.Options.{some_is}
+use Rattle.geocom_c.proofs.Clients.{as_given, full_alone, no_raw_astray, unbegun_not_astray}
 use Rattle.geocom_c.proofs.raws.geocom_client_send_raw.Goals as goal
 
 pub returns-in_default-clause-sent : goal.returns-in_default-clause-sent
@@ -17,12 +18,12 @@ returns-in_default-clause-raw c = λ room c' rest e s begun is. absurd (c.in_def
 
 pub returns-in-Ok-clause-sent : goal.returns-in-Ok-clause-sent
 returns-in-Ok-clause-sent c = λ room c' rest raw s begun is.
-    let same = from_some c.in-Some.client c' (sym c.in-Some.is ∙ c.load.ensures.only c' rest s) in
+    let same = some_is c.in-Some.client c' (sym c.in-Some.is ∙ c.load.ensures.only c' rest s) in
     let both : Ok c.in-Ok.raw ≡ Ok raw = sym c.in-Ok.is ∙ c.raw_call.ensures.only raw is.0 is.1 in
     let named : c.in-Ok.raw ≡ raw = cc in
     let sent : Sent = record { old = c.args.state.now; new = c.send_asked.new.state; before = c.args.line.now; after = c.send_asked.new.line; told = c.send_asked.result } in
-    subst (λ (r : RawCall). IsSent c' rest (Raw r) (sends c'.width c'.ids c.args.target (Raw r) c.args.deadline) sent) named
-    (subst (λ (d : Windowed Asked). IsSent d rest (Raw c.in-Ok.raw) (sends d.width d.ids c.args.target (Raw c.in-Ok.raw) c.args.deadline) sent) same
+    subst (λ (r : RawCall). SendMeets c' rest (Raw r) (sends c'.width c'.ids c.args.target (Raw r) c.args.deadline) sent) named
+    (subst (λ (d : Windowed Asked). SendMeets d rest (Raw c.in-Ok.raw) (sends d.width d.ids c.args.target (Raw c.in-Ok.raw) c.args.deadline) sent) same
     (c.send_asked.ensures.sent rest s.under_way s.head.part))
 
 pub returns-in-Ok-clause-astray : goal.returns-in-Ok-clause-astray
@@ -51,7 +52,7 @@ pub returns-then-not-has_begun-clause-begun : goal.returns-then-not-has_begun-cl
 returns-then-not-has_begun-clause-begun c = λ e. not_begun c.args.state.now.answered c.if-not-has_begun.true
 
 pub returns-then-not-has_begun-clause-astray : goal.returns-then-not-has_begun-clause-astray
-returns-then-not-has_begun-clause-astray c = (λ e. absurd (other (sym c.refused-then-not-has_begun.ensures.fault ∙ e)), λ both. absurd (both.1 _ _ c.in-Some.ensures.found))
+returns-then-not-has_begun-clause-astray c = (λ e. absurd (unbegun_not_astray (sym c.refused-then-not-has_begun.ensures.fault ∙ e)), λ both. absurd (both.1 _ _ c.in-Some.ensures.found))
 
 pub returns-in-Ok-clause-given : goal.returns-in-Ok-clause-given
 returns-in-Ok-clause-given c = λ none.
@@ -77,4 +78,11 @@ returns-in-Ok-clause-done c = λ done. (
   is_begun c.args.state.now.answered c.if-not-has_begun.false,
   c.in-Ok.ensures.found,
   c.send_asked.ensures.done done,
+)
+
+pub returns-in-Err-clause-refusal : goal.returns-in-Err-clause-refusal
+returns-in-Err-clause-refusal c = λ some not_full roomy known begun. (
+  c.in-Err.fault,
+  c.in-Err.ensures.fault,
+  c.refused-in-Err.ensures.fault ∙ c.number_of.ensures,
 )

@@ -4,7 +4,7 @@ use Rattle.geocom_c.specs.FirstAre.{FirstAre}
 use Rattle.geocom_c.specs.Settled.{IsRecord}
 use Rattle.geocom_c.proofs.settled.put_records.Given as goal
 
--- the first k are written
+-- the first k records are those of the first k settlements, and none after those of all settlements has changed
 abbrev pub invariant-loop-k : goal.invariant-loop-k
 invariant-loop-k l =
     record {

@@ -1,6 +1,7 @@
 use Rattle.std.proofs.Common.{◌≡◌, ℕ, Bool, Some, refl, sym, ap, ◌∙◌}
 use Rattle.gc_catalogue.specs.declared.asked.Asked.{Asked}
 use Rattle.gc_client.specs.declared.pending.Pending.{Pending}
+use Rattle.gc_world.proofs.Options.{some_is}
 use Rattle.geocom_c.proofs.state.read_place.Goals as goal
 
 -- a request with the same target, call, deadline and `given_up` as p is p
@@ -8,15 +9,11 @@ same_pending : (p : Pending Asked) (target : ℕ) (call : Asked) (deadline : ℕ
     → deadline ≡ p.deadline → given_up ≡ p.given_up → record { target = target; call = call; deadline = deadline; given_up = given_up } ≡ p
 same_pending p target call deadline given_up a b d e = rw (a, b, d, e) refl
 
--- what is got twice at one place is the same
-some_same : {A : Type 0} (x y : A) → Some x ≡ Some y → x ≡ y
-some_same x y e = cc
-
 pub returns-clause-only : goal.returns-clause-only
 returns-clause-only c = λ p is.
     ap Some (
-    same_pending p _ _ _ _ is.target (some_same _ _ (sym c.in-Some.is ∙ c.asked_at.ensures.only p.call is.within is.line)) is.deadline
-    (some_same _ _ (sym c.in-Some-mark_of.is ∙ c.mark_of.ensures.only p.given_up is.given_up))
+    same_pending p _ _ _ _ is.target (some_is _ _ (sym c.in-Some.is ∙ c.asked_at.ensures.only p.call is.within is.line)) is.deadline
+    (some_is _ _ (sym c.in-Some-mark_of.is ∙ c.mark_of.ensures.only p.given_up is.given_up))
     )
 
 pub returns-in_default-clause-only : goal.returns-in_default-clause-only

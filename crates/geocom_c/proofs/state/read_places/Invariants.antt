@@ -5,7 +5,7 @@ use Rattle.geocom_c.specs.FirstAre.{FirstAre}
 use Rattle.geocom_c.specs.State.{IsPlace}
 use Rattle.geocom_c.proofs.state.read_places.Given as goal
 
--- the first k are read
+-- the window has the requests of the first k places, and these places hold no others
 abbrev pub invariant-loop-k : goal.invariant-loop-k
 invariant-loop-k l =
     record {

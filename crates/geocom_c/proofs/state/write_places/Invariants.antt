@@ -3,7 +3,7 @@ use Rattle.geocom_c.specs.FirstAre.{FirstAre}
 use Rattle.geocom_c.specs.State.{IsPlace}
 use Rattle.geocom_c.proofs.state.write_places.Given as goal
 
--- the first k are written
+-- the first k places hold the first k requests, and there are as many places as at first
 abbrev pub invariant-loop-k : goal.invariant-loop-k
 invariant-loop-k l =
     record {

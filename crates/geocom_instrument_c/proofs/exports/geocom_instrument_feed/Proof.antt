@@ -40,14 +40,15 @@ geocom_instrument_feed_spec 𝓤 𝓛 𝓜 𝓡 wired =
     (uint_vals w64 now)) ⊛ ‵ ftrue) ∷ ‵ (lies_at R full_share a.0 before) ∷ []) ∵
     split ! $ split ! $ move ! (2 ∷ []) $ split ! $ move ! (1 ∷ []) $ split ! $ move ! (1 ∷ []) $ split ! $ keep ! (6 ∷ 4 ∷ 2 ∷ 0 ∷ []) $
     in_a_block ! a.0 (λ p. lies_at R full_share p before) (id⊢ 𝓤 _) (λ b o e.
-    regoal ! (λ p. prop (WpFn 𝓤 𝓛.H 𝓣.C 𝓣.Λ code.function (List.◌++◌ (rawptr_vals p) (List.◌++◌ (shr_slice_vals bytes) (List.◌++◌ (uint_vals w64 now) []))) (W.post (y p)))) e refl $
+    regoal ! (λ p. prop (WpFn 𝓤 𝓛.H 𝓣.C 𝓣.Λ code.function
+    (List.◌++◌ (rawptr_vals p) (List.◌++◌ (shr_slice_vals bytes) (List.◌++◌ (uint_vals w64 now) []))) (W.post (y p)))) e refl $
     enter ! _ _ _ _ _ $ alloc_all ! (λ l. pass_all ! refl ((tt, tt), ((tt, (tt, (record { fits = are.1.0.0.1.0 }, tt))), ((tt, record { fits = are.1.1.0.1 }), tt))) $
     -- [the instrument; the token of κ; the bytes; the moment]
     sets ! (of_opd ! (get ! refl)) refl (tt, tt) $
     sets ! (addr ! (through ! refl (stop !))) refl (tt, tt) $
     lft_new ! tt (λ α. move ! (1 ∷ []) $
-    use1 𝓛 (later (some (λ (γ : GName). ‵ ((MutRef (named 0) (α ∷ []) R).own_val (record { ref_ptr = (b, o); ghost_name = γ; now = before }) (vptr b o ∷ [])) ⊛ ‵ (flent (α ∷ []) (Body
-    (mem R) b o γ))))) (lends_ref 𝓛 R (named 0) (α ∷ []) before b o) $
+    use1 𝓛 (later (some (λ (γ : GName). ‵ ((MutRef (named 0) (α ∷ []) R).own_val (record { ref_ptr = (b, o); ghost_name = γ; now = before }) (vptr b o ∷ []))
+    ⊛ ‵ (flent (α ∷ []) (Body (mem R) b o γ))))) (lends_ref 𝓛 R (named 0) (α ∷ []) before b o) $
     await ! tt $ pick ! (λ γ. split ! $
     -- [the loan; what is lent; the token of α; that of κ; the bytes; the moment]
     let G = triple_of 𝓛 g.signature (g.spec 𝓛 𝓜.mem 𝓡.returns) in

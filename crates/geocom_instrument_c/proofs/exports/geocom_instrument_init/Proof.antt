@@ -51,7 +51,8 @@ geocom_instrument_init_spec 𝓤 𝓛 𝓜 𝓡 wired =
     (shr_slice_vals scene)) ⊛ ‵ ftrue) ∷ ‵ (room_at R a.1.0) ∷ []) ∵
     split ! $ split ! $ move ! (2 ∷ []) $ split ! $ move ! (1 ∷ []) $ split ! $ move ! (1 ∷ []) $ split ! $ keep ! (6 ∷ 4 ∷ 3 ∷ 0 ∷ []) $
     in_a_block ! a.1.0 (λ p. room_at R p) (id⊢ 𝓤 _) (λ b o e.
-    regoal ! (λ p. prop (WpFn 𝓤 𝓛.H 𝓣.C 𝓣.Λ code.function (List.◌++◌ (heap_val ∷ []) (List.◌++◌ (rawptr_vals p) (List.◌++◌ (shr_slice_vals scene) []))) (W.post (y p)))) e refl $
+    regoal ! (λ p. prop (WpFn 𝓤 𝓛.H 𝓣.C 𝓣.Λ code.function
+    (List.◌++◌ (heap_val ∷ []) (List.◌++◌ (rawptr_vals p) (List.◌++◌ (shr_slice_vals scene) []))) (W.post (y p)))) e refl $
     enter ! _ _ _ _ _ $ alloc_all ! (λ l. pass_all ! refl (((heap_laws.lawful 𝓛).typed heap (heap_val ∷ []) are.0).0, ((tt, tt), ((tt, (tt, (record { fits = are.1.1.0.0.1.0 }, tt))), tt))) $
     -- [the room; the token of κ; the heap; the scene]
     sets ! (of_opd ! (get ! refl)) refl (tt, tt) $
@@ -69,8 +70,8 @@ geocom_instrument_init_spec 𝓤 𝓛 𝓜 𝓡 wired =
     sets ! (of_opd ! (get ! refl)) refl (tt, tt) $
     sets ! (addr ! (through ! refl (stop !))) refl (tt, tt) $
     lft_new ! tt (λ α. move ! (1 ∷ []) $
-    use1 𝓛 (later (some (λ (γ : GName). ‵ ((MutRef (named 0) (α ∷ []) R).own_val (record { ref_ptr = (b, o); ghost_name = γ; now = none }) (vptr b o ∷ [])) ⊛ ‵ (flent (α ∷ []) (Body
-    (mem R) b o γ))))) (lends_ref 𝓛 R (named 0) (α ∷ []) none b o) $
+    use1 𝓛 (later (some (λ (γ : GName). ‵ ((MutRef (named 0) (α ∷ []) R).own_val (record { ref_ptr = (b, o); ghost_name = γ; now = none }) (vptr b o ∷ []))
+    ⊛ ‵ (flent (α ∷ []) (Body (mem R) b o γ))))) (lends_ref 𝓛 R (named 0) (α ∷ []) none b o) $
     await ! tt $ pick ! (λ γ. split ! $
     -- [the loan; what is lent; the token of α; that of κ; the heap; the scene]
     let G = triple_of 𝓛 g.signature (g.spec 𝓛 𝓜.mem 𝓡.returns) in

@@ -5,7 +5,7 @@ use Rattle.gc_lines.proofs.Replies.{reply_again, reply_one}
 use Rattle.gc_values.specs.Params.{IsParams}
 use Rattle.geocom_c.specs.Settled.{AreStanding}
 use Rattle.geocom_c.proofs.Clients.{never_ok, front_of}
-use Rattle.geocom_c.proofs.listed.tell.Goals as goal
+use Rattle.geocom_c.proofs.listed.list_line.Goals as goal
 
 pub returns-in-Ok : goal.returns-in-Ok
 returns-in-Ok c =

@@ -1,0 +1,44 @@
+-- The lists that a call writes into (its rooms), this project's own: what stays as it was, and what a fault says.
+use Rattle.std.specs.Prelude.{◌≡◌, ◌≢◌, ◌↔◌, ◌<◌, ◌≤◌, ◌+◌, ◌++◌, ℕ, List, length, take, drop}
+use Rattle.gc_client.specs.declared.window.TheConstants.{WINDOW}
+use Rattle.geocom_c.specs.State.{IsAstray}
+use Rattle.geocom_c.specs.declared.answers.GeocomCount.{GeocomCount}
+use Rattle.geocom_c.specs.declared.header.TheConstants.{NO_ROOM, NO_CLIENT}
+use Rattle.geocom_c.specs.declared.state.GeocomClient.{GeocomClient}
+
+-- a list is as long `after` as `before`
+abbrev pub KeepsLength : {A : Type 0} → (before after : List A) → Type 0
+KeepsLength before after = length after ≡ length before
+
+-- a text is written over a list from place `at` on: `before` and `after` are the list before and after that
+abbrev pub IsWritten : {A : Type 0} → (at : ℕ) → (text before after : List A) → Type 0
+IsWritten at text before after = take (at + length text) after ≡ take at before ++ text
+
+-- what is after the first `count` items of a list is the same `after` as `before`
+abbrev pub LeavesRest : {A : Type 0} → (count : ℕ) → (before after : List A) → Type 0
+LeavesRest count before after = drop count after ≡ drop count before
+
+-- the list `after` is the list `before` with more items at its end, or with none
+abbrev pub IsExtended : {A : Type 0} → (before after : List A) → Type 0
+IsExtended {A = A} before after = (more : List A) × (after ≡ before ++ more)
+
+-- this count is at most that of the requests that can be outstanding
+abbrev pub FitsTheWindow : (count : ℕ) → Type 0
+FitsTheWindow count = count ≤ WINDOW
+
+-- the fault is that of too little room if and only if the list `room` has fewer than `least` items
+abbrev pub TellsNoRoom : {A : Type 0} → (room : List A) → (least fault : ℕ) → Type 0
+TellsNoRoom room least fault = (fault ≡ NO_ROOM) ↔ (length room < least)
+
+-- the fault is that of a state that is no client's if and only if the state is none, and the list `room` has at least `least` items
+abbrev pub TellsNoClient : {A : Type 0} → (room : List A) → (least : ℕ) → GeocomClient → (fault : ℕ) → Type 0
+TellsNoClient room least state fault = (fault ≡ NO_CLIENT) ↔ ((least ≤ length room) × IsAstray state)
+
+-- a call that returned `told`: after a fault the count is 0, the state is `new` as it was `old`, and its room is `after` as it was
+-- `before`
+abbrev pub FaultLeavesAll : {A : Type 0} → GeocomCount → (old new : GeocomClient) → (before after : List A) → Type 0
+FaultLeavesAll told old new before after = told.fault ≢ 0 → (told.count ≡ 0) × (new ≡ old) × (after ≡ before)
+
+-- if the call that returned `told` had no fault, the first `told.count` bytes of `room` are this text
+abbrev pub WritesText : GeocomCount → (room text : List ℕ) → Type 0
+WritesText told room text = told.fault ≡ 0 → take told.count room ≡ text
