@@ -23,6 +23,6 @@ echo '|---|---|'
 row 'a double of 12 digits read' "$parts" read
 row 'a double of 12 digits written' "$parts" write
 for window in ring slots; do
-    row "a request sent, with $window" --toggle-collect='*sending::sent*' "$parts" "send-$window"
-    row "an answered reply, with $window" --toggle-collect='*sending::answered*' "$parts" "send-$window"
+    row "a request sent, with $window" --toggle-collect='*sending::send_one*' "$parts" "send-$window"
+    row "an answered reply, with $window" --toggle-collect='*sending::hear_reply*' "$parts" "send-$window"
 done
