@@ -49,7 +49,8 @@ def cost(kind, words):
             rows = list(csv.DictReader(station.output().decode().splitlines()))
     costs = {row["cycle"] for row in rows if row["outcome"] != "answered"}
     missed = {row["cycle"] for row in rows if row["outcome"] == "missed"}
-    print(f"{kind}, {words or 'with the defaults'}: {len(costs)} of {CYCLES} cycles, {len(missed)} of them missed; status {status}")
+    # The line and its end at once: two threads print.
+    print(f"{kind}, {words or 'with the defaults'}: {len(costs)} of {CYCLES} cycles, {len(missed)} of them missed; status {status}\n", end="", flush=True)
 
 
 def main():
