@@ -1,6 +1,6 @@
 //! Which target of a scene the instrument measures or finds: the first in the scene's order.
 
-ghost use Rattle.std.specs.Prelude.{◌≡◌, find};
+ghost use Rattle.std.specs.Prelude.{◌≡◌, find, option_map};
 ghost use Rattle.gc_instrument.specs.Targets.{is_at, is_within_areas, first_at, first_within};
 
 use crate::pointing::Pointing;
@@ -27,22 +27,20 @@ fn is_within_areas(
 }
 
 /// The first target of a scene that lies exactly where the telescope points. `None`: no target does.
-#[inline(always)]
-pub fn first_at(pointing: &Pointing, scene: &[Target]) -> Option<Target>
-    ensures { result ≡ first_at pointing.now scene.now }
+pub fn first_at<'a>(pointing: &Pointing, scene: &'a [Target]) -> Option<&'a Target>
+    ensures { option_map (λ t. t.now) result ≡ first_at pointing.now scene.now }
 {
-    scene.iter().copied().find(|target| is_at(pointing, target))
+    scene.iter().find(|target| is_at(pointing, target))
 }
 
 /// The first target of a scene whose angles differ from the telescope's by at most these areas, in radians. `None`: there is none.
-#[inline(always)]
-pub fn first_within(
+pub fn first_within<'a>(
     pointing: &Pointing,
     area_hz: &Decimal,
     area_v: &Decimal,
-    scene: &[Target],
-) -> Option<Target>
-    ensures { result ≡ first_within pointing.now area_hz.now area_v.now scene.now }
+    scene: &'a [Target],
+) -> Option<&'a Target>
+    ensures { option_map (λ t. t.now) result ≡ first_within pointing.now area_hz.now area_v.now scene.now }
 {
-    scene.iter().copied().find(|target| is_within_areas(pointing, area_hz, area_v, target))
+    scene.iter().find(|target| is_within_areas(pointing, area_hz, area_v, target))
 }

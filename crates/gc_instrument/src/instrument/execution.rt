@@ -290,7 +290,10 @@ impl Instrument {
             area_v,
             self.scene.as_slice(),
         ) {
-            Some(target) => self.position(&target.hz, &target.v),
+            Some(target) => {
+                let (hz, v) = (target.hz, target.v);
+                self.position(&hz, &v)
+            }
             None => NO_TARGET,
         }
     }
