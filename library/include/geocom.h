@@ -2,45 +2,48 @@
  * geocom: the proved GeoCOM client, from C.
  *
  * A client settles each request once, in the order of sending: answered, late or lost. The caller has the connection and
- * the clock; the library opens nothing, takes no memory, starts no thread and keeps nothing between calls. All that it
- * knows stands in a geocom_client, which is the caller's: plain bytes of a fixed size, which may be copied and kept.
+ * the clock; the library opens nothing, allocates no memory, starts no thread and keeps nothing between calls. Its whole
+ * state is a geocom_client, which is the caller's: plain bytes of a fixed size, which may be copied and stored.
  *
  * The order of calls:
- *   1. geocom_client_init, once, with the width: how many requests may wait at a time, 1 to 7.
- *   2. geocom_client_begin until it has begun: write a line feed on the new connection, then the line of each null procedure that
- *      it gives, and hand it what comes. Where nothing came by a deadline of yours, call it without bytes: it gives the same
- *      line again. So nothing that is in flight from before is taken for the answer to a request.
+ *   1. geocom_client_init, once, with the width: how many requests may be outstanding at a time, 1 to 7.
+ *   2. geocom_client_begin until the client has synchronized: write a line feed to the new connection, then the line of each null
+ *      procedure that the call returns, and pass it the bytes that you read. If nothing came by a deadline of yours, call it without
+ *      bytes: it returns the same line again. So no old reply is taken for the answer to a request.
  *   3. geocom_client_send for a request, or geocom_client_send_raw for one of a procedure that isn't in the table; write the line
- *      that it gives on the connection.
- *   4. Read, waiting no longer than until geocom_client_next_deadline.
+ *      that it returns to the connection.
+ *   4. Read, until geocom_client_next_deadline at the latest.
  *   5. geocom_client_expire with the moment after the read, then geocom_client_feed with the bytes until all are used.
- *   6. Where the connection fails or is dead: close it, open it anew, send a lone line feed, and feed a lone line feed, which
- *      drops half a line (while it begins, hand it to geocom_client_begin). Ids go on, and so does what waits.
- *   7. Where as many wait as may, and all were given up: geocom_client_restart, and 2 without a line feed. No quiet time is
- *      needed.
+ *   6. If the connection fails or is dead: close it, open a new one, send a line feed, discard what comes until nothing comes any
+ *      more, and feed a line feed, which discards half a line. Before the client has synchronized, pass that line feed to
+ *      geocom_client_begin instead, and discard nothing. Ids continue, and what is outstanding stays so.
+ *   7. If as many requests are outstanding as the width allows, and all have timed out: geocom_client_restart, and 2 without the
+ *      line feed. No pause is needed.
  *
- * What the caller vouches for: every pointer is valid for the length behind it and not null, also where the length is 0;
+ * A moment or a deadline is a number of the caller's clock, which may count in any unit and never runs backwards.
+ *
+ * What the caller vouches for: every pointer is valid for the length after it and not null, even if the length is 0;
  * what two pointers of one call point at does not overlap; and one call at a time is made for each state. Calls for
- * different states may run in different threads. No call has a condition on the bytes of a state: whatever stands there,
+ * different states may run in different threads. No call has a condition on the bytes of a state: whatever they are,
  * it returns and stays within bounds.
  *
- * A call writes `count` places of the room that it is given, and leaves those behind them as they are (but for the text of
+ * A call writes `count` places of the room that it is given, and leaves those after them as they are (except in the text of
  * a feed).
  *
- * Faults (a call that answers one has changed nothing, and written nothing):
+ * Faults (a call of a client that returns one has changed nothing, and written nothing; all else that it returns is 0):
  *   6         the line of a raw request would have more than 512 bytes
- *   11 to 15  the parameters don't read: form, range, an open quote, more than 16, another count than the procedure has. Of raw
- *             parameters: 11 a CR or LF stands in them, 13, 14
+ *   11 to 15  the parameters can't be read: form, range, an open quote, more than 16, another count than the procedure has. Of raw
+ *             parameters: 11 a CR or LF is among them, 13, 14
  *   21        no procedure has the number
- *   31        as many requests wait as the width allows
+ *   31        as many requests are outstanding as the width allows
  *   61        the width is not 1 to 7
- *   62        less room than the call asks for
- *   63        the state is no client's: it was never made by geocom_client_init, or was written over
- *   67        the client hasn't begun: geocom_client_begin comes first, and again behind each restart
- *   68        geocom_client_send_raw: the procedure is one of the table, which geocom_client_send asks
- * and of an instrument (behind 41 and 51 to 53 none is there, and its other calls answer 69):
- *   41        the scene has more targets, faults, replies or delays than an instrument
- *   51        a line of the scene has no form
+ *   62        less room than the call needs
+ *   63        the state is no client's: geocom_client_init never made it, or its bytes were overwritten
+ *   67        the client hasn't synchronized: geocom_client_begin comes first, and again after each restart
+ *   68        geocom_client_send_raw: the procedure is one of the table, which geocom_client_send requests
+ * and of an instrument (after 41 and 51 to 53 none is there, and its other calls return 69):
+ *   41        the scene has more targets, faults, replies or delays than an instrument can have
+ *   51        a line of the scene can't be read
  *   52        memory was refused
  *   53        the scene has more than 65,536 bytes
  *   69        no instrument is there: its scene was refused
@@ -58,7 +61,7 @@ extern "C" {
 
 #define GEOCOM_VERSION 2
 
-/* How many requests wait at most, and so how many records a call writes at most. */
+/* How many requests can be outstanding, and so how many records a call can write. */
 #define GEOCOM_WINDOW 7
 /* The room for a request line with its CR LF. */
 #define GEOCOM_LINE_ROOM 514
@@ -67,16 +70,16 @@ extern "C" {
 /* How many items an answer has at most. */
 #define GEOCOM_MOST_ITEMS 16
 
-/* A request that waits. Its line has no id; `length` bytes of it count. */
+/* An outstanding request. Its line has no id and no CR LF; the first `length` bytes of it are used. */
 typedef struct geocom_waiting {
-    uint64_t deadline;
+    uint64_t deadline; /* the moment at which it times out */
     uint32_t target;
     uint16_t length;
-    uint8_t given_up;
+    uint8_t given_up;  /* 1 if it has timed out; else 0 */
     uint8_t line[512];
 } geocom_waiting;
 
-/* The bytes since the last line feed, as far as they count. */
+/* The bytes since the last line feed: all of them, or of more than 514 the first 513 and the last. */
 typedef struct geocom_rest {
     uint16_t length;
     uint8_t bytes[514];
@@ -86,13 +89,13 @@ typedef struct geocom_rest {
 typedef struct geocom_client {
     geocom_waiting places[GEOCOM_WINDOW];
     geocom_rest rest;
-    uint8_t width;
-    uint8_t next;
-    uint8_t waiting;
-    uint8_t answered; /* how many null procedures of its beginning, of eight */
+    uint8_t width;    /* how many requests may be outstanding, 1 to 7 */
+    uint8_t next;     /* the id of the next request, 0 to 7 */
+    uint8_t waiting;  /* how many requests are outstanding */
+    uint8_t answered; /* how many null procedures of the synchronization are answered, of eight */
 } geocom_client;
 
-/* Where an item stands in the text of a feed. */
+/* Where an item is in the text of a feed, and its length, in bytes. */
 typedef struct geocom_item {
     uint16_t offset;
     uint16_t length;
@@ -101,8 +104,8 @@ typedef struct geocom_item {
 /* How a request ended. */
 enum geocom_outcome { GEOCOM_ANSWERED = 1, GEOCOM_LATE = 2, GEOCOM_LOST = 3 };
 
-/* What an answer says: nothing where there is none; a value; the return code of a refusal; the communication code of a
- * request that the instrument didn't take; or parameters that don't read as the procedure's. */
+/* What an answer says: nothing if there is none; a value; the return code of a refusal; the communication code of a
+ * request that the instrument didn't accept; or parameters that can't be read as the procedure's. */
 enum geocom_reading {
     GEOCOM_NONE = 0,
     GEOCOM_VALUE = 1,
@@ -115,37 +118,38 @@ enum geocom_reading {
 typedef struct geocom_settlement {
     uint32_t target;      /* as it was handed to geocom_client_send or geocom_client_send_raw */
     uint16_t procedure;   /* as it was handed to geocom_client_send or geocom_client_send_raw */
-    uint16_t code;        /* the return code, the communication code, or the fault 11 to 15; 0 beside a value and where there is no answer */
-    uint16_t line_length; /* the answer's line: so many bytes at the front of the text; 0 where there is no answer */
-    uint16_t items;       /* how many values the answer has; beside a value of a raw request, how many items its parameters have */
-    geocom_item places[GEOCOM_MOST_ITEMS]; /* where their texts stand in the text, as they came, without spaces round them */
+    uint16_t code;        /* the return code, the communication code, or the fault 11 to 15; 0 for a value, and without an answer */
+    uint16_t line_length; /* the answer's line: this many bytes at the front of the text; 0 without an answer */
+    uint16_t items;       /* how many items a value has, or the parameters of a raw request's answer; 0 for every other reading */
+    geocom_item places[GEOCOM_MOST_ITEMS]; /* where these items are in the text, as they came, without spaces around them */
     uint8_t outcome;      /* enum geocom_outcome */
     uint8_t reading;      /* enum geocom_reading */
 } geocom_settlement;
 
-/* A fault or 0, and a count, which is 0 beside a fault. */
+/* A fault or 0, and a count, which is 0 after a fault. */
 typedef struct geocom_count {
     uint32_t fault;
     uint32_t count;
 } geocom_count;
 
-/* A fault or 0, and the earliest deadline, where is_set is 1; else is_set and deadline are 0. */
+/* A fault or 0, and the earliest deadline if is_set is 1; otherwise is_set and deadline are 0. */
 typedef struct geocom_deadline {
     uint64_t deadline;
     uint32_t fault;
     uint32_t is_set;
 } geocom_deadline;
 
-/* What came of a beginning; beside a fault all else is 0. */
+/* What geocom_client_begin returns; after a fault all else is 0. */
 typedef struct geocom_beginning {
     uint32_t fault;     /* 0, 62 or 63 */
-    uint32_t count;     /* how many bytes of the line are to be written; 0: none, read on */
+    uint32_t count;     /* how many bytes of the line are to be sent, with its CR LF; 0: none, read on */
     uint32_t answered;  /* how many null procedures are answered, of eight */
-    uint32_t has_begun; /* 1 once all are; else 0 */
+    uint32_t has_begun; /* 1 once all are, and the client has synchronized; else 0 */
 } geocom_beginning;
 
-/* What bytes ended: no line feed came yet; a line that settled; a reply that no request waits for; a line that is no reply;
- * a line feed without a CR before it, which drops what stood before it; a line of more than 512 bytes, which is dropped. */
+/* What the bytes of a feed ended: no line feed came yet; a line that settled requests; a reply that no request is outstanding for; a
+ * line that is no reply; a line feed without a CR before it, and what was before it is discarded; a line of more than 512 bytes, which
+ * is discarded. */
 enum geocom_kind {
     GEOCOM_MORE = 0,
     GEOCOM_SETTLED = 1,
@@ -155,7 +159,7 @@ enum geocom_kind {
     GEOCOM_OVERLONG = 5
 };
 
-/* What came of a feed; beside a fault all else is 0. */
+/* What geocom_client_feed returns; after a fault all else is 0. */
 typedef struct geocom_heard {
     size_t used;         /* how many bytes were used: through the first line feed, or all */
     uint32_t fault;      /* 0, 62 or 63 */
@@ -164,34 +168,38 @@ typedef struct geocom_heard {
     uint32_t line_fault; /* of a line that is no reply, its first faulty field, 1 to 5; else 0 */
 } geocom_heard;
 
-/* The library's version of these calls and structures: GEOCOM_VERSION, or the header is another library's. */
+/* The library's version of these calls and structures. If it isn't GEOCOM_VERSION, the header belongs to another library. */
 uint32_t geocom_version(void);
 
-/* Makes a client that hasn't begun, and lets `width` requests wait. Answers 0, or 61 for a width that is not 1 to 7. */
+/* Makes a client that hasn't synchronized, and has sent nothing. At most `width` requests may be outstanding, 1 to 7. Returns 0, or 61
+ * for another width: then the state is as it was. */
 uint32_t geocom_client_init(geocom_client *state, uint8_t width);
 
-/* Begins: takes what came, all of it, and writes the line of the null procedure that is to go out next, with CR LF, `count` bytes.
- * Eight are asked, one after the other, with ids 6, 5, 4, 3, 2, 1, 0 and 7; a reply with the id of the one that is asked answers it,
- * whatever it says, and all else is dropped. Call it with length 0 for the first line, and again where nothing came in time: it
- * gives the same line again. Where bytes came that answered nothing, count is 0. Once has_begun is 1, it gives no line, and bytes
- * go to geocom_client_feed. Faults: 62 (line_room below GEOCOM_LINE_ROOM), 63. */
+/* Synchronizes: takes bytes that came, all of them, and writes the line of the null procedure that is to be sent next into `line`, with
+ * CR LF, `count` bytes. Eight are asked, one after the other, with ids 6, 5, 4, 3, 2, 1, 0 and 7; a reply with the id of the one that is
+ * asked answers it, whatever its codes and parameters, and all else is discarded. Call it with length 0 for the first line, and again if
+ * nothing came in time: it writes the same line again. If bytes came that answered nothing, count is 0: read on. Once has_begun is 1,
+ * the call writes no line, and discards each line that ends: then bytes go to geocom_client_feed. Faults: 62 (line_room below
+ * GEOCOM_LINE_ROOM), 63. */
 geocom_beginning geocom_client_begin(geocom_client *state, const uint8_t *bytes, size_t length, uint8_t *line, size_t line_room);
 
-/* Sends a request for a target, a number of the caller's own that comes back with the settlement, to be answered before the
- * deadline. The parameters are a text with commas between them, as "5000,1". Writes the request's line with CR LF into
- * `line`, `count` bytes. Faults: 62 (line_room below GEOCOM_LINE_ROOM), 63, 67, 21, 11 to 15, 31. */
+/* Sends a request of a client that has synchronized: it is outstanding from now on, and its line is written into `line`, with CR LF,
+ * `count` bytes, for the caller to write to the connection. The target is any number of the caller's, which the settlement has. The
+ * request times out at the deadline, a moment in the unit in which geocom_client_expire gets them. The parameters are a text with commas
+ * between them, as "5000,1"; an empty one if the procedure has none. Faults: 62 (line_room below GEOCOM_LINE_ROOM), 63, 67, 21, 11 to
+ * 15, 31. */
 geocom_count geocom_client_send(geocom_client *state, uint32_t target, uint64_t deadline, uint16_t procedure,
                                 const uint8_t *params, size_t params_length, uint8_t *line, size_t line_room);
 
-/* Sends a request of any procedure that isn't in the table, with its parameters exactly as they stand: bytes other than CR and
- * LF, at most 16 items with commas between them, and at most 512 bytes of line. All else is as for geocom_client_send. What an
- * answer with both codes 0 says is text: its reading is GEOCOM_VALUE, with the items of its parameters, at most 16; or
- * GEOCOM_UNREADABLE with the code 13 or 14.
+/* Sends a request for a procedure that isn't in the table, with its parameters exactly as they are given: bytes other than CR and
+ * LF, double quotes in pairs, at most 16 items with commas between them, and at most 512 bytes of line. All else is as for
+ * geocom_client_send. An answer with both codes 0 is text: its reading is GEOCOM_VALUE, with the items of its parameters, at most 16;
+ * or GEOCOM_UNREADABLE with the code 13 or 14.
  *
- * Ids come round behind eight requests, and an instrument may keep its reply over a procedure that it doesn't know. So let one
- * of the seven requests before each be an answered one of the table: behind six raw requests in a row send a null procedure
- * (geocom_client_send with procedure 0), send on once it, or another one behind it, is answered, and drop what it says. An
- * instrument that knows each procedure which is asked needs none of it.
+ * An instrument that doesn't know a procedure may refuse it and still retain its reply to an earlier request. Ids repeat after eight
+ * requests, so that old reply could answer a later request. With such an instrument let one of the seven requests before each request be
+ * a call of the table that was answered: after six raw requests in a row send a null procedure (geocom_client_send with procedure 0),
+ * continue once it, or another one after it, is answered, and ignore its value.
  *
  * Faults: 62 (line_room below GEOCOM_LINE_ROOM), 63, 67, 68, 11, 13, 14, 6, 31. */
 geocom_count geocom_client_send_raw(geocom_client *state, uint32_t target, uint64_t deadline, uint16_t procedure,
@@ -199,86 +207,87 @@ geocom_count geocom_client_send_raw(geocom_client *state, uint32_t target, uint6
 
 /* Takes bytes as they come from a port, in any pieces, through the first line feed; call again with what is left until all
  * are used. A line settles at most GEOCOM_WINDOW requests: `count` records are written, the oldest request's first, and the
- * line and its items into `text`. Else neither is written. Faults: 62 (settlements_room below GEOCOM_WINDOW, or text_room
- * below GEOCOM_TEXT_ROOM), 63. */
+ * line and its items into `text`. If it settles none, neither is written. While the client synchronizes, pass bytes to
+ * geocom_client_begin instead. Faults: 62 (settlements_room below GEOCOM_WINDOW, or text_room below GEOCOM_TEXT_ROOM), 63. */
 geocom_heard geocom_client_feed(geocom_client *state, const uint8_t *bytes, size_t length,
                                 geocom_settlement *settlements, size_t settlements_room, uint8_t *text, size_t text_room);
 
-/* Gives up each request whose deadline is at most `now`, and writes the targets of those that weren't given up before,
- * `count` of them. They go on waiting: a reply settles them as late. Faults: 62 (targets_room below GEOCOM_WINDOW), 63. */
+/* Times out each request whose deadline is at most `now`, and writes the targets of those that hadn't timed out before, `count` of
+ * them, the oldest request's first. They stay outstanding: a reply settles them as late. Faults: 62 (targets_room below GEOCOM_WINDOW),
+ * 63. */
 geocom_count geocom_client_expire(geocom_client *state, uint64_t now, uint32_t *targets, size_t targets_room);
 
-/* The earliest deadline of the requests that wait and aren't given up. Fault: 63. */
+/* The earliest deadline of the outstanding requests that haven't timed out. Fault: 63. */
 geocom_deadline geocom_client_next_deadline(const geocom_client *state);
 
-/* Settles all that wait as lost, and drops half a line; ids begin at 0 again, and the width stays. A client that had begun begins
- * anew: geocom_client_begin comes next. One that hadn't goes on with the null procedure that it was at. What is in flight by
- * then may stay so: nothing has to be vouched for. For another instrument or line make a new client. Writes `count` records, the
- * oldest request's first. Faults: 62 (settlements_room below GEOCOM_WINDOW), 63. */
+/* Settles all outstanding requests as lost, and discards half a line; ids start at 0 again, and the width stays. A client that had
+ * synchronized has to synchronize again: geocom_client_begin comes next. One that hadn't continues with the null procedure that it was
+ * at. Requests and replies may still be in flight: the caller vouches for nothing. For another instrument or line make a new client.
+ * Writes `count` records, the oldest request's first. Faults: 62 (settlements_room below GEOCOM_WINDOW), 63. */
 geocom_count geocom_client_restart(geocom_client *state, geocom_settlement *settlements, size_t settlements_room);
 
-/* How many requests wait, those that were given up among them. Fault: 63. */
+/* How many requests are outstanding, those that timed out included. Fault: 63. */
 geocom_count geocom_client_waiting(const geocom_client *state);
 
-/* How many requests wait that weren't given up; 0 of a state that is no client's. */
+/* How many outstanding requests haven't timed out; 0 if the state is no client's. */
 static inline uint32_t geocom_client_current(const geocom_client *state) {
     uint32_t waiting = geocom_client_waiting(state).count, current = 0, k;
     for (k = 0; k < waiting; k++) current += state->places[k].given_up == 0;
     return current;
 }
 
-/* An instrument within the process, for tests: that of a scene (docs/SIMULATOR.md, "Scenes" and "Rules of a scene"). It replies to bytes
- * with bytes, waits for nothing and reads no clock.
+/* An instrument within the process, for tests: that of a scene (docs/SIMULATOR.md, "Scenes" and "Rules of a scene"). Its requests and
+ * replies are bytes; it waits for nothing and reads no clock.
  *
  *   geocom_instrument *it = malloc(geocom_instrument_size());
  *   if (geocom_instrument_init(it, scene, strlen(scene)).fault == 0) ..
  *   free(it);
  *
- * What the caller vouches for besides: `at` leads to memory of geocom_instrument_size() bytes whose address 16 divides, as malloc gives
- * it; of the other calls, to an instrument that geocom_instrument_init wrote there, and that nothing else changed. It may be moved as
- * bytes. Nothing has to be ended: an instrument holds no memory but its own. geocom_instrument_init alone takes memory, by malloc,
- * while it reads the scene, and gives it back. */
+ * What the caller vouches for besides: for geocom_instrument_init `at` points to geocom_instrument_size() bytes, aligned to 16 bytes, as
+ * those that malloc returns are; for the other calls, to an instrument that geocom_instrument_init wrote there, and that nothing else
+ * changed. It may be moved as bytes. Nothing has to be closed: an instrument has no memory but these bytes. Only geocom_instrument_init
+ * allocates memory, by malloc, while it reads the scene, and frees it. */
 typedef struct geocom_instrument geocom_instrument;
 
 /* The room for a reply with its CR LF. */
 #define GEOCOM_REPLY_ROOM 514
 
-/* What came of setting an instrument up: a fault or 0, and the number of the faulty line, from 1, where the fault is 51, else 0. */
+/* What geocom_instrument_init returns: a fault or 0, and, if the fault is 51, the number of the scene's faulty line, from 1 on; else 0. */
 typedef struct geocom_made {
     uint32_t fault;
     uint32_t line;
 } geocom_made;
 
-/* What came of a feed; beside a fault all else is 0. */
+/* What geocom_instrument_feed returns; after a fault all else is 0. */
 typedef struct geocom_replied {
     size_t used;                      /* how many bytes were used: through the first line feed, or all */
-    uint64_t due;                     /* the moment at which the reply goes out; 0 where there is none */
+    uint64_t due;                     /* the moment at which the reply goes out, in milliseconds of the caller's clock; 0 if none */
     uint32_t fault;                   /* 0 or 69 */
     uint32_t count;                   /* how many bytes the reply has, with CR LF; 0: there is none */
-    uint8_t reply[GEOCOM_REPLY_ROOM]; /* `count` bytes of it count */
+    uint8_t reply[GEOCOM_REPLY_ROOM]; /* the first `count` bytes are the reply */
 } geocom_replied;
 
 /* How many bytes an instrument takes. */
 size_t geocom_instrument_size(void);
 
-/* Sets up the instrument of a scene's text, in its opening state. Faults: 41, 51, 52, 53; no instrument is there then. */
+/* Sets up the instrument of a scene's text, in its opening state. Faults: 41, 51, 52, 53; after these no instrument is there. */
 geocom_made geocom_instrument_init(geocom_instrument *at, const uint8_t *scene, size_t length);
 
-/* Takes bytes as they come from a port, in any pieces, through the first line feed, and gives the reply to the line that it ends; call
- * again with what is left until all are used. `now` is the moment at which they came, in milliseconds of a count of the caller's that
- * never runs backwards. A reply with a delay of the scene is due later; the next ones aren't due before it. Fault: 69. */
+/* Takes bytes as they come from a port, in any pieces, through the first line feed, and returns the reply to the line that it ends; call
+ * again with what is left until all are used. `now` is the moment at which they came, in milliseconds of the caller's clock, which never
+ * runs backwards. A reply with a delay in the scene is due later; the next ones aren't due before it. Fault: 69. */
 geocom_replied geocom_instrument_feed(geocom_instrument *at, const uint8_t *bytes, size_t length, uint64_t now);
 
-/* Restarts the instrument, as it is for each connection: half a line is dropped. The scene goes on, with its counts, its targets and its
- * noise. Answers 0, or 69. */
+/* Restarts the instrument, as a new connection to `geocom serve` does: half a line is discarded. The scene goes on, with its counts, its
+ * targets and its noise. Returns 0, or 69. */
 uint32_t geocom_instrument_restart(geocom_instrument *at);
 
-/* What follows is written over the calls above, for programs that block until an answer comes: a beginning, a request with its
+/* What follows uses the calls above, for programs that block until an answer comes: a synchronization, a request with its
  * settlement, and a new connection within a run.
  *
- * A port is the caller's connection with the caller's clock. `write` writes all of the bytes, and answers 0. `read` waits at most
- * so many milliseconds, and answers how many bytes came, 0 where none did. Both answer below 0 where the connection failed or
- * ended. `now` is a count of milliseconds that never runs backwards. Each is handed `context`. */
+ * A port is the caller's connection with the caller's clock. `write` writes all of the bytes, and returns 0. `read` waits at most
+ * `milliseconds`, and returns how many bytes came, 0 if none did. Both return a negative number if the connection failed or
+ * ended. `now` returns a count of milliseconds that never runs backwards. Each is passed `context`. */
 typedef struct geocom_port {
     void *context;
     int (*write)(void *context, const uint8_t *bytes, size_t length);
@@ -286,11 +295,11 @@ typedef struct geocom_port {
     uint64_t (*now)(void *context);
 } geocom_port;
 
-/* What these calls answer beside 0 and a fault: the connection failed; no null procedure was answered, three times in a row. */
+/* What these calls return besides 0 and a fault: the connection failed; a null procedure was sent three times, and never answered. */
 enum geocom_trouble { GEOCOM_FAILED = -1, GEOCOM_SILENT = -2 };
 
-/* Begins over a new connection: a line feed, and eight null procedures, each again where nothing answered it for `patience`
- * milliseconds. Answers 0, GEOCOM_FAILED, GEOCOM_SILENT, or 63. Call it again to go on where it was. */
+/* Synchronizes over a new connection: sends a line feed, and eight null procedures, each again if nothing answered it for `patience`
+ * milliseconds. Returns 0, GEOCOM_FAILED, GEOCOM_SILENT, or 63. Call it again to continue where it was. */
 static inline int geocom_begin(geocom_client *state, const geocom_port *port, uint64_t patience) {
     uint8_t bytes[256], line[GEOCOM_LINE_ROOM];
     uint64_t now, end = 0;
@@ -312,8 +321,8 @@ static inline int geocom_begin(geocom_client *state, const geocom_port *port, ui
     }
 }
 
-/* Goes on over a new connection within a run, once the client has begun: a line feed, and what comes is dropped until nothing
- * came for `quiet` milliseconds. Answers 0, GEOCOM_FAILED, or a fault. */
+/* Continues over a new connection within a run, once the client has synchronized: sends a line feed, and discards what comes until
+ * nothing came for `quiet` milliseconds. Returns 0, GEOCOM_FAILED, or a fault. */
 static inline int geocom_reconnect(geocom_client *state, const geocom_port *port, uint64_t quiet) {
     uint8_t bytes[256], text[GEOCOM_TEXT_ROOM];
     geocom_settlement records[GEOCOM_WINDOW];
@@ -324,10 +333,10 @@ static inline int geocom_reconnect(geocom_client *state, const geocom_port *port
     return (int)geocom_client_feed(state, (const uint8_t *)"\n", 1, records, GEOCOM_WINDOW, text, sizeof text).fault;
 }
 
-/* Asks a procedure of the table, and reads until it is settled, at its deadline at the latest, `patience` milliseconds from now:
- * one that wasn't answered by then is lost, as no answer will be taken for it. `text` has room for GEOCOM_TEXT_ROOM bytes. Where
- * seven requests wait that are all given up, it begins anew first. One request at a time is asked so. Answers 0 with the
- * settlement; else nothing is known of this request: GEOCOM_FAILED or GEOCOM_SILENT, or a fault, and then it didn't go out. */
+/* Requests a procedure of the table, and reads until the request is settled, or until its deadline, `patience` milliseconds from now:
+ * one that isn't settled by then is reported as lost, as no answer will be taken for it. `text` has room for GEOCOM_TEXT_ROOM bytes. If
+ * seven requests are outstanding that have all timed out, it restarts and synchronizes first. It is for one request at a time. Returns 0
+ * with the settlement; GEOCOM_FAILED or GEOCOM_SILENT, and then nothing is known of this request; or a fault, and then it wasn't sent. */
 static inline int geocom_ask(geocom_client *state, const geocom_port *port, uint32_t target, uint16_t procedure, const char *params,
                              uint64_t patience, geocom_settlement *settlement, uint8_t *text) {
     const geocom_settlement lost = {target, procedure, 0, 0, 0, {{0, 0}}, GEOCOM_LOST, GEOCOM_NONE};
@@ -358,7 +367,7 @@ static inline int geocom_ask(geocom_client *state, const geocom_port *port, uint
         for (used = 0; used < (size_t)came; used += heard.used) {
             heard = geocom_client_feed(state, bytes + used, (size_t)came - used, records, GEOCOM_WINDOW, text, GEOCOM_TEXT_ROOM);
             if (heard.fault != 0) return (int)heard.fault;
-            /* It was sent last: so it is settled once none waits, as the last one. */
+            /* It was sent last: so it is settled once none is outstanding, as the last one. */
             if (heard.count > 0 && geocom_client_waiting(state).count == 0) *settlement = records[heard.count - 1];
         }
     }

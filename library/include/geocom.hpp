@@ -1,4 +1,4 @@
-// geocom: the proved GeoCOM client, from C++17. A client owns its state and is made and let go with it; faults are thrown.
+// geocom: the proved GeoCOM client, from C++17 on. A client owns its state; faults are thrown.
 // Each call is that of geocom.h, which says what it does and what the caller vouches for.
 #ifndef GEOCOM_HPP
 #define GEOCOM_HPP
@@ -21,7 +21,7 @@
 
 namespace geocom {
 
-// A refusal, by its number. Nothing has changed then.
+// A fault of a call, by its number (geocom.h lists them). Nothing has changed then.
 class fault : public std::runtime_error {
 public:
     explicit fault(std::uint32_t number) : std::runtime_error("geocom: fault " + std::to_string(number)), number(number) {}
@@ -52,8 +52,8 @@ class client {
 public:
     explicit client(std::uint8_t width = GEOCOM_WINDOW) { check(geocom_client_init(&state_, width)); }
 
-    // Begins: takes what came, and gives the line to write on the connection; an empty one where none goes out now. Without bytes it is
-    // the first line, or, where nothing came in time, the same again. Requests go out once it has begun.
+    // Synchronizes: takes bytes that came, and returns the line to write to the connection; an empty one if none is to be sent now.
+    // Without bytes it is the first line, or, if nothing came in time, the same again. Requests can be sent once `has_begun()`.
     std::string begin(std::string_view bytes = "") {
         std::array<std::uint8_t, GEOCOM_LINE_ROOM> line;
         const char *text = bytes.empty() ? "" : bytes.data();
@@ -66,7 +66,7 @@ public:
 
     bool has_begun() const { return has_begun_; }
 
-    // The line to write on the connection.
+    // Sends a request, and returns its line, with CR LF, to write to the connection.
     std::string send(std::uint32_t target, std::uint64_t deadline, std::uint16_t procedure, std::string_view params = "") {
         std::array<std::uint8_t, GEOCOM_LINE_ROOM> line;
         const char *text = params.empty() ? "" : params.data();
@@ -76,8 +76,8 @@ public:
         return std::string(line.begin(), line.begin() + sent.count);
     }
 
-    // The line of a request of a procedure that isn't in the table, whose parameters go out exactly as they stand. What an answer says
-    // is text: the items of its parameters. Behind six of these in a row a null procedure has to be answered (`geocom.h`).
+    // Sends a request for a procedure that isn't in the table, with its parameters exactly as they are given, and returns its line. An
+    // answer is text: the items of its parameters. After six of these in a row a null procedure has to be answered (geocom.h).
     std::string send_raw(std::uint32_t target, std::uint64_t deadline, std::uint16_t procedure, std::string_view params = "") {
         std::array<std::uint8_t, GEOCOM_LINE_ROOM> line;
         const char *text = params.empty() ? "" : params.data();
@@ -87,7 +87,7 @@ public:
         return std::string(line.begin(), line.begin() + sent.count);
     }
 
-    // The settlements that all of these bytes give, in order. Lines that settle nothing are counted.
+    // The requests that these bytes settle, in the order of sending. Lines that settle nothing are counted (`count`).
     std::vector<settlement> feed(std::string_view bytes) {
         std::vector<settlement> all;
         while (!bytes.empty()) {
@@ -102,7 +102,7 @@ public:
         return all;
     }
 
-    // The targets that this moment gives up.
+    // Times out the requests whose deadline is at most `now`, and returns the targets of those that hadn't timed out before.
     std::vector<std::uint32_t> expire(std::uint64_t now) {
         std::array<std::uint32_t, GEOCOM_WINDOW> targets;
         const geocom_count due = geocom_client_expire(&state_, now, targets.data(), targets.size());
@@ -110,13 +110,14 @@ public:
         return std::vector<std::uint32_t>(targets.begin(), targets.begin() + due.count);
     }
 
+    // The earliest deadline of the outstanding requests that haven't timed out, if there is one.
     std::optional<std::uint64_t> next_deadline() const {
         const geocom_deadline next = geocom_client_next_deadline(&state_);
         check(next.fault);
         return next.is_set ? std::optional<std::uint64_t>(next.deadline) : std::nullopt;
     }
 
-    // The settlements of all that wait, as lost. `begin` comes next.
+    // Settles all outstanding requests as lost, and returns their settlements. `begin` comes next.
     std::vector<settlement> restart() {
         const geocom_count lost = geocom_client_restart(&state_, records_.data(), records_.size());
         check(lost.fault);
@@ -126,16 +127,17 @@ public:
         return all;
     }
 
+    // How many requests are outstanding, those that timed out included.
     std::uint32_t waiting() const {
         const geocom_count waiting = geocom_client_waiting(&state_);
         check(waiting.fault);
         return waiting.count;
     }
 
-    // How many wait that weren't given up.
+    // How many outstanding requests haven't timed out.
     std::uint32_t current() const { return geocom_client_current(&state_); }
 
-    // How many feeds ended so.
+    // How many calls of geocom_client_feed returned this kind.
     std::uint64_t count(geocom_kind kind) const { return kinds_[kind]; }
 
 private:
@@ -160,14 +162,15 @@ private:
     std::array<std::uint64_t, GEOCOM_OVERLONG + 1> kinds_{};
 };
 
-// The text is no scene: its number is 41, 51, 52 or 53, and `line` that of the faulty line, from 1, or 0.
+// No instrument could be made of the scene: the fault is 41, 51, 52 or 53. `line` is the number of the faulty line, from 1 on, if the fault
+// is 51; otherwise 0.
 class bad_scene : public fault {
 public:
     bad_scene(std::uint32_t number, std::uint32_t line) : fault(number), line(line) {}
     const std::uint32_t line;
 };
 
-// A reply, and the moment at which it goes out.
+// A reply with CR LF, and the moment at which it goes out, in milliseconds of the caller's clock.
 struct reply {
     std::uint64_t due;
     std::string text;
@@ -183,7 +186,7 @@ public:
         if (made.fault != 0) throw bad_scene(made.fault, made.line);
     }
 
-    // Takes bytes that came at the moment `now`, in milliseconds, in any pieces, and gives the replies to the lines that they end.
+    // Takes bytes that came at the moment `now`, in milliseconds, in any pieces, and returns the replies to the lines that they end.
     std::vector<reply> hear(std::string_view bytes, std::uint64_t now) {
         std::vector<reply> replies;
         while (!bytes.empty()) {
@@ -196,14 +199,14 @@ public:
         return replies;
     }
 
-    // The replies alone, one behind the other, whatever delays the scene has.
+    // The texts of the replies, one after the other, at once, whatever delays the scene has.
     std::string feed(std::string_view bytes, std::uint64_t now = 0) {
         std::string all;
         for (const reply &each : hear(bytes, now)) all += each.text;
         return all;
     }
 
-    // Restarts the instrument, as it is for each connection.
+    // Restarts the instrument, as a new connection to `geocom serve` does.
     void restart() {
         const std::uint32_t number = geocom_instrument_restart(at());
         if (number != 0) throw fault(number);
@@ -215,31 +218,32 @@ private:
     std::unique_ptr<std::max_align_t[]> room_;
 };
 
-// Nothing was answered in time: a null procedure of a beginning, three times in a row. Ask again, or make the connection anew.
+// A null procedure of the synchronization was sent three times, and never answered in time. Try again, or open a new connection.
 class silent : public std::runtime_error {
 public:
     silent() : std::runtime_error("geocom: no null procedure is answered") {}
 };
 
-// A station over two callables and a clock, by the rules of docs/OPERATING.md: it begins, asks, gives up at a deadline, and begins
-// anew where seven requests wait that are all given up; it sends a null procedure where the rule of `send_raw` asks for one. What
-// the callables throw passes through: make the connection anew then, and call `reconnected`. One thread at a time.
+// A station over two callables and a clock, by the rules of docs/OPERATING.md: it synchronizes, sends requests, and waits for each until
+// its deadline. If seven requests are outstanding that have all timed out, it restarts and synchronizes again; it sends a null procedure
+// where the rule of `send_raw` asks for one. What the callables throw passes through: open a new connection then, and call
+// `reconnected`. One thread at a time.
 class station {
 public:
-    // What came within so many milliseconds; nothing where nothing did. It throws where the connection ended or failed.
+    // Returns what came within `milliseconds`, an empty string if nothing did. It throws if the connection ended or failed.
     using reader = std::function<std::string(std::uint64_t milliseconds)>;
-    // Writes all of it, or throws.
+    // Writes all of the bytes, or throws.
     using writer = std::function<void(std::string_view bytes)>;
-    // Milliseconds of a count that never runs backwards.
+    // Returns a count of milliseconds that never runs backwards.
     using clock = std::function<std::uint64_t()>;
     // A command of a chain: its procedure, and its parameters, as "5000,1".
     using command = std::pair<std::uint16_t, std::string>;
 
-    // `timeout` is for each null procedure, and for each answer where a call says nothing else, in milliseconds.
+    // `timeout`, in milliseconds, is for each null procedure, and for each request whose call has no other.
     station(reader read, writer write, std::uint64_t timeout = 10000, clock now = steady)
         : read_(std::move(read)), write_(std::move(write)), now_(std::move(now)), timeout_(timeout) {}
 
-    // Begins, if it hasn't: by itself at the first request, too.
+    // Synchronizes, unless it has. The first request does this by itself.
     void begin() {
         if (!is_clear_) clear();
         std::string came;
@@ -257,18 +261,18 @@ public:
         }
     }
 
-    // Asks a procedure of the table, and gives its settlement, at its deadline at the latest: one that wasn't answered by then is
-    // lost, as no answer will be taken for it.
+    // Requests a procedure of the table, and returns the settlement, at the deadline at the latest: a request that isn't settled by then
+    // is returned as lost, as no answer will be taken for it.
     settlement ask(std::uint32_t target, std::uint16_t procedure, std::string_view params = "", std::uint64_t timeout = 0) {
         return ask(false, target, procedure, params, timeout);
     }
 
-    // The same of a procedure that isn't in the table.
+    // The same for a procedure that isn't in the table.
     settlement ask_raw(std::uint32_t target, std::uint16_t procedure, std::string_view params = "", std::uint64_t timeout = 0) {
         return ask(true, target, procedure, params, timeout);
     }
 
-    // Runs a chain: each command goes out once the one before it was answered with a value. It ends behind the first that wasn't.
+    // Runs a chain: each command is sent once the one before it was answered with a value. It ends after the first that wasn't.
     std::vector<settlement> measure(std::uint32_t target, const std::vector<command> &chain, std::uint64_t timeout = 0) {
         std::vector<settlement> all;
         for (const auto &[procedure, params] : chain) {
@@ -278,8 +282,8 @@ public:
         return all;
     }
 
-    // The callables stand for a new connection from now on. What waits goes on waiting; once the client has begun, what comes is
-    // dropped until nothing came for `quiet` milliseconds.
+    // The callables use a new connection from now on. Outstanding requests stay so. If the client has synchronized, what comes is
+    // discarded until nothing came for `quiet` milliseconds.
     void reconnected(std::uint64_t quiet = 2000) {
         is_clear_ = false;
         quiet_ = quiet;
@@ -291,7 +295,7 @@ public:
     }
 
 private:
-    // A line feed drops half a request at the instrument, and half a line here.
+    // A line feed discards half a request at the instrument, and half a line here.
     void clear() {
         write_("\n");
         if (client_.has_begun()) {
@@ -306,7 +310,7 @@ private:
 
     bool is_full() const { return client_.waiting() == GEOCOM_WINDOW; }
 
-    // Those that wait are lost where they fill the window: all are given up, since one at a time is asked.
+    // Restarts the client if its window is full: all outstanding requests have timed out then, because one at a time is sent.
     void begin_anew() {
         if (is_full()) {
             client_.restart();
@@ -326,7 +330,7 @@ private:
         return exchange(is_raw, target, procedure, params, timeout != 0 ? timeout : timeout_);
     }
 
-    // What these bytes settle; behind the last call of the table that a reply ended are as many requests as wait.
+    // What these bytes settle. After a call of the table that a reply ended, as many requests were sent as are still outstanding.
     std::vector<settlement> hear(std::string_view bytes) {
         std::vector<settlement> all = client_.feed(bytes);
         for (const settlement &each : all) {
@@ -351,7 +355,7 @@ private:
             client_.expire(now);
             for (settlement &each : hear(came)) ended = std::move(each);
         }
-        // It was sent last: so it is settled once none waits, as the last one.
+        // It was sent last: so it is settled once none is outstanding, as the last one.
         if (client_.waiting() > 0) ended = {target, procedure, outcome::lost, reading::none, 0, {}, {}};
         return ended;
     }
@@ -361,7 +365,7 @@ private:
     writer write_;
     clock now_;
     std::uint64_t timeout_, quiet_ = 2000, end_ = 0;
-    // Which of those that wait are raw, and how many requests are behind the last call of the table that a reply ended.
+    // Which of the outstanding requests are raw, and how many requests were sent after the last call of the table that a reply ended.
     std::deque<bool> raws_;
     std::uint32_t behind_ = 0;
     bool is_clear_ = false;

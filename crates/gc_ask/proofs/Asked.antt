@@ -15,12 +15,12 @@ use Rattle.gc_catalogue.specs.declared.call.Call.{Call}
 use Rattle.gc_client.specs.declared.settlement.Settlement
 use Rattle.gc_client.specs.Rule.{ById, Settlement, heard, fits, hears, settled_by_line, place_in}
 use Rattle.gc_client.specs.Settlements.{settlement_seen}
-use Rattle.gc_ask.specs.Asking.{asked_for, idle, waiting_for, Reply, first_reply, settled_by, asked_from, asked, request_text, request_texts, lost_of, LinkEnd, IsNext, AsksAll, WritesPart}
+use Rattle.gc_ask.specs.Asking.{awaited, idle, waiting_for, Reply, first_reply, settled_by, asked_from, asked, request_text, request_texts, lost_of, LinkEnd, IsNext, AsksAll, WritesPart}
 use Rattle.gc_texts.specs.declared.commands.Command.{Command}
 use Rattle.gc_texts.specs.Settlements.{settlement_line, settlement_lines, lines_from, WrotePartOfSettlements}
-use Rattle.gc_ask.specs.Listening.{lines_behind, IsCut, Settles, StopsAt}
+use Rattle.gc_ask.specs.Listening.{lines_completed, IsCut, Settles, StopsAt}
 use Rattle.gc_texts.proofs.SettlementLines.{lines_one}
-use Rattle.gc_ask.proofs.FirstReplies.{lines_behind-append, first_reply-at}
+use Rattle.gc_ask.proofs.FirstReplies.{lines_completed-append, first_reply-at}
 
 -- One request that waits.
 
@@ -30,11 +30,11 @@ zero_if_below_one p b is e = omega (arith, ltb-true p 1 (sym is ∙ e))
 
 -- a line that fits the client which waits for request k settles that request alone, and nothing waits any more
 pub hears_one : (k : ℕ) (c : Command) (line : List ℕ) → fits (waiting_for k c) (heard line) ≡ true
-    → ((hears (waiting_for k c) line (heard line)).settlements ≡ settled_by_line (asked_for c) line ∷ []) × ((hears (waiting_for k c) line (heard line)).client ≡ idle (k + 1))
+    → ((hears (waiting_for k c) line (heard line)).settlements ≡ settled_by_line (awaited c) line ∷ []) × ((hears (waiting_for k c) line (heard line)).client ≡ idle (k + 1))
 hears_one k c line fit = by_id (heard line) fit where
   -- whatever id is heard, where it fits, the request that waits is settled, and nothing waits any more
   by_id : (o : Option ℕ) → fits (waiting_for k c) o ≡ true
-      → ((hears (waiting_for k c) line o).settlements ≡ settled_by_line (asked_for c) line ∷ []) × ((hears (waiting_for k c) line o).client ≡ idle (k + 1))
+      → ((hears (waiting_for k c) line o).settlements ≡ settled_by_line (awaited c) line ∷ []) × ((hears (waiting_for k c) line o).client ≡ idle (k + 1))
   by_id None e = (cc)
   by_id (Some id) e =
       let first : place_in (waiting_for k c) id ≡ 0 = zero_if_below_one _ _ refl e in
@@ -67,11 +67,11 @@ lines_last settled k next is =
 
 -- where more bytes come, the lines that were looked at stay, and those after them are the lines of what was left and of the
 -- new bytes; `now` is the rest of a line that the assembler keeps before these
-more_came : (given left more now : List ℕ) (looked : List (List ℕ)) → lines given ≡ looked ++ lines_behind now left → rest_of given ≡ rest_behind now left
-    → (lines (given ++ more) ≡ looked ++ lines_behind now (left ++ more)) × (rest_of (given ++ more) ≡ rest_behind now (left ++ more))
+more_came : (given left more now : List ℕ) (looked : List (List ℕ)) → lines given ≡ looked ++ lines_completed now left → rest_of given ≡ rest_behind now left
+    → (lines (given ++ more) ≡ looked ++ lines_completed now (left ++ more)) × (rest_of (given ++ more) ≡ rest_behind now (left ++ more))
 more_came given left more now looked seen rests = (
-  lines_behind-append [] given more ∙ ap (λ r. lines given ++ lines_behind r more) rests ∙ ap (λ zs. zs ++ lines_behind (rest_behind now left) more) seen
-      ∙ append_assoc looked (lines_behind now left) (lines_behind (rest_behind now left) more) ∙ ap (λ zs. looked ++ zs) (sym (lines_behind-append now left more)),
+  lines_completed-append [] given more ∙ ap (λ r. lines given ++ lines_completed r more) rests ∙ ap (λ zs. zs ++ lines_completed (rest_behind now left) more) seen
+      ∙ append_assoc looked (lines_completed now left) (lines_completed (rest_behind now left) more) ∙ ap (λ zs. looked ++ zs) (sym (lines_completed-append now left more)),
   rest-append [] given more ∙ ap (λ r. rest_behind r more) rests ∙ sym (rest-append now left more),
 )
 
@@ -82,7 +82,7 @@ pub record Course (done : List Command) (given left : List ℕ) (kept : Kept) (c
   pub looked : List (List ℕ)
   pub settled : List (Settlement Call)
   pub stands : StandsFor kept now
-  pub seen : lines given ≡ looked ++ lines_behind now left
+  pub seen : lines given ≡ looked ++ lines_completed now left
   pub rests : rest_of given ≡ rest_behind now left
   pub count : length settled ≡ length done
   pub asks : (more : List Command) (later : List (List ℕ)) → asked_from 0 (done ++ more) (looked ++ later) ≡ settled ++ asked_from (length done) more later
@@ -110,7 +110,7 @@ course_start kept client link sink s is = record {
 pub asked_so : (done : List Command) (given left : List ℕ) (kept : Kept) (client : ById Call) (a b c d : Option (List ℕ)) (more : List ℕ)
     (at : Course done given left kept client a b c d) → asked done (given ++ more) ≡ at.settled
 asked_so done given left kept client a b c d more at =
-    let came = lines_behind at.now (left ++ more) in
+    let came = lines_completed at.now (left ++ more) in
     ap (λ xs. asked_from 0 xs (lines (given ++ more))) (sym (append-nil done)) ∙ ap (asked_from 0 (done ++ [])) (more_came given left more at.now at.looked at.seen at.rests).0
     ∙ at.asks [] came ∙ append-nil at.settled
 
@@ -118,10 +118,10 @@ asked_so done given left kept client a b c d more at =
 -- `r`, and then the later ones by the lines after `r`; without a reply they settle what the course says, and no more
 asked_on : (done : List Command) (given left : List ℕ) (kept : Kept) (client : ById Call) (a b c d : Option (List ℕ)) (more : List ℕ)
     (at : Course done given left kept client a b c d) (command : Command) (later : List Command) (r : Option Reply)
-    → first_reply (waiting_for (length done) command) (lines_behind at.now (left ++ more)) ≡ r
+    → first_reply (waiting_for (length done) command) (lines_completed at.now (left ++ more)) ≡ r
     → asked (done ++ command ∷ later) (given ++ more) ≡ at.settled ++ settled_by (waiting_for (length done) command) (asked_from (length done + 1) later) r
 asked_on done given left kept client a b c d more at command later r is =
-    let came = lines_behind at.now (left ++ more) in
+    let came = lines_completed at.now (left ++ more) in
     ap (asked_from 0 (done ++ command ∷ later)) (more_came given left more at.now at.looked at.seen at.rests).0
     ∙ at.asks (command ∷ later) came ∙ ap (λ x. at.settled ++ settled_by (waiting_for (length done) command) (asked_from (length done + 1) later) x) is
 
@@ -130,13 +130,13 @@ asked_on done given left kept client a b c d more at command later r is =
 -- `left` come after it
 first_is : (rest bytes left : List ℕ) (kept : Kept) (from to : ById Call) (settled : List (Settlement.Settlement Call))
     (s : Settles from (record { rest = rest; bytes = bytes; left = left; kept = kept; client = to; settled = settled }))
-    → first_reply from (lines_behind rest bytes) ≡ Some (record { line = s.line; later = lines_behind [] left })
-first_is rest bytes left kept from to settled s = ap (first_reply from) s.seen ∙ first_reply-at from s.front s.line (lines_behind [] left) s.none s.fits
+    → first_reply from (lines_completed rest bytes) ≡ Some (record { line = s.line; later = lines_completed [] left })
+first_is rest bytes left kept from to settled s = ap (first_reply from) s.seen ∙ first_reply-at from s.front s.line (lines_completed [] left) s.none s.fits
 
 -- what the client settled is that one request, by that line, and then it waits for nothing
 pub settled_is : (k : ℕ) (command : Command) (rest bytes left : List ℕ) (kept : Kept) (to : ById Call) (settled : List (Settlement.Settlement Call))
     (s : Settles (waiting_for k command) (record { rest = rest; bytes = bytes; left = left; kept = kept; client = to; settled = settled }))
-    → (map settlement_seen settled ≡ settled_by_line (asked_for command) s.line ∷ []) × (to ≡ idle (k + 1))
+    → (map settlement_seen settled ≡ settled_by_line (awaited command) s.line ∷ []) × (to ≡ idle (k + 1))
 settled_is k command rest bytes left kept to settled s =
     let one = hears_one k command s.line s.fits in
     (s.settles.seen ∙ one.0, s.client ∙ one.1)
@@ -155,10 +155,10 @@ pub asked_with : (done : List Command) (given left : List ℕ) (kept : Kept) (cl
       settled =
           settled;
     }))
-    → asked (done ++ command ∷ []) (given ++ more) ≡ at.settled ++ settled_by_line (asked_for command) s.line ∷ []
+    → asked (done ++ command ∷ []) (given ++ more) ≡ at.settled ++ settled_by_line (awaited command) s.line ∷ []
 asked_with done given left kept client a b c d more at command left' kept' to settled s =
     let found = first_is at.now (left ++ more) left' kept' (waiting_for (length done) command) to settled s in
-    asked_on done given left kept client a b c d more at command [] (Some (record { line = s.line; later = lines_behind [] left' })) found
+    asked_on done given left kept client a b c d more at command [] (Some (record { line = s.line; later = lines_completed [] left' })) found
     ∙ ap (λ zs. at.settled ++ (zs ++ [])) (hears_one (length done) command s.line s.fits).0
 
 -- where one more command was asked and settled, the course goes on with that command
@@ -171,7 +171,7 @@ pub course_more : (done : List Command) (command : Command) (given left more lef
 course_more done command given left more left' kept kept' client to a b b' c d d' settled at s sent told =
     let k = length done in
     let is = settled_is k command _ _ _ _ _ _ s in
-    let next = settled_by_line (asked_for command) s.line in
+    let next = settled_by_line (awaited command) s.line in
     let front : List (List ℕ) = s.front ++ s.line ∷ [] in
     let came = more_came given left more at.now at.looked at.seen at.rests in
     let place : k + 1 ≡ length (done ++ command ∷ []) = sym (length_push done command) in
@@ -180,7 +180,7 @@ course_more done command given left more left' kept kept' client to a b b' c d d
       looked = at.looked ++ front;
       settled = at.settled ++ next ∷ [];
       stands = s.stands;
-      seen = came.0 ∙ ap (λ zs. at.looked ++ zs) (s.seen ∙ sym (append_assoc s.front (s.line ∷ []) (lines_behind [] left'))) ∙ sym (append_assoc at.looked front (lines_behind [] left'));
+      seen = came.0 ∙ ap (λ zs. at.looked ++ zs) (s.seen ∙ sym (append_assoc s.front (s.line ∷ []) (lines_completed [] left'))) ∙ sym (append_assoc at.looked front (lines_completed [] left'));
       rests = came.1 ∙ s.rests;
       count = length_push at.settled next ∙ ap (λ n. n + 1) at.count ∙ place;
       asks = λ others later.
@@ -212,12 +212,12 @@ course_all commands given left kept client a b c d at =
     }
 
 -- where the next command was sent, and is lost, asking stops there (`StopsAt`)
-pub course_stops : (alone : Bool) (commands done later : List Command) (command : Command) (given left more : List ℕ) (kept : Kept) (client : ById Call) (a b b' c d d' : Option (List ℕ))
+pub course_stops : (is_remote : Bool) (commands done later : List Command) (command : Command) (given left more : List ℕ) (kept : Kept) (client : ById Call) (a b b' c d d' : Option (List ℕ))
     → (at : Course done given left kept client a b c d) → commands ≡ done ++ command ∷ later
-    → (alone ≡ true → first_reply (waiting_for (length done) command) (lines_behind at.now (left ++ more)) ≡ None)
+    → (is_remote ≡ true → first_reply (waiting_for (length done) command) (lines_completed at.now (left ++ more)) ≡ None)
     → Appends b b' (request_text (length done) command) → Appends d d' (lines_from (length done) (lost_of command ∷ []))
-    → StopsAt alone commands (given ++ more) (record { link_old = a; link_new = b'; sink_old = c; sink_new = d' })
-course_stops alone commands done later command given left more kept client a b b' c d d' at order none sent told =
+    → StopsAt is_remote commands (given ++ more) (record { link_old = a; link_new = b'; sink_old = c; sink_new = d' })
+course_stops is_remote commands done later command given left more kept client a b b' c d d' at order none sent told =
     let so : asked done (given ++ more) ≡ at.settled = asked_so done given left kept client a b c d more at in
     record {
       earlier = done;
@@ -232,13 +232,12 @@ course_stops alone commands done later command given left more kept client a b b
     }
 
 -- where the next command's request or its reply was cut, asking was cut there (`IsCut`)
-pub course_cut : (alone : Bool) (commands done later : List Command) (command : Command) (given left more : List ℕ) (kept : Kept) (client : ById Call)
-    (a b b' c d d' : Option (List ℕ)) (count part bytes : ℕ)
-    → Course done given left kept client a b c d → commands ≡ done ++ command ∷ later → count ≡ length done
-    → (alone ≡ true → (bytes ≡ part) × (part < length (request_text (length done) command)))
-    → Appends b b' (take bytes (request_text (length done) command)) → Appends d d' (lines_from (length done) (lost_of command ∷ []))
-    → IsCut alone commands (given ++ more) (record { link_old = a; link_new = b'; sink_old = c; sink_new = d' }) count part
-course_cut alone commands done later command given left more kept client a b b' c d d' count part bytes at order is cut sent told =
+pub course_cut : (is_remote : Bool) (commands done later : List Command) (command : Command) (given left more : List ℕ) (kept : Kept) (client : ById Call)
+    (a b b' c d d' : Option (List ℕ)) (count part bytes : ℕ) → (at : Course done given left kept client a b c d) → (order : commands ≡ done ++ command ∷ later)
+    → (is : count ≡ length done) → (cut : is_remote ≡ true → (bytes ≡ part) × (part < length (request_text (length done) command)))
+    → (sent : Appends b b' (take bytes (request_text (length done) command))) → (told : Appends d d' (lines_from (length done) (lost_of command ∷ [])))
+    → IsCut is_remote commands (given ++ more) (record { link_old = a; link_new = b'; sink_old = c; sink_new = d' }) count part
+course_cut is_remote commands done later command given left more kept client a b b' c d d' count part bytes at order is cut sent told =
     let so : asked done (given ++ more) ≡ at.settled = asked_so done given left kept client a b c d more at in
     record {
       earlier = done;
@@ -248,20 +247,19 @@ course_cut alone commands done later command given left more kept client a b b' 
       count_is = is;
       settled = ap length so ∙ at.count;
       bytes = bytes;
-      cut = subst (λ n. alone ≡ true → (bytes ≡ part) × (part < length (request_text n command))) (sym is) cut;
+      cut = subst (λ n. is_remote ≡ true → (bytes ≡ part) × (part < length (request_text n command))) (sym is) cut;
       sent = Appends-is _ _ _ _ (ap (λ n. all_of (request_texts 0 done) ++ take bytes (request_text n command)) (sym is)) (Appends-append _ _ _ _ _ at.link sent);
       sink_took = Appends-is _ _ _ _ (sym (lines_last at.settled (length done) (lost_of command) at.count)
           ∙ ap (λ zs. settlement_lines (zs ++ lost_of command ∷ [])) (sym so)) (Appends-append _ _ _ _ _ at.sink told);
     }
 
 -- where the sink failed as it took the line of the next settlement, asking ended there (`WritesPart`)
-pub course_tells : (commands done later : List Command) (command : Command) (given left more : List ℕ) (kept : Kept) (client : ById Call)
-    (a b b' c d d' : Option (List ℕ)) (bytes : ℕ) (next : Settlement Call) (over : LinkEnd → Type 0) (link : LinkEnd)
-    → (at : Course done given left kept client a b c d) → commands ≡ done ++ command ∷ later
-    → over link → (asked done (given ++ more) ≡ at.settled → IsNext done command (given ++ more) next link)
-    → Appends b b' (take bytes (request_text (length done) command)) → WrotePartOfSettlements (length done) (next ∷ []) d d'
+pub course_sink_failed : (commands done later : List Command) (command : Command) (given left more : List ℕ) (kept : Kept) (client : ById Call)
+    (a b b' c d d' : Option (List ℕ)) (bytes : ℕ) (next : Settlement Call) (over : LinkEnd → Type 0) (link : LinkEnd) → (at : Course done given left kept client a b c d)
+    → (order : commands ≡ done ++ command ∷ later) → (ends : over link) → (is : asked done (given ++ more) ≡ at.settled → IsNext done command (given ++ more) next link)
+    → (sent : Appends b b' (take bytes (request_text (length done) command))) → (told : WrotePartOfSettlements (length done) (next ∷ []) d d')
     → WritesPart commands (given ++ more) (record { link_old = a; link_new = b'; sink_old = c; sink_new = d' }) over
-course_tells commands done later command given left more kept client a b b' c d d' bytes next over link at order ends is sent told =
+course_sink_failed commands done later command given left more kept client a b b' c d d' bytes next over link at order ends is sent told =
     let so : asked done (given ++ more) ≡ at.settled = asked_so done given left kept client a b c d more at in
     let alone = alone_in told.earlier told.later told.next next told.order in
     let same : length done + length told.earlier ≡ length done = ap (λ (xs : List (Settlement Call)). length done + length xs) alone.0 ∙ omega arith in

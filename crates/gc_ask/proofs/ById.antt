@@ -1,9 +1,9 @@
 -- A request that waits alone is settled by its id.
-use Rattle.std.proofs.Common.{◌≡◌, ℕ, ◌+◌, ◌-◌, ◌%◌, ◌<◌, true, false, cond, List, [], ◌∷◌, ◌++◌, Option, Some, None, IfSome, refl, ap, ◌∙◌, subst, arith}
+use Rattle.std.proofs.Common.{◌≡◌, ℕ, ◌+◌, ◌-◌, ◌%◌, true, false, cond, List, [], ◌∷◌, ◌++◌, Option, Some, None, refl, ap, ◌∙◌, arith}
 use Rattle.gc_catalogue.specs.declared.call.Call.{Call}
 use Rattle.gc_client.specs.Ids.{IsWithinLimits, Waits}
 use Rattle.gc_client.specs.Rule.{heard, fits, Settlement}
-use Rattle.gc_client.proofs.Digits.{fits_where_it_waits, heard_by_grammar}
+use Rattle.gc_client.proofs.Digits.{fits_where_it_waits, heard_digit}
 use Rattle.gc_ask.specs.Asking.{waiting_for, first_reply, settled_by, asked_from}
 use Rattle.gc_ask.specs.Laws.{HasNoReply, AsksById}
 use Rattle.gc_texts.specs.declared.commands.Command.{Command}
@@ -17,12 +17,6 @@ one_window k c = record { digit = omega arith; few = omega arith }
 -- the rule's id of the oldest request that waits, where request k is the only one, is k modulo 8
 its_id : (k : ℕ) → ((k + 1) % 8 + 8 - 1 + 0) % 8 ≡ k % 8
 its_id k = omega arith
-
--- an id that is heard is a digit below 8
-heard_digit : (line : List ℕ) (id : ℕ) → heard line ≡ Some id → id < 8
-heard_digit line id e =
-    let reply = (heard_by_grammar line).only id e in
-    subst (λ o. IfSome o (λ n. n < 8)) reply.2 reply.1.is_id
 
 -- a reply with the id of request k fits the client that waits for it
 fits_its : (k : ℕ) (c : Command) (line : List ℕ) → heard line ≡ Some (k % 8) → fits (waiting_for k c) (heard line) ≡ true

@@ -66,8 +66,9 @@ both_ok a b c d (inr s) = s
 
 -- the sending of a request that went well, and the reading at the client's end after it, are together one step, with the
 -- result of the reading
-pub step_both : (c c' c'' i i' i'' : Ports) (after : ℕ) (r : LinkEnd) → BothStep c c' i i' (Ok tt) → source_of c' ≡ source_of c
-    → c''.sink_failed ≡ c'.sink_failed → i'' ≡ i' → c'.reads ≤ c''.reads → ReadEnds (source_of c') (source_of c'') after r → BothStep c c'' i i'' r
+pub step_both : (c c' c'' i i' i'' : Ports) (after : ℕ) (r : LinkEnd) → (sent : BothStep c c' i i' (Ok tt)) → (unread : source_of c' ≡ source_of c)
+    → (sink : c''.sink_failed ≡ c'.sink_failed) → (same : i'' ≡ i') → (grows : c'.reads ≤ c''.reads) → (ends : ReadEnds (source_of c') (source_of c'') after r)
+    → BothStep c c'' i i'' r
 step_both c c' c'' i i' i'' after r sent unread sink same grows ends =
     let both = both_ok c c' i i' sent in
     let reads : c'.reads ≡ c.reads = ap (λ (s : Input). s.reads) unread in
@@ -86,8 +87,8 @@ reads_then old mid new given same gave = subst (λ (r : Option (List ℕ)). Cons
 
 -- where no read of a first step was the end, and none of a second, none of both together was. `old`, `mid` and `new` are the
 -- numbers of reads, `mid_end` and `new_end` say whether the last read was the end
-none_in_both : (old mid new : ℕ) (mid_end new_end : Bool) → old ≤ mid → mid ≤ new → (old < mid → mid_end ≡ false) → (mid < new → new_end ≡ false)
-    → (new ≡ mid → new_end ≡ mid_end) → old < new → new_end ≡ false
+none_in_both : (old mid new : ℕ) (mid_end new_end : Bool) → (grows : old ≤ mid) → (more : mid ≤ new) → (going : old < mid → mid_end ≡ false)
+    → (on : mid < new → new_end ≡ false) → (same : new ≡ mid → new_end ≡ mid_end) → (below : old < new) → new_end ≡ false
 none_in_both old mid new mid_end new_end grows more going on same below = by_order (le_cases mid new more) where
   -- a number that isn't above another is below it or equal
   le_cases : (a b : ℕ) → a ≤ b → (a < b) ⊎ (b ≡ a)
@@ -146,17 +147,17 @@ pub no_output : (p p' q q' : Ports) → BothStep p p' q q' (Err Output) → ⊥
 no_output p p' q q' (inl s) = s.0.ends
 no_output p p' q q' (inr s) = s.1.ends
 
--- A link that is alone: all that ends it comes at the client's end.
+-- A remote link: all that ends it comes at the client's end.
 
 -- where there is no other end (`no_ports`), a result that comes of the two ends comes of the client's end alone
-pub alone_end : (p p' : Ports) (r : LinkEnd) → BothEnd p p' no_ports no_ports r → LinkEnds p p' r
-alone_end p p' r (inl s) = s.0
-alone_end p p' (Ok u) (inr s) = s.0
-alone_end p p' (Err Read) (inr s) = let bad : false ≡ true = s.1.1 in cc
-alone_end p p' (Err (Write count part)) (inr s) = let bad : false ≡ true = s.1.2 in cc
-alone_end p p' (Err TooManyReads) (inr s) = s.0
-alone_end p p' (Err LinkClosed) (inr s) = absurd (omega (arith, s.1.0))
-alone_end p p' (Err other) (inr s) = absurd s.1
+pub remote_end : (p p' : Ports) (r : LinkEnd) → BothEnd p p' no_ports no_ports r → LinkEnds p p' r
+remote_end p p' r (inl s) = s.0
+remote_end p p' (Ok u) (inr s) = s.0
+remote_end p p' (Err Read) (inr s) = let bad : false ≡ true = s.1.1 in cc
+remote_end p p' (Err (Write count part)) (inr s) = let bad : false ≡ true = s.1.2 in cc
+remote_end p p' (Err TooManyReads) (inr s) = s.0
+remote_end p p' (Err LinkClosed) (inr s) = absurd (omega (arith, s.1.0))
+remote_end p p' (Err other) (inr s) = absurd s.1
 
 -- where `other` holds of each end of which `over` does, `EndsWith` may be said with `other`; `x`, `y` and `z` say whether the
 -- sink had failed at first, then, and in the end

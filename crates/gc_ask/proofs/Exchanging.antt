@@ -13,11 +13,11 @@ use Rattle.gc_client.specs.declared.settlement.Settlement.{Settlement}
 use Rattle.gc_client.specs.Rule.{ById, settled_by_line, restarts}
 use Rattle.gc_client.specs.Rule
 use Rattle.gc_client.specs.Settlements.{AreSettlements, settlement_seen}
-use Rattle.gc_ask.specs.Asking.{asked_for, first_reply, waiting_for, request_text, lost_of, EndsWith, LinkEnd, LinkEnds, Written}
+use Rattle.gc_ask.specs.Asking.{awaited, first_reply, waiting_for, request_text, lost_of, EndsWith, LinkEnd, LinkEnds, Written}
 use Rattle.gc_ask.specs.Links.{BothStep, CountsReplies, Sends, TakesRequest}
-use Rattle.gc_ask.specs.Listening.{lines_behind, AsksOn, AsksOne, Exchanges, Heard, HearsReply, ReadEnds, Settles}
+use Rattle.gc_ask.specs.Listening.{lines_completed, AsksOn, AsksOne, Exchanges, Heard, HearsReply, ReadEnds, Settles}
 use Rattle.gc_ask.specs.Looping.{BothEnd}
-use Rattle.gc_ask.proofs.Asked.{Course, course_more, course_stops, course_cut, course_tells, settled_is, asked_with}
+use Rattle.gc_ask.proofs.Asked.{Course, course_more, course_stops, course_cut, course_sink_failed, settled_is, asked_with}
 use Rattle.gc_ask.proofs.Ends.{Sound, both_end}
 use Rattle.gc_texts.specs.declared.commands.Command.{Command}
 use Rattle.gc_texts.specs.declared.fault.RunFault.{RunFault}
@@ -32,46 +32,48 @@ taken_as_front : (a b : Option (List ℕ)) (text : List ℕ) → Appends a b tex
 taken_as_front a b text sent = Appends-is _ _ _ _ (sym (take_all (length text) text (omega arith))) sent
 
 -- the client's end took of a request that it wrote, or failed to write, what `TakesRequest` says
-pub takes_sent : (alone : Bool) (place : ℕ) (text : List ℕ) (a b : Option (List ℕ)) (x y : Bool) (r : LinkEnd)
-    → Sends place text (record { bytes = a; failed = x }) (record { bytes = b; failed = y }) r → TakesRequest alone place text a b r
-takes_sent alone place text a b x y (Ok u) s = s.0
-takes_sent alone place text a b x y (Err (Write count part)) s = (s.0, (part, s.2, λ so. (refl, s.1)))
-takes_sent alone place text a b x y (Err other) s = absurd s
+pub takes_sent : (is_remote : Bool) (place : ℕ) (text : List ℕ) (a b : Option (List ℕ)) (x y : Bool) (r : LinkEnd)
+    → Sends place text (record { bytes = a; failed = x }) (record { bytes = b; failed = y }) r → TakesRequest is_remote place text a b r
+takes_sent is_remote place text a b x y (Ok u) s = s.0
+takes_sent is_remote place text a b x y (Err (Write count part)) s = (s.0, (part, s.2, λ so. (refl, s.1)))
+takes_sent is_remote place text a b x y (Err other) s = absurd s
 
 -- where a request was written, and the other end answered it or couldn't, the client's end took what `TakesRequest` says
-pub takes_answered : (alone : Bool) (place : ℕ) (text : List ℕ) (a b : Option (List ℕ)) (r : LinkEnd) → (alone ≡ true → ⊥) → Appends a b text
-    → CountsReplies place r → TakesRequest alone place text a b r
-takes_answered alone place text a b (Ok u) two sent of = sent
-takes_answered alone place text a b (Err (Write count part)) two sent of = (of, (length text, taken_as_front a b text sent, λ so. absurd (two so)))
-takes_answered alone place text a b (Err other) two sent of = (sent, two)
+pub takes_answered : (is_remote : Bool) (place : ℕ) (text : List ℕ) (a b : Option (List ℕ)) (r : LinkEnd) → (is_remote ≡ true → ⊥) → Appends a b text
+    → CountsReplies place r → TakesRequest is_remote place text a b r
+takes_answered is_remote place text a b (Ok u) two sent of = sent
+takes_answered is_remote place text a b (Err (Write count part)) two sent of = (of, (length text, taken_as_front a b text sent, λ so. absurd (two so)))
+takes_answered is_remote place text a b (Err other) two sent of = (sent, two)
 
 -- One command.
 
--- where a request couldn't be sent, or wasn't answered at the other end, the exchange ended with that fault
-pub unsent : (alone : Bool) (place : ℕ) (command : Command) (h : Heard) (a b : Option (List ℕ)) (e : RunFault) → TakesRequest alone place (request_text place command) a b (Err e)
-    → h.client ≡ waiting_for place command → Exchanges alone place command h a b (Err e)
-unsent alone place command h a b (Write count part) t is = (t, is)
-unsent alone place command h a b other t is = (t.0, (λ so. absurd (t.1 so)), is)
+-- where a request couldn't be sent, or wasn't answered at the other end, and the client still waits for it, the exchange ended with that
+-- fault
+pub unsent : (is_remote : Bool) (place : ℕ) (command : Command) (h : Heard) (a b : Option (List ℕ)) (e : RunFault) → TakesRequest is_remote place (request_text place command) a b (Err e)
+    → h.client ≡ waiting_for place command → Exchanges is_remote place command h a b (Err e)
+unsent is_remote place command h a b (Write count part) t is = (t, is)
+unsent is_remote place command h a b other t is = (t.0, (λ so. absurd (t.1 so)), is)
 
--- where a request was sent, and its reply was waited for, the exchange ended as the waiting did
-pub exchanged : (alone : Bool) (place : ℕ) (command : Command) (from : ById Call) (h : Heard) (a b : Option (List ℕ)) (old new : Input) (after : ℕ) (r : LinkEnd)
-    → Appends a b (request_text place command) → from ≡ waiting_for place command → HearsReply from h r → ReadEnds old new after r → Exchanges alone place command h a b r
-exchanged alone place command from h a b old new after r sent is heard ends = by_end r heard ends where
+-- where a request was sent whole, the client `from` waited for it, and its reply was waited for, the exchange ended as the waiting did
+pub exchanged : (is_remote : Bool) (place : ℕ) (command : Command) (from : ById Call) (h : Heard) (a b : Option (List ℕ)) (old new : Input) (after : ℕ) (r : LinkEnd)
+    → Appends a b (request_text place command) → from ≡ waiting_for place command → HearsReply from h r → ReadEnds old new after r → Exchanges is_remote place command h a b r
+exchanged is_remote place command from h a b old new after r sent is heard ends = by_end r heard ends where
   -- lines without a first reply to the client `from`, which waits for this command, have no first reply to a client that waits
   -- for it
-  missed : first_reply from (lines_behind h.rest h.bytes) ≡ None → alone ≡ true → first_reply (waiting_for place command) (lines_behind h.rest h.bytes) ≡ None
-  missed none so = subst (λ (c : ById Call). first_reply c (lines_behind h.rest h.bytes) ≡ None) is none
+  missed : first_reply from (lines_completed h.rest h.bytes) ≡ None → is_remote ≡ true → first_reply (waiting_for place command) (lines_completed h.rest h.bytes) ≡ None
+  missed none so = subst (λ (c : ById Call). first_reply c (lines_completed h.rest h.bytes) ≡ None) is none
 
   -- however the waiting for the reply ended, the exchange ended in the same way
-  by_end : (r : LinkEnd) → HearsReply from h r → ReadEnds old new after r → Exchanges alone place command h a b r
+  by_end : (r : LinkEnd) → HearsReply from h r → ReadEnds old new after r → Exchanges is_remote place command h a b r
   by_end (Ok u) heard ends = (sent, subst (λ (c : ById Call). Settles c h) is heard)
   by_end (Err (Write count part)) heard ends = absurd ends
   by_end (Err other) heard ends = (sent, missed heard.0, heard.1 ∙ is)
 
 -- after a fault of an exchange the client still waits for the command
-pub still_waits : (alone : Bool) (place : ℕ) (command : Command) (h : Heard) (a b : Option (List ℕ)) (e : RunFault) → Exchanges alone place command h a b (Err e) → h.client ≡ waiting_for place command
-still_waits alone place command h a b (Write count part) x = x.1
-still_waits alone place command h a b other x = x.2
+pub still_waits : (is_remote : Bool) (place : ℕ) (command : Command) (h : Heard) (a b : Option (List ℕ)) (e : RunFault)
+    → Exchanges is_remote place command h a b (Err e) → h.client ≡ waiting_for place command
+still_waits is_remote place command h a b (Write count part) x = x.1
+still_waits is_remote place command h a b other x = x.2
 
 -- a restart of the client that waits for a command settles that command as lost
 pub lost_alone : (place : ℕ) (command : Command) (to : ById Call) (settled now : List (Settlement Call)) → to ≡ waiting_for place command
@@ -79,51 +81,51 @@ pub lost_alone : (place : ℕ) (command : Command) (to : ById Call) (settled now
 lost_alone place command to settled now waits are is = ap (map settlement_seen) is ∙ are.seen ∙ ap (λ c. (restarts c).settlements) waits
 
 -- after a fault the link took a front of the request
-sent_part : (alone : Bool) (place : ℕ) (command : Command) (h : Heard) (a b : Option (List ℕ)) (e : RunFault) → Exchanges alone place command h a b (Err e)
+sent_part : (is_remote : Bool) (place : ℕ) (command : Command) (h : Heard) (a b : Option (List ℕ)) (e : RunFault) → Exchanges is_remote place command h a b (Err e)
     → (part : ℕ) × Appends a b (take part (request_text place command))
-sent_part alone place command h a b (Write count part) x = (x.0.1.0, x.0.1.1)
-sent_part alone place command h a b other x = (length (request_text place command), taken_as_front a b (request_text place command) x.0)
+sent_part is_remote place command h a b (Write count part) x = (x.0.1.0, x.0.1.1)
+sent_part is_remote place command h a b other x = (length (request_text place command), taken_as_front a b (request_text place command) x.0)
 
 -- what was heard, but with this client in place of the one then
 abbrev with_client : Heard → ById Call → Heard
 with_client h to = record { rest = h.rest; bytes = h.bytes; left = h.left; kept = h.kept; client = to; settled = h.settled }
 
 -- where a fault came, and the line of the lost command was written, asking this command ended with the fault (`AsksOne`)
-pub asks_lost : (alone : Bool) (place : ℕ) (command : Command) (h : Heard) (to : ById Call) (lost now : List (Settlement Call)) (w : Written) (e : RunFault)
-    (over : LinkEnd → Type 0) → (over (Err Output) → ⊥) → over (Err e)
-    → Exchanges alone place command h w.link_old w.link_new (Err e) → AreSettlements lost (restarts h.client).settlements → now ≡ lost
-    → Appends w.sink_old w.sink_new (lines_from place (map settlement_seen now)) → AsksOne alone place command (with_client h to) w over (Err e)
-asks_lost alone place command h to lost now w e over none ends x are is wrote =
-    by_fault e ends x (Appends-is _ _ _ _ (ap (lines_from place) (lost_alone place command h.client lost now (still_waits alone place command h w.link_old w.link_new e x) are is)) wrote) where
+pub asks_lost : (is_remote : Bool) (place : ℕ) (command : Command) (h : Heard) (to : ById Call) (lost now : List (Settlement Call)) (w : Written) (e : RunFault)
+    (over : LinkEnd → Type 0) → (none : over (Err Output) → ⊥) → (ends : over (Err e)) → (x : Exchanges is_remote place command h w.link_old w.link_new (Err e))
+    → (are : AreSettlements lost (restarts h.client).settlements) → (is : now ≡ lost)
+    → (wrote : Appends w.sink_old w.sink_new (lines_from place (map settlement_seen now))) → AsksOne is_remote place command (with_client h to) w over (Err e)
+asks_lost is_remote place command h to lost now w e over none ends x are is wrote =
+    by_fault e ends x (Appends-is _ _ _ _ (ap (lines_from place) (lost_alone place command h.client lost now (still_waits is_remote place command h w.link_old w.link_new e x) are is)) wrote) where
       -- by the fault e of the exchange: asking ended with it
-      by_fault : (e : RunFault) → over (Err e) → Exchanges alone place command h w.link_old w.link_new (Err e)
-          → Appends w.sink_old w.sink_new (lines_from place (lost_of command ∷ [])) → AsksOne alone place command (with_client h to) w over (Err e)
+      by_fault : (e : RunFault) → over (Err e) → Exchanges is_remote place command h w.link_old w.link_new (Err e)
+          → Appends w.sink_old w.sink_new (lines_from place (lost_of command ∷ [])) → AsksOne is_remote place command (with_client h to) w over (Err e)
       by_fault (Write count part) ends x wrote = (x.0, wrote)
       by_fault Output ends x wrote = absurd (none ends)
       by_fault other ends x wrote = (x.0, x.1, wrote)
 
 -- where a fault came, and the sink failed as it took the line of the lost command, asking this command ended with the fault of the sink
-pub asks_sink_failed : (alone : Bool) (place : ℕ) (command : Command) (h : Heard) (to : ById Call) (lost now : List (Settlement Call)) (w : Written) (x y : Bool)
-    (e f : RunFault) (over : LinkEnd → Type 0) → over (Err e)
-    → Exchanges alone place command h w.link_old w.link_new (Err e) → AreSettlements lost (restarts h.client).settlements → now ≡ lost
-    → WroteSettlements place (map settlement_seen now) w.sink_old w.sink_new x y (Err f) → AsksOne alone place command (with_client h to) w over (Err f)
-asks_sink_failed alone place command h to lost now w x y e f over ends ex are is wrote =
+pub asks_sink_failed : (is_remote : Bool) (place : ℕ) (command : Command) (h : Heard) (to : ById Call) (lost now : List (Settlement Call)) (w : Written) (x y : Bool)
+    (e f : RunFault) (over : LinkEnd → Type 0) → (ends : over (Err e)) → (ex : Exchanges is_remote place command h w.link_old w.link_new (Err e))
+    → (are : AreSettlements lost (restarts h.client).settlements) → (is : now ≡ lost)
+    → (wrote : WroteSettlements place (map settlement_seen now) w.sink_old w.sink_new x y (Err f)) → AsksOne is_remote place command (with_client h to) w over (Err f)
+asks_sink_failed is_remote place command h to lost now w x y e f over ends ex are is wrote =
     by_fault f (subst (λ (zs : List (Rule.Settlement Call)). WroteSettlements place zs w.sink_old w.sink_new x y (Err f))
-    (lost_alone place command h.client lost now (still_waits alone place command h w.link_old w.link_new e ex) are is) wrote) where
+    (lost_alone place command h.client lost now (still_waits is_remote place command h w.link_old w.link_new e ex) are is) wrote) where
       -- by the fault f of the writing, which is the sink's: asking ended with it
-      by_fault : (f : RunFault) → WroteSettlements place (lost_of command ∷ []) w.sink_old w.sink_new x y (Err f) → AsksOne alone place command (with_client h to) w over (Err f)
-      by_fault Output t = let sent = sent_part alone place command h w.link_old w.link_new e ex in inr (e, ends, (sent.0, sent.1, t.0))
+      by_fault : (f : RunFault) → WroteSettlements place (lost_of command ∷ []) w.sink_old w.sink_new x y (Err f) → AsksOne is_remote place command (with_client h to) w over (Err f)
+      by_fault Output t = let sent = sent_part is_remote place command h w.link_old w.link_new e ex in inr (e, ends, (sent.0, sent.1, t.0))
       by_fault other t = absurd t
 
 -- where a reply settled the request, and its line was written, or the sink failed, asking this command ended as that writing did
-pub asks_written : (alone : Bool) (place : ℕ) (command : Command) (h : Heard) (now : List (Settlement Call)) (w : Written) (x y : Bool) (over : LinkEnd → Type 0) (r : LinkEnd)
-    → over (Ok tt) → Appends w.link_old w.link_new (request_text place command) → Settles (waiting_for place command) h → now ≡ h.settled
-    → WroteSettlements place (map settlement_seen now) w.sink_old w.sink_new x y r → AsksOne alone place command h w over r
-asks_written alone place command h now w x y over (Ok u) link sent s is wrote =
+pub asks_written : (is_remote : Bool) (place : ℕ) (command : Command) (h : Heard) (now : List (Settlement Call)) (w : Written) (x y : Bool) (over : LinkEnd → Type 0)
+    (r : LinkEnd) → (link : over (Ok tt)) → (sent : Appends w.link_old w.link_new (request_text place command)) → (s : Settles (waiting_for place command) h)
+    → (is : now ≡ h.settled) → (wrote : WroteSettlements place (map settlement_seen now) w.sink_old w.sink_new x y r) → AsksOne is_remote place command h w over r
+asks_written is_remote place command h now w x y over (Ok u) link sent s is wrote =
     (sent, s, subst (λ (zs : List (Settlement Call)). Appends w.sink_old w.sink_new (lines_from place (map settlement_seen zs))) is wrote.0)
-asks_written alone place command h now w x y over (Err Output) link sent s is wrote =
+asks_written is_remote place command h now w x y over (Err Output) link sent s is wrote =
     inl (link, sent, s, subst (λ (zs : List (Settlement Call)). WrotePartOfSettlements place (map settlement_seen zs) w.sink_old w.sink_new) is wrote.0)
-asks_written alone place command h now w x y over (Err other) link sent s is wrote = absurd wrote
+asks_written is_remote place command h now w x y over (Err other) link sent s is wrote = absurd wrote
 
 -- where the use of the link ended well, asking a command ended as the writing of its settlement did
 pub ends_written : (over : LinkEnd → Type 0) (place : ℕ) (settled : List (Rule.Settlement Call)) (c d : Option (List ℕ)) (x y : Bool) (r : LinkEnd) → over (Ok tt)
@@ -132,7 +134,8 @@ ends_written over place settled c d x y (Ok u) ends wrote = (ends, wrote.1)
 ends_written over place settled c d x y (Err Output) ends wrote = (wrote.1, (Ok tt, ends))
 ends_written over place settled c d x y (Err other) ends wrote = absurd wrote
 
--- where the link had a fault, and the line of the lost command was written, asking the command ended with that fault
+-- where the link had a fault, which is never `Output`, and the line of the lost command was written, asking the command ended with that
+-- fault
 pub ends_lost : (over : LinkEnd → Type 0) (x y : Bool) (e : RunFault) → (over (Err Output) → ⊥) → over (Err e) → y ≡ x → EndsWith over x y (Err e)
 ends_lost over x y Output none ends same = absurd (none ends)
 ends_lost over x y other none ends same = (ends, same)
@@ -149,14 +152,15 @@ ends_sink_failed over place settled c d x y e other ends wrote = absurd wrote
 -- with that fault: by the fault, asking stopped at this command, its request or reply was cut, or the sink failed. `a`, `b` and
 -- `b'` are what the link had taken at first, before this command and after it, `c`, `d` and `d'` what the sink had taken then,
 -- `c0`, `p` and `p'` the client's end, and `i0`, `q` and `q'` the instrument's
-pub run_fault : (alone : Bool) (commands done later : List Command) (command : Command) (place : ℕ) (given left more left' : List ℕ) (kept kept' : Kept)
-    (client to : ById Call) (settled : List (Settlement Call)) (a b b' c d d' : Option (List ℕ)) (e : RunFault) (c0 p p' i0 q q' : Ports) (x y : Bool)
-    → Sound c0 p → Sound i0 q → (at : Course done given left kept client a b c d) → length done ≡ place → commands ≡ done ++ command ∷ later
-    → AsksOne alone place command (record { rest = at.now; bytes = left ++ more; left = left'; kept = kept'; client = to; settled = settled })
-    (record { link_old = b; link_new = b'; sink_old = d; sink_new = d' }) (BothStep p p' q q') (Err e) → EndsWith (BothStep p p' q q') x y (Err e)
-    → AsksOn alone commands (given ++ more) (record { link_old = a; link_new = b'; sink_old = c; sink_new = d' }) (BothEnd c0 p' i0 q') (Err e)
-run_fault alone commands done later command place given left more left' kept kept' client to settled a b b' c d d' e c0 p p' i0 q q' x y gc gi at is order one
-    ends = by_fault e (subst (λ n. AsksOne alone n command h (record { link_old = b; link_new = b'; sink_old = d; sink_new = d' }) (BothStep p p' q q')
+pub run_fault : (is_remote : Bool) (commands done later : List Command) (command : Command) (place : ℕ) (given left more left' : List ℕ) (kept kept' : Kept)
+    (client to : ById Call) (settled : List (Settlement Call)) (a b b' c d d' : Option (List ℕ)) (e : RunFault) (c0 p p' i0 q q' : Ports) (x y : Bool) → (gc : Sound c0 p)
+    → (gi : Sound i0 q) → (at : Course done given left kept client a b c d) → (is : length done ≡ place) → (order : commands ≡ done ++ command ∷ later)
+    → (one : AsksOne is_remote place command (record { rest = at.now; bytes = left ++ more; left = left'; kept = kept'; client = to; settled = settled })
+    (record { link_old = b; link_new = b'; sink_old = d; sink_new = d' }) (BothStep p p' q q') (Err e))
+    → (ends : EndsWith (BothStep p p' q q') x y (Err e))
+    → AsksOn is_remote commands (given ++ more) (record { link_old = a; link_new = b'; sink_old = c; sink_new = d' }) (BothEnd c0 p' i0 q') (Err e)
+run_fault is_remote commands done later command place given left more left' kept kept' client to settled a b b' c d d' e c0 p p' i0 q q' x y gc gi at is order one
+    ends = by_fault e (subst (λ n. AsksOne is_remote n command h (record { link_old = b; link_new = b'; sink_old = d; sink_new = d' }) (BothStep p p' q q')
     (Err e)) (sym is) one) ends where
       -- what the client's end has heard once the command ended
       h : Heard
@@ -168,36 +172,36 @@ run_fault alone commands done later command place given left more left' kept kep
       none f g (inr s) = g s.1.ends
 
       -- by the fault: how the run ended
-      by_fault : (e : RunFault) → AsksOne alone (length done) command h (record { link_old = b; link_new = b'; sink_old = d; sink_new = d' }) (BothStep p p' q q')
-          (Err e) → EndsWith (BothStep p p' q q') x y (Err e) → AsksOn alone commands (given ++ more)
+      by_fault : (e : RunFault) → AsksOne is_remote (length done) command h (record { link_old = b; link_new = b'; sink_old = d; sink_new = d' }) (BothStep p p' q q')
+          (Err e) → EndsWith (BothStep p p' q q') x y (Err e) → AsksOn is_remote commands (given ++ more)
           (record { link_old = a; link_new = b'; sink_old = c; sink_new = d' }) (BothEnd c0 p' i0 q') (Err e)
-      by_fault Read one ends = course_stops alone commands done later command given left more kept client a b b' c d d' at order one.1 one.0 one.2
-      by_fault (Write count part) one ends = course_cut alone commands done later command given left more kept client a b b' c d d' count part one.0.1.0 at order one.0.0 one.0.1.2 one.0.1.1 one.1
-      by_fault TooManyReads one ends = course_stops alone commands done later command given left more kept client a b b' c d d' at order one.1 one.0 one.2
-      by_fault LinkClosed one ends = course_stops alone commands done later command given left more kept client a b b' c d d' at order one.1 one.0 one.2
+      by_fault Read one ends = course_stops is_remote commands done later command given left more kept client a b b' c d d' at order one.1 one.0 one.2
+      by_fault (Write count part) one ends = course_cut is_remote commands done later command given left more kept client a b b' c d d' count part one.0.1.0 at order one.0.0 one.0.1.2 one.0.1.1 one.1
+      by_fault TooManyReads one ends = course_stops is_remote commands done later command given left more kept client a b b' c d d' at order one.1 one.0 one.2
+      by_fault LinkClosed one ends = course_stops is_remote commands done later command given left more kept client a b b' c d d' at order one.1 one.0 one.2
       by_fault Output (inl o) ends =
           let is = settled_is (length done) command _ _ _ _ _ _ o.2 in
           let text = request_text (length done) command in
-          let next = settled_by_line (asked_for command) o.2.line in
-          course_tells commands done later command given left more kept client a b b' c d d' (length text) next (BothEnd c0 p' i0 q') (Ok tt) at order
+          let next = settled_by_line (awaited command) o.2.line in
+          course_sink_failed commands done later command given left more kept client a b b' c d d' (length text) next (BothEnd c0 p' i0 q') (Ok tt) at order
           (both_end c0 p p' i0 q q' (Ok tt) gc gi o.0)
           (λ so. asked_with done given left kept client a b c d more at command _ _ _ _ o.2 ∙ ap (λ zs. zs ++ next ∷ []) (sym so))
           (taken_as_front b b' text o.1)
           (subst (λ (zs : List (Rule.Settlement Call)). WrotePartOfSettlements (length done) zs d d') is.0 o.3)
       by_fault Output (inr o) ends =
-          course_tells commands done later command given left more kept client a b b' c d d' o.2.0 (lost_of command) (BothEnd c0 p' i0 q') (Err o.0) at order
+          course_sink_failed commands done later command given left more kept client a b b' c d d' o.2.0 (lost_of command) (BothEnd c0 p' i0 q') (Err o.0) at order
           (both_end c0 p p' i0 q q' (Err o.0) gc gi o.1) (λ so. refl) o.2.1 o.2.2
       by_fault other one ends = absurd (none (λ h. h) (λ h. h) ends.0)
 
 -- where one more command was asked and settled, the course goes on with that command
-pub course_next : (alone : Bool) (commands done later : List Command) (command : Command) (place : ℕ) (given left more left' : List ℕ) (kept kept' : Kept)
+pub course_next : (is_remote : Bool) (commands done later : List Command) (command : Command) (place : ℕ) (given left more left' : List ℕ) (kept kept' : Kept)
     (client to : ById Call) (settled : List (Settlement Call)) (a b b' c d d' : Option (List ℕ)) (over : LinkEnd → Type 0)
     → (at : Course done given left kept client a b c d) → length done ≡ place
-    → AsksOne alone place command (record { rest = at.now; bytes = left ++ more; left = left'; kept = kept'; client = to; settled = settled })
+    → AsksOne is_remote place command (record { rest = at.now; bytes = left ++ more; left = left'; kept = kept'; client = to; settled = settled })
     (record { link_old = b; link_new = b'; sink_old = d; sink_new = d' }) over (Ok tt)
     → Course (done ++ command ∷ []) (given ++ more) left' kept' to a b' c d'
-course_next alone commands done later command place given left more left' kept kept' client to settled a b b' c d d' over at is one =
-    let one' = subst (λ n. AsksOne alone n command (record {
+course_next is_remote commands done later command place given left more left' kept kept' client to settled a b b' c d d' over at is one =
+    let one' = subst (λ n. AsksOne is_remote n command (record {
       rest = at.now;
       bytes = left ++ more;
       left = left';

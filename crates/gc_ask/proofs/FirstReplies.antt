@@ -18,7 +18,7 @@ use Rattle.gc_client.specs.declared.settlement.Settlement.{Settlement}
 use Rattle.gc_client.specs.Rule.{ById, heard, fits, hears}
 use Rattle.gc_client.specs.Settlements.{AreSettlements}
 use Rattle.gc_ask.specs.Asking.{first_reply}
-use Rattle.gc_ask.specs.Listening.{lines_behind, SettlesNothing, TakesFrame, IsQuiet, Settles}
+use Rattle.gc_ask.specs.Listening.{lines_completed, SettlesNothing, TakesFrame, IsQuiet, Settles}
 
 -- the lines among pieces of a stream that was cut at its line feeds
 abbrev lines_of : List (List ℕ) → List (List ℕ)
@@ -29,8 +29,8 @@ lines_of-append : (xs ys : List (List ℕ)) → lines_of (xs ++ ys) ≡ lines_of
 lines_of-append xs ys = ap (λ fs. filter_map line_in fs) (map-append frame_of xs ys) ∙ filter_map-append line_in (map frame_of xs) (map frame_of ys)
 
 -- the lines of the bytes `xs ++ ys` are those of `xs`, and then those that `ys` complete after what `xs` leave
-pub lines_behind-append : (rest xs ys : List ℕ) → lines_behind rest (xs ++ ys) ≡ lines_behind rest xs ++ lines_behind (rest_behind rest xs) ys
-lines_behind-append rest xs ys = ap lines_of (pieces-append rest xs ys) ∙ lines_of-append (pieces_behind rest xs) (pieces_behind (rest_behind rest xs) ys)
+pub lines_completed-append : (rest xs ys : List ℕ) → lines_completed rest (xs ++ ys) ≡ lines_completed rest xs ++ lines_completed (rest_behind rest xs) ys
+lines_completed-append rest xs ys = ap lines_of (pieces-append rest xs ys) ∙ lines_of-append (pieces_behind rest xs) (pieces_behind (rest_behind rest xs) ys)
 
 -- where the lines in front have no first reply, the first reply of all lines is that of the others
 pub first_reply-none : (c : ById Call) (xs ys : List (List ℕ)) → first_reply c xs ≡ None → first_reply c (xs ++ ys) ≡ first_reply c ys
@@ -51,8 +51,8 @@ first_reply-at c front line later none fit = first_reply-none c front (line ∷ 
 -- where a piece settles nothing, and neither does the piece after it, the two together settle nothing
 pub quiet_then : (rest xs ys : List ℕ) (kept kept' : Kept) (a b c : ById Call) → IsQuiet rest xs kept a b → IsQuiet (rest_behind rest xs) ys kept' b c → IsQuiet rest (xs ++ ys) kept' a c
 quiet_then rest xs ys kept kept' a b c q r = record {
-  none = ap (first_reply a) (lines_behind-append rest xs ys) ∙ first_reply-none a (lines_behind rest xs) (lines_behind (rest_behind rest xs) ys) q.none
-      ∙ ap (λ x. first_reply x (lines_behind (rest_behind rest xs) ys)) (sym q.same) ∙ r.none;
+  none = ap (first_reply a) (lines_completed-append rest xs ys) ∙ first_reply-none a (lines_completed rest xs) (lines_completed (rest_behind rest xs) ys) q.none
+      ∙ ap (λ x. first_reply x (lines_completed (rest_behind rest xs) ys)) (sym q.same) ∙ r.none;
   stands = subst (λ (zs : List ℕ). StandsFor kept' zs) (sym (rest-append rest xs ys)) r.stands;
   same = r.same ∙ q.same;
 }
@@ -62,14 +62,14 @@ pub settles_then : (rest xs ys left : List ℕ) (kept kept' : Kept) (a b c : ByI
     → Settles b (record { rest = rest_behind rest xs; bytes = ys; left = left; kept = kept'; client = c; settled = settled })
     → Settles a (record { rest = rest; bytes = xs ++ ys; left = left; kept = kept'; client = c; settled = settled })
 settles_then rest xs ys left kept kept' a b c settled q s =
-    let front : List (List ℕ) = lines_behind rest xs in
+    let front : List (List ℕ) = lines_completed rest xs in
     let at : Settles a (record { rest = rest_behind rest xs; bytes = ys; left = left; kept = kept'; client = c; settled = settled }) =
     subst (λ (x : ById Call). Settles x (record { rest = rest_behind rest xs; bytes = ys; left = left; kept = kept'; client = c; settled = settled })) q.same s
     in
     record {
       front = front ++ at.front;
       line = at.line;
-      seen = lines_behind-append rest xs ys ∙ ap (λ zs. front ++ zs) at.seen ∙ sym (append_assoc front at.front (at.line ∷ lines_behind [] left));
+      seen = lines_completed-append rest xs ys ∙ ap (λ zs. front ++ zs) at.seen ∙ sym (append_assoc front at.front (at.line ∷ lines_completed [] left));
       rests = rest-append rest xs ys ∙ at.rests;
       none = first_reply-none a front at.front q.none ∙ at.none;
       fits = at.fits;
@@ -86,7 +86,7 @@ pub record Passed (rest piece left : List ℕ) (kept : Kept) (from to : ById Cal
   pub now : List ℕ
   pub front : List (List ℕ)
   pub stands : StandsFor kept now
-  pub seen : lines_behind rest piece ≡ front ++ lines_behind now left
+  pub seen : lines_completed rest piece ≡ front ++ lines_completed now left
   pub rests : rest_behind rest piece ≡ rest_behind now left
   pub none : first_reply from front ≡ None
   pub same : to ≡ from
@@ -116,8 +116,8 @@ pub passed_on : (rest piece left : List ℕ) (used : ℕ) (frame : Frame) (kept 
     → Takes p.now left used frame kept' → c ≡ b → SettlesNothing b (line_in frame)
     → Passed rest piece (drop used left) kept' a c
 passed_on rest piece left used frame kept kept' a b c p t same nothing =
-    let later : List (List ℕ) = lines_behind t.now (drop used left) in
-    let next : lines_behind p.now left ≡ option_to_list (line_in frame) ++ later =
+    let later : List (List ℕ) = lines_completed t.now (drop used left) in
+    let next : lines_completed p.now left ≡ option_to_list (line_in frame) ++ later =
     ap (λ fs. filter_map line_in fs) t.seen ∙ filter_map-append line_in (completed frame) (frames_behind t.now (drop used left))
     ∙ ap (λ zs. zs ++ later) (completed_lines frame) in
     let silent : SettlesNothing a (line_in frame) = subst (λ (x : ById Call). SettlesNothing x (line_in frame)) p.same nothing in
@@ -134,7 +134,7 @@ passed_on rest piece left used frame kept kept' a b c p t same nothing =
 -- `line` is the first line of `rest` and the bytes `left` after it: the first `used` bytes of `left` end it, and after it
 -- come those that weren't used
 record TakesLine (rest left : List ℕ) (used : ℕ) (line : List ℕ) (kept : Kept) : Type 0 where
-  seen : lines_behind rest left ≡ line ∷ lines_behind [] (drop used left)
+  seen : lines_completed rest left ≡ line ∷ lines_completed [] (drop used left)
   rests : rest_behind rest left ≡ rest_behind [] (drop used left)
   stands : StandsFor kept []
 
@@ -159,7 +159,7 @@ takes_line rest left used frame line kept is more whole = elim (position is_line
       let its : line_in (frame_of (rest ++ take at left)) ≡ Some line = ap line_in (sym w.1) ∙ is in
       record {
         seen = ap lines_of cut.0 ∙ first_line (frame_of (rest ++ take at left)) line (map frame_of (pieces_behind [] (drop (at + 1) left))) its
-            ∙ ap (λ n. line ∷ lines_behind [] (drop n left)) (sym w.0);
+            ∙ ap (λ n. line ∷ lines_completed [] (drop n left)) (sym w.0);
         rests = cut.1 ∙ ap (λ n. rest_behind [] (drop n left)) (sym w.0);
         stands = w.2;
       }
@@ -171,10 +171,10 @@ takes_line rest left used frame line kept is more whole = elim (position is_line
 -- where the line of the next frame settles a request, the piece settles that request; `used` and `frame` are what the assembler
 -- gave for `left`
 pub passed_settles : (rest piece left : List ℕ) (used : ℕ) (frame : Frame) (line : List ℕ) (kept kept' : Kept) (a b c : ById Call) (settled : List (Settlement Call))
-    → (p : Passed rest piece left kept a b) → line_in frame ≡ Some line
-    → (position is_line_feed left ≡ None → frame ≡ More)
-    → ((at : ℕ) → position is_line_feed left ≡ Some at → (used ≡ at + 1) × (frame ≡ frame_of (p.now ++ take at left)) × StandsFor kept' [])
-    → fits b (heard line) ≡ true → AreSettlements settled (hears b line (heard line)).settlements → c ≡ (hears b line (heard line)).client
+    → (p : Passed rest piece left kept a b) → (is : line_in frame ≡ Some line) → (more : position is_line_feed left ≡ None → frame ≡ More)
+    → (whole : (at : ℕ) → position is_line_feed left ≡ Some at → (used ≡ at + 1) × (frame ≡ frame_of (p.now ++ take at left)) × StandsFor kept' [])
+    → (fit : fits b (heard line) ≡ true) → (settles : AreSettlements settled (hears b line (heard line)).settlements)
+    → (client_is : c ≡ (hears b line (heard line)).client)
     → Settles a (record { rest = rest; bytes = piece; left = drop used left; kept = kept'; client = c; settled = settled })
 passed_settles rest piece left used frame line kept kept' a b c settled p is more whole fit settles client =
     let t = takes_line p.now left used frame line kept' is more whole in
@@ -218,10 +218,10 @@ reading_more rest start given ahead piece kept kept' a b c r q = record {
 
 -- where all that is ahead settles nothing either, nothing that was given does
 pub reading_quiet : (rest start given ahead : List ℕ) (kept kept' : Kept) (a b c : ById Call) → (r : Reading rest start given ahead kept a b) → IsQuiet (rest_behind rest r.looked_at) ahead kept' b c
-    → (first_reply a (lines_behind rest (start ++ given)) ≡ None) × (c ≡ a)
+    → (first_reply a (lines_completed rest (start ++ given)) ≡ None) × (c ≡ a)
 reading_quiet rest start given ahead kept kept' a b c r q =
     let all = quiet_then rest r.looked_at ahead kept kept' a b c r.quiet q in
-    (ap (λ zs. first_reply a (lines_behind rest zs)) r.order ∙ all.none, all.same)
+    (ap (λ zs. first_reply a (lines_completed rest zs)) r.order ∙ all.none, all.same)
 
 -- where the bytes that are ahead settle a request after those that were looked at, all bytes since the start settle it
 pub reading_settles : (rest start given ahead left : List ℕ) (kept kept' : Kept) (a b c : ById Call) (settled : List (Settlement Call))

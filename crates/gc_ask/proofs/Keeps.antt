@@ -1,4 +1,4 @@
--- Callers who are served one after the other, and what is written of them. `Kept` says how many callers were served, which ends
+-- Callers who are served one after the other, and what is written of them. `ServesCallers` says how many callers were served, which ends
 -- their connections had, and that the messages grew by the lines of these.
 use Rattle.std.proofs.Common.{◌≡◌, ℕ, suc, ◌+◌, Bool, true, List, [], ◌∷◌, ◌++◌, length, Option, Some, None, refl, sym, ap, ◌∙◌, arith, append_assoc, length-append, codes}
 use Rattle.std.proofs.lemmas.List.{append-nil}
@@ -9,23 +9,23 @@ use Rattle.gc_lines.specs.declared.served.TheConstants.{WRITE_FAILED}
 use Rattle.gc_texts.specs.Faults.{run_fault_number}
 use Rattle.gc_texts.specs.declared.fault.RunFault.TheVariants as fault
 use Rattle.gc_lines.proofs.Known.{Appends-append, Appends-nil, Appends-is}
-use Rattle.gc_ask.specs.Keeping.{End, Grows, Kept, caller_line, end_line, end_lines}
+use Rattle.gc_ask.specs.Keeping.{ConnectionEnd, Grows, ServesCallers, caller_line, end_line, end_lines}
 use Rattle.gc_ask.specs.declared.callers.CallerFault.TheVariants.{Write, Socket}
 
 -- where the ends that are known grew by some, and then by others, they grew by both in this order
-pub grows_more : (a b c : Option (List End)) (xs ys : List End) → Grows a b xs → Grows b c ys → Grows a c (xs ++ ys)
+pub grows_more : (a b c : Option (List ConnectionEnd)) (xs ys : List ConnectionEnd) → Grows a b xs → Grows b c ys → Grows a c (xs ++ ys)
 grows_more None b c xs ys h k = tt
 grows_more (Some a) None c xs ys h k = absurd h
 grows_more (Some a) (Some b) None xs ys h k = absurd k
 grows_more (Some a) (Some b) (Some c) xs ys h k = k ∙ ap (λ zs. zs ++ ys) h ∙ append_assoc a xs ys
 
 -- ends that stayed the same grew by none
-pub grows_none : (a : Option (List End)) → Grows a a []
+pub grows_none : (a : Option (List ConnectionEnd)) → Grows a a []
 grows_none None = tt
 grows_none (Some a) = sym (append-nil a)
 
 -- what is written of one more connection comes after the others'
-pub end_lines_append : (n : ℕ) (ends : List End) (end : End) → end_lines n (ends ++ end ∷ []) ≡ end_lines n ends ++ end_line (n + length ends) end
+pub end_lines_append : (n : ℕ) (ends : List ConnectionEnd) (end : ConnectionEnd) → end_lines n (ends ++ end ∷ []) ≡ end_lines n ends ++ end_line (n + length ends) end
 end_lines_append n [] end =
     let at : n ≡ n + 0 = omega arith in
     append-nil (end_line n end) ∙ ap (λ (m : ℕ). end_line m end) at
@@ -34,8 +34,8 @@ end_lines_append n (first ∷ later) end =
     ap (λ xs. end_line n first ++ xs) (end_lines_append (n + 1) later end ∙ ap (λ (m : ℕ). end_lines (n + 1) later ++ end_line m end) at)
     ∙ sym (append_assoc (end_line n first) (end_lines (n + 1) later) (end_line (n + suc (length later)) end))
 
--- before anybody is served, `Kept` is true with 0 callers
-pub kept_none : (served : Option (List End)) (messages : Option (List ℕ)) → Kept 0 true served served messages messages
+-- before anybody is served, `ServesCallers` is true with 0 callers
+pub kept_none : (served : Option (List ConnectionEnd)) (messages : Option (List ℕ)) → ServesCallers 0 true served served messages messages
 kept_none served messages = record {
   ends = [];
   count = refl;
@@ -43,11 +43,11 @@ kept_none served messages = record {
   lines = λ _. Appends-nil messages;
 }
 
--- where `Kept` is true with n callers, and one more was served, it is true with n + 1. `s0` are the ends known at first, `s1`
--- before this caller, and `s2` after him; `m0` to `m2` are the messages then
-pub kept_more : (n : ℕ) (all_written all_written' : Bool) (s0 s1 s2 : Option (List End)) (m0 m1 m2 : Option (List ℕ)) (end : End)
-    → Kept n all_written s0 s1 m0 m1 → Grows s1 s2 (end ∷ []) → (all_written' ≡ true → (all_written ≡ true) × Appends m1 m2 (end_line (n + 1) end))
-    → Kept (n + 1) all_written' s0 s2 m0 m2
+-- where `ServesCallers` is true with n callers, and one more was served, it is true with n + 1, if `all_written'` says that his line was
+-- written, too. `s0` are the ends known at first, `s1` before this caller, and `s2` after him; `m0` to `m2` are the messages then
+pub kept_more : (n : ℕ) (all_written all_written' : Bool) (s0 s1 s2 : Option (List ConnectionEnd)) (m0 m1 m2 : Option (List ℕ)) (end : ConnectionEnd)
+    → ServesCallers n all_written s0 s1 m0 m1 → Grows s1 s2 (end ∷ []) → (all_written' ≡ true → (all_written ≡ true) × Appends m1 m2 (end_line (n + 1) end))
+    → ServesCallers (n + 1) all_written' s0 s2 m0 m2
 kept_more n all_written all_written' s0 s1 s2 m0 m1 m2 end kept grew tells =
     let at : 1 + length kept.ends ≡ n + 1 = omega (arith, kept.count) in
     let text : end_lines 1 kept.ends ++ end_line (n + 1) end ≡ end_lines 1 (kept.ends ++ end ∷ []) =
@@ -61,7 +61,7 @@ kept_more n all_written all_written' s0 s1 s2 m0 m1 m2 end kept grew tells =
           Appends-is m0 m2 _ _ text (Appends-append m0 m1 m2 (end_lines 1 kept.ends) (end_line (n + 1) end) (kept.lines t.0) t.1);
     }
 
--- the pieces in which the line of a cut write is written are that line
+-- the pieces that are written one after the other of the line of a cut write make up that line
 pub cut_line : (number count bytes : ℕ)
     → codes "geocom: connection " ++ (decimal number ++ (codes ": fault " ++ (decimal WRITE_FAILED ++ (codes " reply " ++ (decimal count ++ (codes " byte " ++ (decimal bytes ++ codes "\n")))))))
     ≡ caller_line number (Write count bytes)
@@ -71,7 +71,8 @@ cut_line number count bytes =
     ∙ ap (λ xs. decimal WRITE_FAILED ++ (codes " reply " ++ xs)) (append_assoc (decimal count) (codes " byte " ++ decimal bytes) (codes "\n")) in
     ap (λ xs. codes "geocom: connection " ++ (decimal number ++ (codes ": fault " ++ xs))) (sym text)
 
--- the pieces in which the line of a caller who couldn't be accepted is written are that line
+-- the pieces that are written one after the other of the line of a caller who couldn't be accepted, whose fault has the number n, make
+-- up that line
 pub socket_line : (number n : ℕ) → n ≡ run_fault_number fault.Socket
     → codes "geocom: connection " ++ (decimal number ++ (codes ": fault " ++ (decimal n ++ codes "\n"))) ≡ caller_line number Socket
 socket_line number n is =

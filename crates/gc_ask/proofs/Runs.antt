@@ -1,4 +1,4 @@
--- What a run over any link is, where the link is alone (somebody other than this program answers at its other end), and where an
+-- What a run over any link is, where the link is remote (somebody other than this program answers at its other end), and where an
 -- instrument of this program answers.
 use Rattle.std.proofs.Common.{◌≡◌, ℕ, Bool, true, List, [], ◌∷◌, ◌++◌, length, take, Ok, Err, inl, inr, refl, sym, ap, ◌∙◌, subst, arith}
 use Rattle.gc_lines.specs.Answering.{all_of}
@@ -8,15 +8,15 @@ use Rattle.gc_ask.specs.Asking.{Asks, AsksPart, AsksUpTo, LinkEnd, LinkEnds, Wri
 use Rattle.gc_ask.specs.Links.{no_ports, seen_at}
 use Rattle.gc_ask.specs.Listening.{AsksAt, AsksOn, IsCut, RunsAt, StopsAt}
 use Rattle.gc_ask.specs.Looping.{BothEnd, LoopRuns, Loops, LoopsOver, LoopsPart, LoopsUpTo, SeenAtBoth, written_there}
-use Rattle.gc_ask.proofs.Ends.{alone_end, ends_as}
+use Rattle.gc_ask.proofs.Ends.{remote_end, ends_as}
 use Rattle.gc_texts.specs.declared.commands.Command.{Command}
 use Rattle.gc_texts.specs.declared.fault.RunFault.TheVariants.{Read, Write, TooManyReads, LinkClosed, Output, Memory}
 use Rattle.gc_texts.specs.Settlements.{settlement_lines}
 use Rattle.gc_texts.specs.WholeTexts.{Input}
 
--- Alone.
+-- A remote link.
 
--- where the link is alone, asking that stopped at a command (`StopsAt`) is what `AsksUpTo` says
+-- where the link is remote, asking that stopped at a command (`StopsAt`) is what `AsksUpTo` says
 asks_up_to : (commands : List Command) (given : List ℕ) (w : Written) → StopsAt true commands given w → AsksUpTo commands given w
 asks_up_to commands given w s = record {
   earlier = s.earlier;
@@ -28,7 +28,7 @@ asks_up_to commands given w s = record {
   sink_took = Appends-is _ _ _ _ (ap (λ zs. settlement_lines (zs ++ lost_of s.command ∷ [])) (sym (s.none refl))) s.sink_took;
 }
 
--- where the link is alone, asking that was cut (`IsCut`) is what `AsksPart` says
+-- where the link is remote, asking that was cut (`IsCut`) is what `AsksPart` says
 asks_part : (commands : List Command) (given : List ℕ) (w : Written) (count part : ℕ) → IsCut true commands given w count part → AsksPart commands given w count part
 asks_part commands given w count part s = record {
   earlier = s.earlier;
@@ -62,45 +62,45 @@ writes_part_weaker commands given w over other so t = record {
   sink_took = t.sink_took;
 }
 
--- what was asked over a link that is alone is what `Asks` says, also with a weaker condition `other` on the link's end
-asks_alone : (commands : List Command) (given : List ℕ) (w : Written) (over other : LinkEnd → Type 0) → ((r : LinkEnd) → over r → other r) → (r : LinkEnd)
+-- what was asked over a remote link is what `Asks` says, also with a weaker condition `other` on the link's end
+asks_remote : (commands : List Command) (given : List ℕ) (w : Written) (over other : LinkEnd → Type 0) → ((r : LinkEnd) → over r → other r) → (r : LinkEnd)
     → AsksOn true commands given w over r → Asks commands given w other r
-asks_alone commands given w over other so (Ok u) x = x
-asks_alone commands given w over other so (Err Read) x = asks_up_to commands given w x
-asks_alone commands given w over other so (Err LinkClosed) x = asks_up_to commands given w x
-asks_alone commands given w over other so (Err TooManyReads) x = asks_up_to commands given w x
-asks_alone commands given w over other so (Err (Write count part)) x = asks_part commands given w count part x
-asks_alone commands given w over other so (Err Output) x = writes_part_weaker commands given w over other so x
-asks_alone commands given w over other so (Err e) x = absurd x
+asks_remote commands given w over other so (Ok u) x = x
+asks_remote commands given w over other so (Err Read) x = asks_up_to commands given w x
+asks_remote commands given w over other so (Err LinkClosed) x = asks_up_to commands given w x
+asks_remote commands given w over other so (Err TooManyReads) x = asks_up_to commands given w x
+asks_remote commands given w over other so (Err (Write count part)) x = asks_part commands given w count part x
+asks_remote commands given w over other so (Err Output) x = writes_part_weaker commands given w over other so x
+asks_remote commands given w over other so (Err e) x = absurd x
 
--- a run of commands over a link that is alone is what `AsksOver` says
-pub over_alone : (commands : List Command) (most : ℕ) (old new : Seen) (r : LinkEnd)
+-- a run of commands over a remote link is what `AsksOver` says
+pub over_remote : (commands : List Command) (most : ℕ) (old new : Seen) (r : LinkEnd)
     → AsksAt true commands most (seen_at old.link no_ports old.sink) (seen_at new.link no_ports new.sink) r → AsksOver commands most old new r
-over_alone commands most old new r x = record {
+over_remote commands most old new r x = record {
   given = x.given;
   gave = x.gave;
   few = x.few;
-  asks = asks_alone commands x.given (written old new) (BothEnd old.link new.link no_ports no_ports) (LinkEnds old.link new.link) (alone_end old.link new.link) r x.asks;
+  asks = asks_remote commands x.given (written old new) (BothEnd old.link new.link no_ports no_ports) (LinkEnds old.link new.link) (remote_end old.link new.link) r x.asks;
   bound = omega (arith, x.bound);
   too_many = λ is. omega (arith, x.too_many is);
-  ends = ends_as (BothEnd old.link new.link no_ports no_ports) (LinkEnds old.link new.link) (alone_end old.link new.link) old.sink.failed old.sink.failed new.sink.failed refl r x.ends;
+  ends = ends_as (BothEnd old.link new.link no_ports no_ports) (LinkEnds old.link new.link) (remote_end old.link new.link) old.sink.failed old.sink.failed new.sink.failed refl r x.ends;
 }
 
--- a run of a text over a link that is alone is what `AskRuns` says
-pub runs_alone : (text_old text_new : Input) (most : ℕ) (old new : Seen) (r : LinkEnd)
+-- a run of a text over a remote link is what `AskRuns` says
+pub runs_remote : (text_old text_new : Input) (most : ℕ) (old new : Seen) (r : LinkEnd)
     → RunsAt true text_old text_new most (seen_at old.link no_ports old.sink) (seen_at new.link no_ports new.sink) r → AskRuns text_old text_new most old new r
-runs_alone text_old text_new most old new r (given, gave, few, inl x) = (given, gave, few, inl (x.0, x.1, x.2, ap (λ (s : SeenAtBoth). record { link = s.client; sink = s.sink }) x.3))
-runs_alone text_old text_new most old new r (given, gave, few, inr x) = (given, gave, few, inr (x.0, x.1, over_alone x.0 most old new r x.2))
+runs_remote text_old text_new most old new r (given, gave, few, inl x) = (given, gave, few, inl (x.0, x.1, x.2, ap (λ (s : SeenAtBoth). record { link = s.client; sink = s.sink }) x.3))
+runs_remote text_old text_new most old new r (given, gave, few, inr x) = (given, gave, few, inr (x.0, x.1, over_remote x.0 most old new r x.2))
 
 -- A loop.
 
 -- asking that stopped at a command (`StopsAt`) is what `LoopsUpTo` says
-loops_up_to : (alone : Bool) (commands : List Command) (given : List ℕ) (w : Written) → StopsAt alone commands given w → LoopsUpTo commands given w
-loops_up_to alone commands given w s = record { earlier = s.earlier; command = s.command; later = s.later; order = s.order; settled = s.settled; sent = s.sent; sink_took = s.sink_took }
+loops_up_to : (is_remote : Bool) (commands : List Command) (given : List ℕ) (w : Written) → StopsAt is_remote commands given w → LoopsUpTo commands given w
+loops_up_to is_remote commands given w s = record { earlier = s.earlier; command = s.command; later = s.later; order = s.order; settled = s.settled; sent = s.sent; sink_took = s.sink_took }
 
 -- asking that was cut (`IsCut`) is what `LoopsPart` says
-loops_part : (alone : Bool) (commands : List Command) (given : List ℕ) (w : Written) (count part : ℕ) → IsCut alone commands given w count part → LoopsPart commands given w count
-loops_part alone commands given w count part s = record {
+loops_part : (is_remote : Bool) (commands : List Command) (given : List ℕ) (w : Written) (count part : ℕ) → IsCut is_remote commands given w count part → LoopsPart commands given w count
+loops_part is_remote commands given w count part s = record {
   earlier = s.earlier;
   command = s.command;
   later = s.later;
@@ -114,24 +114,26 @@ loops_part alone commands given w count part s = record {
 }
 
 -- what was asked over any link (`AsksOn`) is what `Loops` says
-loops : (alone : Bool) (commands : List Command) (given : List ℕ) (w : Written) (over : LinkEnd → Type 0) (r : LinkEnd) → AsksOn alone commands given w over r → Loops commands given w over r
-loops alone commands given w over (Ok u) x = x
-loops alone commands given w over (Err Read) x = loops_up_to alone commands given w x
-loops alone commands given w over (Err LinkClosed) x = loops_up_to alone commands given w x
-loops alone commands given w over (Err TooManyReads) x = loops_up_to alone commands given w x
-loops alone commands given w over (Err (Write count part)) x = loops_part alone commands given w count part x
-loops alone commands given w over (Err Output) x = x
-loops alone commands given w over (Err e) x = absurd x
+loops : (is_remote : Bool) (commands : List Command) (given : List ℕ) (w : Written) (over : LinkEnd → Type 0) (r : LinkEnd) → AsksOn is_remote commands given w over r → Loops commands given w over r
+loops is_remote commands given w over (Ok u) x = x
+loops is_remote commands given w over (Err Read) x = loops_up_to is_remote commands given w x
+loops is_remote commands given w over (Err LinkClosed) x = loops_up_to is_remote commands given w x
+loops is_remote commands given w over (Err TooManyReads) x = loops_up_to is_remote commands given w x
+loops is_remote commands given w over (Err (Write count part)) x = loops_part is_remote commands given w count part x
+loops is_remote commands given w over (Err Output) x = x
+loops is_remote commands given w over (Err e) x = absurd x
 
 -- a run of commands over any link is what `LoopsOver` says
-pub loops_over : (alone : Bool) (commands : List Command) (most : ℕ) (old new : SeenAtBoth) (r : LinkEnd) → AsksAt alone commands most old new r → LoopsOver commands old new r
-loops_over alone commands most old new r x = record { given = x.given; gave = x.gave; loops = loops alone commands x.given _ _ r x.asks; ends = x.ends }
+pub loops_over : (is_remote : Bool) (commands : List Command) (most : ℕ) (old new : SeenAtBoth) (r : LinkEnd) → AsksAt is_remote commands most old new r → LoopsOver commands old new r
+loops_over is_remote commands most old new r x = record { given = x.given; gave = x.gave; loops = loops is_remote commands x.given _ _ r x.asks; ends = x.ends }
 
 -- a run of a text over any link is what `LoopRuns` says
-pub loop_runs : (alone : Bool) (text_old text_new : Input) (most : ℕ) (old new : SeenAtBoth) (r : LinkEnd) → RunsAt alone text_old text_new most old new r → LoopRuns text_old text_new old new r
-loop_runs alone text_old text_new most old new r (given, gave, few, inl x) = (given, gave, few, inl x)
-loop_runs alone text_old text_new most old new r (given, gave, few, inr x) = (given, gave, few, inr (x.0, x.1, loops_over alone x.0 most old new r x.2))
+pub loop_runs : (is_remote : Bool) (text_old text_new : Input) (most : ℕ) (old new : SeenAtBoth) (r : LinkEnd)
+    → RunsAt is_remote text_old text_new most old new r → LoopRuns text_old text_new old new r
+loop_runs is_remote text_old text_new most old new r (given, gave, few, inl x) = (given, gave, few, inl x)
+loop_runs is_remote text_old text_new most old new r (given, gave, few, inr x) = (given, gave, few, inr (x.0, x.1, loops_over is_remote x.0 most old new r x.2))
 
 -- asking commands never ends with `Memory`
-pub no_memory : (alone : Bool) (commands : List Command) (most : ℕ) (old new : SeenAtBoth) (r : LinkEnd) → AsksAt alone commands most old new r → r ≡ Err Memory → ⊥
-no_memory alone commands most old new r x is = subst (λ (e : LinkEnd). AsksOn alone commands x.given (written_there old new) (BothEnd old.client new.client old.instrument new.instrument) e) is x.asks
+pub no_memory : (is_remote : Bool) (commands : List Command) (most : ℕ) (old new : SeenAtBoth) (r : LinkEnd) → AsksAt is_remote commands most old new r → r ≡ Err Memory → ⊥
+no_memory is_remote commands most old new r x is =
+    subst (λ (e : LinkEnd). AsksOn is_remote commands x.given (written_there old new) (BothEnd old.client new.client old.instrument new.instrument) e) is x.asks

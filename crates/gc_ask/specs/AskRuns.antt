@@ -5,7 +5,7 @@ use Rattle.gc_lines.specs.Answering.{Ports, ports_of}
 use Rattle.gc_lines.specs.declared.ports.Source.{Ghosts as Source}
 use Rattle.gc_lines.specs.declared.ports.Sink.{Ghosts as Sink}
 use Rattle.gc_ask.specs.Asking.{Taken, Written, Asks, LinkEnds, EndsWith, RunsText, taken_by}
-use Rattle.gc_ask.specs.declared.unheard.TheConstants.{ROOM}
+use Rattle.gc_ask.specs.declared.unused.TheConstants.{ROOM}
 use Rattle.gc_texts.specs.WholeTexts.{Input}
 use Rattle.gc_texts.specs.declared.commands.Command.{Command}
 use Rattle.gc_texts.specs.declared.fault.RunFault.{RunFault}
@@ -21,10 +21,16 @@ abbrev pub seen_of_link : {I O K : Type 0} → Source I → I → Sink O → O �
 seen_of_link of_source source of_sink sink of_told told = record { link = ports_of of_source source of_sink sink; sink = taken_by of_told told }
 
 -- what a link and the sink of the settlements had taken before, and have taken now
-abbrev pub written : Seen → Seen → Written
+abbrev pub written : (old new : Seen) → Written
 written old new = record { link_old = old.link.taken; link_new = new.link.taken; sink_old = old.sink.bytes; sink_new = new.sink.bytes }
 
--- commands were asked over a link, in at most `most` reads of it, with this result; `given` is what the link gave meanwhile
+-- from `old` to `new` nothing was read of a link, and nothing was written to it or to the sink
+abbrev pub IsUnused : (old new : Seen) → Type 0
+IsUnused old new =
+    (new.link.remaining ≡ old.link.remaining) × (new.link.reads ≡ old.link.reads) × (new.link.taken ≡ old.link.taken) × (new.sink.bytes ≡ old.sink.bytes)
+
+-- commands were asked over a link, in at most `most` reads of it, with this result; `given` is what the link gave meanwhile, at most
+-- `ROOM` bytes at each read
 pub record AsksOver (commands : List Command) (most : ℕ) (old new : Seen) (result : Result (Unit {0}) RunFault) : Type 0 where
   pub given : List ℕ
   pub gave : Consumes old.link.remaining new.link.remaining given

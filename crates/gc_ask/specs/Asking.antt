@@ -19,8 +19,8 @@ use Rattle.gc_texts.specs.declared.fault.RunFault.{RunFault}
 use Rattle.gc_texts.specs.declared.fault.RunFault.TheVariants.{Read, Write, TooManyReads, LinkClosed, Output}
 
 -- a command that was sent and waits; its deadline is the greatest of a u64, and the client is given no moment, so it never times out
-abbrev pub asked_for : Command → Pending Call
-asked_for command = pending_of command.target command.call 18446744073709551615
+abbrev pub awaited : Command → Pending Call
+awaited command = pending_of command.target command.call 18446744073709551615
 
 -- the client before request k is sent, whose id is k modulo 8
 abbrev pub idle : ℕ → ById Call
@@ -28,7 +28,7 @@ idle k = record { next = k % IDS; waiting = [] }
 
 -- the client while request k waits
 abbrev pub waiting_for : ℕ → Command → ById Call
-waiting_for k command = record { next = (k + 1) % IDS; waiting = asked_for command ∷ [] }
+waiting_for k command = record { next = (k + 1) % IDS; waiting = awaited command ∷ [] }
 
 -- a line that settles a request, and the lines after it
 pub record Reply : Type 0 where
@@ -66,7 +66,7 @@ request_texts k (command ∷ later) = request_text k command ∷ request_texts (
 
 -- the settlement of a command that is lost
 abbrev pub lost_of : Command → Settlement Call
-lost_of command = lost (asked_for command)
+lost_of command = lost (awaited command)
 
 -- what a sink has taken, where that is known, and whether it has failed
 pub record Taken : Type 0 where
@@ -155,7 +155,7 @@ Asks commands given w over (Err _) = ⊥
 
 -- the two ports of a link's end after a use that ended with this result. Only with `LinkClosed` was the last read the end of
 -- the input; with `Read` the source has failed, with `Write` the sink; else whether they have failed is as before
-abbrev pub LinkEnds : Ports → Ports → LinkEnd → Type 0
+abbrev pub LinkEnds : (old new : Ports) → LinkEnd → Type 0
 LinkEnds old new (Ok _) = (old.reads < new.reads → new.ended ≡ false) × (new.source_failed ≡ old.source_failed) × (new.sink_failed ≡ old.sink_failed)
 LinkEnds old new (Err Read) = (old.reads < new.reads → new.ended ≡ false) × (new.source_failed ≡ true) × (new.sink_failed ≡ old.sink_failed)
 LinkEnds old new (Err (Write _ _)) = (old.reads < new.reads → new.ended ≡ false) × (new.source_failed ≡ old.source_failed) × (new.sink_failed ≡ true)

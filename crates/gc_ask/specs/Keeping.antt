@@ -1,4 +1,4 @@
--- A port that is kept: how its connections ended, and what is written of them. This project's own.
+-- A port or a device that is kept: how its connections ended, and what is written of them. This project's own.
 use Rattle.std.specs.Prelude.{◌≡◌, ℕ, ◌+◌, ◌-◌, ◌^◌, Bool, true, List, [], ◌∷◌, ◌++◌, length, Option, Some, None, Result, Ok, Err, codes}
 use Rattle.std.specs.Fmt.{decimal}
 use Rattle.std.specs.Io.KnownBytes.{Appends}
@@ -12,8 +12,8 @@ use Rattle.gc_ask.specs.declared.callers.CallerFault.{CallerFault}
 use Rattle.gc_ask.specs.declared.callers.CallerFault.TheVariants.{Read, Write, TooManyReads, Socket, Idle}
 
 -- how a connection ended: it was served to its end, or left for a fault
-abbrev pub End : Type 0
-End = Result (Unit {0}) CallerFault
+abbrev pub ConnectionEnd : Type 0
+ConnectionEnd = Result (Unit {0}) CallerFault
 
 -- a fault as it is printed: an idle connection has no number, because nothing failed
 abbrev pub caller_fault_text : CallerFault → List ℕ
@@ -28,18 +28,18 @@ abbrev pub caller_line : (number : ℕ) → CallerFault → List ℕ
 caller_line number fault = codes "geocom: connection " ++ (decimal number ++ (codes ": " ++ (caller_fault_text fault ++ codes "\n")))
 
 -- what is written of a connection: its fault's line, or nothing where it was served to its end
-abbrev pub end_line : (number : ℕ) → End → List ℕ
+abbrev pub end_line : (number : ℕ) → ConnectionEnd → List ℕ
 end_line number (Ok _) = []
 end_line number (Err fault) = caller_line number fault
 
 -- what is written of connections, of which the first has this number: the lines of their faults, in order
-abbrev pub end_lines : (number : ℕ) → List End → List ℕ
+abbrev pub end_lines : (number : ℕ) → List ConnectionEnd → List ℕ
 end_lines number [] = []
 end_lines number (end ∷ later) = end_line number end ++ end_lines (number + 1) later
 
--- some connections ended as `more` says: the ends known now are those known before, followed by these. Where the ends before aren't
--- known, nothing is said
-abbrev pub Grows : Option (List End) → Option (List End) → List End → Type 0
+-- some connections ended as `more` says: the ends known now are those known before, followed by these. What was known is known now, too.
+-- Where the ends before aren't known, nothing is said
+abbrev pub Grows : Option (List ConnectionEnd) → Option (List ConnectionEnd) → List ConnectionEnd → Type 0
 Grows None new more = Unit {0}
 Grows (Some ends) None more = ⊥
 Grows (Some ends) (Some all) more = all ≡ ends ++ more
@@ -47,20 +47,20 @@ Grows (Some ends) (Some all) more = all ≡ ends ++ more
 -- `most` callers were served, whatever became of each. If all lines were written (`all_written`), the messages grew by the line of
 -- each fault, and by nothing else. `old` are the ends of the connections that were served before, and `new` those of all,
 -- if they are known
-pub record Kept (most : ℕ) (all_written : Bool) (old new : Option (List End)) (messages_old messages_new : Option (List ℕ)) : Type 0 where
-  pub ends : List End
+pub record ServesCallers (most : ℕ) (all_written : Bool) (old new : Option (List ConnectionEnd)) (messages_old messages_new : Option (List ℕ)) : Type 0 where
+  pub ends : List ConnectionEnd
   pub count : length ends ≡ most
   pub served : Grows old new ends
   pub lines : all_written ≡ true → Appends messages_old messages_new (end_lines 1 ends)
 
 -- the end of a connection by the result of serving it
-abbrev pub end_of_caller : Result Served ServeFault → End
+abbrev pub end_of_caller : Result Served ServeFault → ConnectionEnd
 end_of_caller (Ok _) = Ok tt
 end_of_caller (Err (serving.Read _)) = Err Read
 end_of_caller (Err (serving.Write count bytes)) = Err (Write count bytes)
 end_of_caller (Err (serving.TooManyReads _)) = Err TooManyReads
 
--- how many callers a kept port serves: the number that was asked for, or else the greatest u64
+-- how many callers a kept port or device serves: the number that was asked for, or else the greatest u64
 abbrev pub most_callers : Option ℕ → ℕ
 most_callers None = 2 ^ 64 - 1
 most_callers (Some connections) = connections

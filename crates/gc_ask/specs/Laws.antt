@@ -2,7 +2,7 @@
 use Rattle.std.specs.Prelude.{◌≡◌, ℕ, ◌+◌, ◌%◌, List, [], ◌∷◌, ◌++◌, Some}
 use Rattle.gc_client.specs.declared.window.TheConstants.{IDS}
 use Rattle.gc_client.specs.Rule.{heard, settled_by_line}
-use Rattle.gc_ask.specs.Asking.{asked_for, asked_from}
+use Rattle.gc_ask.specs.Asking.{awaited, asked_from}
 use Rattle.gc_texts.specs.declared.commands.Command.{Command}
 
 -- no line of these is a reply with the id of request k
@@ -14,5 +14,5 @@ HasNoReply k (line ∷ later) = (heard line ≡ Some (k % IDS) → ⊥) × HasNo
 -- that one; where no line is such a reply, neither request k nor any after it is settled
 pub record AsksById (k : ℕ) (command : Command) (later : List Command) : Type 0 where
   pub settled : (front : List (List ℕ)) (line : List ℕ) (rest : List (List ℕ)) → HasNoReply k front → heard line ≡ Some (k % IDS)
-      → asked_from k (command ∷ later) (front ++ line ∷ rest) ≡ settled_by_line (asked_for command) line ∷ asked_from (k + 1) later rest
+      → asked_from k (command ∷ later) (front ++ line ∷ rest) ≡ settled_by_line (awaited command) line ∷ asked_from (k + 1) later rest
   pub unsettled : (came : List (List ℕ)) → HasNoReply k came → asked_from k (command ∷ later) came ≡ []

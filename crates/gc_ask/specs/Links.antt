@@ -1,5 +1,5 @@
 -- No part of a promise: what is seen of a link that commands are asked over, and what its calls do. A step is one call that
--- uses the link, or several in a row. A place is the number of a request, counted from 0. A link is alone where the
+-- uses the link, or several in a row. A place is the number of a request, counted from 0. A link is remote where the
 -- instrument's end isn't in this program.
 use Rattle.std.specs.Prelude.{◌≡◌, ℕ, ◌+◌, ◌<◌, ◌⊎◌, Bool, true, false, not, List, [], Option, Some, Result, Ok, Err, ◌≤◌, length, take}
 use Rattle.std.specs.Borrow.{GName}
@@ -30,7 +30,7 @@ abbrev pub source_of : Ports → Input
 source_of ports = record { remaining = ports.remaining; reads = ports.reads; ended = ports.ended; failed = ports.source_failed }
 
 -- a source was read once: it gave these bytes (`Ok`, with false where that was its end), or it failed (`Err`)
-abbrev pub ReadsOnce : {E : Type 0} → Input → Input → List ℕ → Result Bool E → Type 0
+abbrev pub ReadsOnce : {E : Type 0} → (old new : Input) → List ℕ → Result Bool E → Type 0
 ReadsOnce old new given (Ok more) =
     Consumes old.remaining new.remaining given × (new.reads ≡ old.reads + 1) × (new.ended ≡ not more) × (old.failed ≡ false) × (new.failed ≡ false)
 ReadsOnce old new given (Err _) = Keeps old.remaining new.remaining × (new.reads ≡ old.reads) × (new.ended ≡ old.ended) × (new.failed ≡ true)
@@ -48,20 +48,20 @@ BothStep client_old client_new instrument_old instrument_new result =
     ⊎ (StepEnds client_old client_new (Ok tt) × StepEnds instrument_old instrument_new result)
 
 -- the text at this place went out whole, or the sink failed and took its first bytes, but not all: the fault has the place and their count
-abbrev pub Sends : ℕ → List ℕ → Taken → Taken → LinkEnd → Type 0
+abbrev pub Sends : ℕ → List ℕ → (old new : Taken) → LinkEnd → Type 0
 Sends place text old new (Ok _) = Appends old.bytes new.bytes text × (new.failed ≡ old.failed)
 Sends place text old new (Err (Write count bytes)) =
     (count ≡ place) × (bytes < length text) × Appends old.bytes new.bytes (take bytes text) × (new.failed ≡ true)
 Sends place text old new (Err _) = ⊥
 
--- what the client's end took as the request at this place was sent, and, unless the link is alone, answered at the other end.
--- `Ok`: all of it. `Write`: its first bytes, and not all of them where the link is alone. Another fault, which a link that is
--- alone never has: all of it
-abbrev pub TakesRequest : (alone : Bool) → ℕ → List ℕ → (old new : Option (List ℕ)) → LinkEnd → Type 0
-TakesRequest alone place text old new (Ok _) = Appends old new text
-TakesRequest alone place text old new (Err (Write count part)) =
-    (count ≡ place) × ((bytes : ℕ) × Appends old new (take bytes text) × (alone ≡ true → (bytes ≡ part) × (part < length text)))
-TakesRequest alone place text old new (Err _) = Appends old new text × (alone ≡ true → ⊥)
+-- what the client's end took as the request at this place was sent, and, unless the link is remote, answered at the other end.
+-- `Ok`: all of it. `Write`, whose count is the place: its first bytes, where the link is remote as many as the fault says, and not all of
+-- them. Another fault, which a link that is remote never has: all of it
+abbrev pub TakesRequest : (is_remote : Bool) → ℕ → List ℕ → (old new : Option (List ℕ)) → LinkEnd → Type 0
+TakesRequest is_remote place text old new (Ok _) = Appends old new text
+TakesRequest is_remote place text old new (Err (Write count part)) =
+    (count ≡ place) × ((bytes : ℕ) × Appends old new (take bytes text) × (is_remote ≡ true → (bytes ≡ part) × (part < length text)))
+TakesRequest is_remote place text old new (Err _) = Appends old new text × (is_remote ≡ true → ⊥)
 
 -- if the result is `Write`, because a reply was cut, its count of the replies before that one is `place`
 abbrev pub CountsReplies : ℕ → LinkEnd → Type 0

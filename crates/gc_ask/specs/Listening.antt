@@ -1,24 +1,23 @@
 -- No part of a promise: what the functions inside asking say of the bytes that a link gives. A rest is what the assembler keeps
--- of a line whose end hasn't come. `place` is the number of a command, counted from 0. `alone` says that somebody other than
+-- of a line whose end hasn't come. `place` is the number of a command, counted from 0. `is_remote` says that somebody other than
 -- this program answers at the other end of the link. `w` is what the link and the sink of the settlements took, and `over e`
 -- says what the link's ports are after the end e. `from` and `to` are the client before and after.
 use Rattle.std.specs.Prelude.{◌≡◌, ℕ, ◌+◌, ◌*◌, ◌-◌, ◌<◌, ◌≤◌, ◌⊎◌, Bool, true, false, List, [], ◌∷◌, ◌++◌, length, Option, Some, None, Result, Ok, Err, take, drop, map}
-use Rattle.std.specs.List.{filter_map}
 use Rattle.std.specs.Io.KnownBytes.{Appends, Consumes}
 use Rattle.gc_lines.specs.Answering.{Ports, all_of}
 use Rattle.gc_lines.specs.Assembler.{Kept, StandsFor}
-use Rattle.gc_lines.specs.Frames.{line_in, rest_behind}
-use Rattle.gc_lines.specs.Passing.{frames_behind}
+use Rattle.gc_lines.specs.Frames.{rest_behind}
+pub use Rattle.gc_lines.specs.Passing.{lines_completed}
 use Rattle.gc_lines.specs.declared.ports.Sink.{Ghosts as Sink}
 use Rattle.gc_catalogue.specs.declared.call.Call.{Call}
 use Rattle.gc_client.specs.declared.settlement.Settlement.{Settlement}
 use Rattle.gc_client.specs.Rule.{ById, heard, fits, hears}
 use Rattle.gc_client.specs.Settlements.{AreSettlements, settlement_seen}
 use Rattle.gc_texts.specs.Settlements.{lines_from, settlement_lines, WrotePartOfSettlements}
-use Rattle.gc_ask.specs.declared.ask.Asking.{Asking}
+use Rattle.gc_ask.specs.declared.ask.AskState.{AskState}
 use Rattle.gc_ask.specs.declared.client_end.ClientEnd.{ClientEnd}
 use Rattle.gc_ask.specs.declared.link.Link.{Ghosts as Link}
-use Rattle.gc_ask.specs.declared.unheard.TheConstants.{ROOM}
+use Rattle.gc_ask.specs.declared.unused.TheConstants.{ROOM}
 use Rattle.gc_ask.specs.Asking.{Written, LinkEnd, taken_by, first_reply, asked, waiting_for, request_text, request_texts, lost_of, AsksAll, WritesPart, EndsWith, RunsText}
 use Rattle.gc_ask.specs.Links.{BothStep, OnlyReads, TakesRequest, seen_at}
 use Rattle.gc_ask.specs.Looping.{BothEnd, SeenAtBoth, written_there}
@@ -44,17 +43,13 @@ abbrev pub LinkOnlyReads : {L : Type 0} → Link L → (old new : L) → Type 0
 LinkOnlyReads of_link old new =
     OnlyReads (of_link.client old) (of_link.client new) (of_link.instrument old) (of_link.instrument new) (of_link.held old) (of_link.held new)
 
--- from `old` to `new` nothing was read of a link, and nothing was written to it or to the sink
+-- from `old` to `new` the ports of both ends of a link stayed as they were, and nothing was written to the sink
 abbrev pub TakesNothing : (old new : SeenAtBoth) → Type 0
 TakesNothing old new = (new.client ≡ old.client) × (new.instrument ≡ old.instrument) × (new.sink.bytes ≡ old.sink.bytes)
 
 -- from `old` to `new` nothing was read: what the assembler keeps, the bytes that aren't used yet and the number of reads left are the same
-abbrev pub HasReadNothing : (old new : Asking) → Type 0
+abbrev pub HasReadNothing : (old new : AskState) → Type 0
 HasReadNothing old new = (new.end.assembler ≡ old.end.assembler) × (new.ahead ≡ old.ahead) × (new.reads ≡ old.reads)
-
--- the lines that bytes complete, where a rest of a line came before them
-abbrev pub lines_behind : List ℕ → List ℕ → List (List ℕ)
-lines_behind rest bytes = filter_map line_in (frames_behind rest bytes)
 
 -- the line of a frame, if it has one, settles nothing
 abbrev pub SettlesNothing : ById Call → Option (List ℕ) → Type 0
@@ -63,16 +58,16 @@ SettlesNothing client (Some line) = fits client (heard line) ≡ false
 
 -- how a client took the line of a frame, if it has one. With `false` the line settles nothing, and the client is as before; with
 -- `true` there is a line that settles a request, and the settlements and the client then are those of the client's rule
-abbrev pub TakesFrame : ById Call → ById Call → Option (List ℕ) → List (Settlement Call) → Bool → Type 0
+abbrev pub TakesFrame : (from to : ById Call) → Option (List ℕ) → List (Settlement Call) → Bool → Type 0
 TakesFrame from to line settled false = (to ≡ from) × SettlesNothing from line
 TakesFrame from to None settled true = ⊥
 TakesFrame from to (Some line) settled true = (fits from (heard line) ≡ true)
     × AreSettlements settled (hears from line (heard line)).settlements × (to ≡ (hears from line (heard line)).client)
 
--- no line that the bytes complete, with the rest before them, settles a request, and the assembler stands for what follows the
--- last line feed
+-- no line that the bytes complete, with the rest before them, settles a request; the assembler stands for what follows the last line
+-- feed, and the client is as before
 pub record IsQuiet (rest bytes : List ℕ) (kept : Kept) (from to : ById Call) : Type 0 where
-  pub none : first_reply from (lines_behind rest bytes) ≡ None
+  pub none : first_reply from (lines_completed rest bytes) ≡ None
   pub stands : StandsFor kept (rest_behind rest bytes)
   pub same : to ≡ from
 
@@ -104,7 +99,7 @@ Gives old new assembler claim =
 pub record Settles (from : ById Call) (hearing : Heard) : Type 0 where
   pub front : List (List ℕ)
   pub line : List ℕ
-  pub seen : lines_behind hearing.rest hearing.bytes ≡ front ++ line ∷ lines_behind [] hearing.left
+  pub seen : lines_completed hearing.rest hearing.bytes ≡ front ++ line ∷ lines_completed [] hearing.left
   pub rests : rest_behind hearing.rest hearing.bytes ≡ rest_behind [] hearing.left
   pub none : first_reply from front ≡ None
   pub fits : fits from (heard line) ≡ true
@@ -127,7 +122,7 @@ Listens from hearing (Some used) = Settles from hearing
 -- is as before
 abbrev pub HearsReply : ById Call → Heard → Result (Unit {0}) RunFault → Type 0
 HearsReply from hearing (Ok _) = Settles from hearing
-HearsReply from hearing (Err _) = (first_reply from (lines_behind hearing.rest hearing.bytes) ≡ None) × (hearing.client ≡ from)
+HearsReply from hearing (Err _) = (first_reply from (lines_completed hearing.rest hearing.bytes) ≡ None) × (hearing.client ≡ from)
 
 -- a client's end read for a reply, with this result: what the client's end of the link gave, and how that ended (`HearsReply`). `ahead`
 -- are the bytes that were read before and not used, and `ahead'` those that aren't used now
@@ -136,8 +131,8 @@ HearsOver from to ahead ahead' client_old client_new result = Gives client_old c
     HearsReply from.client.ids (heard_by to rest (ahead ++ given) ahead') result)
 
 -- why reading a source ended, with `after` reads left. Only with `LinkClosed` was the last read the end of the input; with
--- `Read` the source failed; with `TooManyReads` no read was left
-abbrev pub ReadEnds : Input → Input → (after : ℕ) → Result (Unit {0}) RunFault → Type 0
+-- `Read` the source failed, and a read was left; with `TooManyReads` none was. Without a read `ended` is as before
+abbrev pub ReadEnds : (old new : Input) → (after : ℕ) → Result (Unit {0}) RunFault → Type 0
 ReadEnds old new after (Ok _) = (old.reads < new.reads → new.ended ≡ false) × (new.reads ≡ old.reads → new.ended ≡ old.ended) × (new.failed ≡ old.failed)
 ReadEnds old new after (Err Read) =
     (old.reads < new.reads → new.ended ≡ false) × (new.reads ≡ old.reads → new.ended ≡ old.ended) × (0 < after) × (new.failed ≡ true)
@@ -148,21 +143,21 @@ ReadEnds old new after (Err _) = ⊥
 
 -- a request was sent, and its reply waited for, by how that ended. `Ok`: the request was sent whole, and a line settles it.
 -- `Write`: the request was cut, or the reply at the other end was. Another fault: the request was sent whole, and where the
--- link is alone, no line that came settles it. After each fault the client still waits
-abbrev pub Exchanges : (alone : Bool) → ℕ → Command → Heard → (old new : Option (List ℕ)) → LinkEnd → Type 0
-Exchanges alone place command hearing old new (Ok _) = Appends old new (request_text place command) × Settles (waiting_for place command) hearing
-Exchanges alone place command hearing old new (Err (Write count part)) =
-    TakesRequest alone place (request_text place command) old new (Err (Write count part)) × (hearing.client ≡ waiting_for place command)
-Exchanges alone place command hearing old new (Err _) =
+-- link is remote, no line that came settles it. After each fault the client still waits
+abbrev pub Exchanges : (is_remote : Bool) → ℕ → Command → Heard → (old new : Option (List ℕ)) → LinkEnd → Type 0
+Exchanges is_remote place command hearing old new (Ok _) = Appends old new (request_text place command) × Settles (waiting_for place command) hearing
+Exchanges is_remote place command hearing old new (Err (Write count part)) =
+    TakesRequest is_remote place (request_text place command) old new (Err (Write count part)) × (hearing.client ≡ waiting_for place command)
+Exchanges is_remote place command hearing old new (Err _) =
     Appends old new (request_text place command)
-    × (alone ≡ true → first_reply (waiting_for place command) (lines_behind hearing.rest hearing.bytes) ≡ None)
+    × (is_remote ≡ true → first_reply (waiting_for place command) (lines_completed hearing.rest hearing.bytes) ≡ None)
     × (hearing.client ≡ waiting_for place command)
 
 -- the command at this place was sent over a link, and its reply waited for, with this result: what the client's end of the link gave, and
 -- how that ended (`Exchanges`). `old` and `new` are what asking keeps from one command to the next
-abbrev pub ExchangesCommand : (alone : Bool) → ℕ → Command → (old new : Asking) → (client_old client_new : Ports) → LinkEnd → Type 0
-ExchangesCommand alone place command old new client_old client_new result = Gives client_old client_new old.end.assembler (λ rest given.
-    Exchanges alone place command (heard_by new.end rest (old.ahead ++ given) new.ahead) client_old.taken client_new.taken result)
+abbrev pub ExchangesCommand : (is_remote : Bool) → ℕ → Command → (old new : AskState) → (client_old client_new : Ports) → LinkEnd → Type 0
+ExchangesCommand is_remote place command old new client_old client_new result = Gives client_old client_new old.end.assembler (λ rest given.
+    Exchanges is_remote place command (heard_by new.end rest (old.ahead ++ given) new.ahead) client_old.taken client_new.taken result)
 
 -- the sink failed as it took the line of a settlement. Where the link had ended well (left case), that is the settlement by the
 -- reply; after a fault of the link (right case), the one that says the command is lost
@@ -175,46 +170,46 @@ WritesOnePart place command hearing w over =
 
 -- a request was sent, its reply waited for, and its settlement written, by how that ended. `Ok`: a line settles it, and the
 -- sink took this settlement. `Write`: the request was cut, or the reply at the other end was. `Output`: the sink failed.
--- Another fault: the request was sent whole, and where the link is alone, no line that came settles it. After each fault but
+-- Another fault: the request was sent whole, and where the link is remote, no line that came settles it. After each fault but
 -- `Output` the sink took the line that says the command is lost
-abbrev pub AsksOne : (alone : Bool) → ℕ → Command → Heard → Written → (over : LinkEnd → Type 0) → LinkEnd → Type 0
-AsksOne alone place command hearing w over (Ok _) =
+abbrev pub AsksOne : (is_remote : Bool) → ℕ → Command → Heard → Written → (over : LinkEnd → Type 0) → LinkEnd → Type 0
+AsksOne is_remote place command hearing w over (Ok _) =
     Appends w.link_old w.link_new (request_text place command)
     × Settles (waiting_for place command) hearing × Appends w.sink_old w.sink_new (lines_from place (map settlement_seen hearing.settled))
-AsksOne alone place command hearing w over (Err (Write count part)) =
-    TakesRequest alone place (request_text place command) w.link_old w.link_new (Err (Write count part))
+AsksOne is_remote place command hearing w over (Err (Write count part)) =
+    TakesRequest is_remote place (request_text place command) w.link_old w.link_new (Err (Write count part))
     × Appends w.sink_old w.sink_new (lines_from place (lost_of command ∷ []))
-AsksOne alone place command hearing w over (Err Output) = WritesOnePart place command hearing w over
-AsksOne alone place command hearing w over (Err _) =
+AsksOne is_remote place command hearing w over (Err Output) = WritesOnePart place command hearing w over
+AsksOne is_remote place command hearing w over (Err _) =
     Appends w.link_old w.link_new (request_text place command)
-    × (alone ≡ true → first_reply (waiting_for place command) (lines_behind hearing.rest hearing.bytes) ≡ None)
+    × (is_remote ≡ true → first_reply (waiting_for place command) (lines_completed hearing.rest hearing.bytes) ≡ None)
     × Appends w.sink_old w.sink_new (lines_from place (lost_of command ∷ []))
 
 -- one command was asked over a link, with this result: what the link gave, and how that ended (`AsksOne`). `old` and `new` are what
 -- asking keeps from one command to the next
-abbrev pub AsksCommand : (alone : Bool) → ℕ → Command → (old new : Asking) → (seen_old seen_new : SeenAtBoth) → LinkEnd → Type 0
-AsksCommand alone place command old new seen_old seen_new result = Gives seen_old.client seen_new.client old.end.assembler (λ rest given.
-    AsksOne alone place command (heard_by new.end rest (old.ahead ++ given) new.ahead) (written_there seen_old seen_new)
+abbrev pub AsksCommand : (is_remote : Bool) → ℕ → Command → (old new : AskState) → (seen_old seen_new : SeenAtBoth) → LinkEnd → Type 0
+AsksCommand is_remote place command old new seen_old seen_new result = Gives seen_old.client seen_new.client old.end.assembler (λ rest given.
+    AsksOne is_remote place command (heard_by new.end rest (old.ahead ++ given) new.ahead) (written_there seen_old seen_new)
     (BothStep seen_old.client seen_new.client seen_old.instrument seen_new.instrument) result)
 
 -- Runs.
 
--- what came settles the commands `earlier`; `command` was sent, and is lost; `later` weren't sent. Where the link is alone,
+-- what came settles the commands `earlier`; `command` was sent, and is lost; `later` weren't sent. Where the link is remote,
 -- what came doesn't settle `command`. The sink took the lines of these settlements
-pub record StopsAt (alone : Bool) (commands : List Command) (given : List ℕ) (w : Written) : Type 0 where
+pub record StopsAt (is_remote : Bool) (commands : List Command) (given : List ℕ) (w : Written) : Type 0 where
   pub earlier : List Command
   pub command : Command
   pub later : List Command
   pub order : commands ≡ earlier ++ command ∷ later
   pub settled : length (asked earlier given) ≡ length earlier
-  pub none : alone ≡ true → asked commands given ≡ asked earlier given
+  pub none : is_remote ≡ true → asked commands given ≡ asked earlier given
   pub sent : Appends w.link_old w.link_new (all_of (request_texts 0 (earlier ++ command ∷ [])))
   pub sink_took : Appends w.sink_old w.sink_new (settlement_lines (asked earlier given ++ lost_of command ∷ []))
 
 -- what came settles the commands `earlier`, `count` in number; a write of the request of `command`, or of its reply, was cut.
 -- Of that request the first `bytes` bytes were sent, or all, and it is lost; `later` weren't sent. The sink took the lines of
 -- these settlements. `count` and `part` are the numbers of the fault
-pub record IsCut (alone : Bool) (commands : List Command) (given : List ℕ) (w : Written) (count part : ℕ) : Type 0 where
+pub record IsCut (is_remote : Bool) (commands : List Command) (given : List ℕ) (w : Written) (count part : ℕ) : Type 0 where
   pub earlier : List Command
   pub command : Command
   pub later : List Command
@@ -222,30 +217,31 @@ pub record IsCut (alone : Bool) (commands : List Command) (given : List ℕ) (w 
   pub count_is : count ≡ length earlier
   pub settled : length (asked earlier given) ≡ length earlier
   pub bytes : ℕ
-  pub cut : alone ≡ true → (bytes ≡ part) × (part < length (request_text count command))
+  pub cut : is_remote ≡ true → (bytes ≡ part) × (part < length (request_text count command))
   pub sent : Appends w.link_old w.link_new (all_of (request_texts 0 earlier) ++ take bytes (request_text count command))
   pub sink_took : Appends w.sink_old w.sink_new (settlement_lines (asked earlier given ++ lost_of command ∷ []))
 
--- how commands were asked over a link that gave these bytes, by how that ended; `alone` says whether somebody else answers at the other end
-abbrev pub AsksOn : (alone : Bool) → List Command → List ℕ → Written → (over : LinkEnd → Type 0) → LinkEnd → Type 0
-AsksOn alone commands given w over (Ok _) = AsksAll commands given w
-AsksOn alone commands given w over (Err Read) = StopsAt alone commands given w
-AsksOn alone commands given w over (Err LinkClosed) = StopsAt alone commands given w
-AsksOn alone commands given w over (Err TooManyReads) = StopsAt alone commands given w
-AsksOn alone commands given w over (Err (Write count part)) = IsCut alone commands given w count part
-AsksOn alone commands given w over (Err Output) = WritesPart commands given w over
-AsksOn alone commands given w over (Err _) = ⊥
+-- how commands were asked over a link that gave these bytes, by how that ended; `is_remote` says whether somebody else answers at the
+-- other end
+abbrev pub AsksOn : (is_remote : Bool) → List Command → List ℕ → Written → (over : LinkEnd → Type 0) → LinkEnd → Type 0
+AsksOn is_remote commands given w over (Ok _) = AsksAll commands given w
+AsksOn is_remote commands given w over (Err Read) = StopsAt is_remote commands given w
+AsksOn is_remote commands given w over (Err LinkClosed) = StopsAt is_remote commands given w
+AsksOn is_remote commands given w over (Err TooManyReads) = StopsAt is_remote commands given w
+AsksOn is_remote commands given w over (Err (Write count part)) = IsCut is_remote commands given w count part
+AsksOn is_remote commands given w over (Err Output) = WritesPart commands given w over
+AsksOn is_remote commands given w over (Err _) = ⊥
 
 -- commands were asked over a link, in at most `most` reads of both its ends, with this result
-pub record AsksAt (alone : Bool) (commands : List Command) (most : ℕ) (old new : SeenAtBoth) (result : LinkEnd) : Type 0 where
+pub record AsksAt (is_remote : Bool) (commands : List Command) (most : ℕ) (old new : SeenAtBoth) (result : LinkEnd) : Type 0 where
   pub given : List ℕ
   pub gave : Consumes old.client.remaining new.client.remaining given
   pub few : length given ≤ ROOM * (new.client.reads - old.client.reads)
-  pub asks : AsksOn alone commands given (written_there old new) (BothEnd old.client new.client old.instrument new.instrument) result
+  pub asks : AsksOn is_remote commands given (written_there old new) (BothEnd old.client new.client old.instrument new.instrument) result
   pub ends : EndsWith (BothEnd old.client new.client old.instrument new.instrument) old.sink.failed new.sink.failed result
   pub bound : new.client.reads + new.instrument.reads ≤ old.client.reads + old.instrument.reads + most
   pub too_many : result ≡ Err TooManyReads → new.client.reads + new.instrument.reads ≡ old.client.reads + old.instrument.reads + most
 
 -- a run over a source of commands and a link: the text was refused, and nothing else happened; or its commands were asked
-abbrev pub RunsAt : (alone : Bool) → (text_old text_new : Input) → (most : ℕ) → (old new : SeenAtBoth) → LinkEnd → Type 0
-RunsAt alone text_old text_new most old new result = RunsText text_old text_new result (new ≡ old) (λ commands. AsksAt alone commands most old new result)
+abbrev pub RunsAt : (is_remote : Bool) → (text_old text_new : Input) → (most : ℕ) → (old new : SeenAtBoth) → LinkEnd → Type 0
+RunsAt is_remote text_old text_new most old new result = RunsText text_old text_new result (new ≡ old) (λ commands. AsksAt is_remote commands most old new result)

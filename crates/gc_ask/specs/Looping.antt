@@ -1,5 +1,5 @@
--- A client and a simulator at the two ends of one link: this project's own. `given` are all bytes that the client's end gave,
--- `w` is what that end and the sink of the settlements took, and `over e` says what the link's ports are after the end e.
+-- A client and an instrument of this program at the two ends of one link: this project's own. `given` are all bytes that the client's
+-- end gave, `w` is what that end and the sink of the settlements took, and `over e` says what the link's ports are after the end e.
 use Rattle.std.specs.Prelude.{◌≡◌, false, ℕ, ◌+◌, ◌≤◌, ◌⊎◌, List, [], ◌∷◌, ◌++◌, length, take, Result, Ok, Err}
 use Rattle.std.specs.Io.KnownBytes.{Appends, Consumes}
 use Rattle.gc_lines.specs.Answering.{Ports, all_of, ports_of}
@@ -72,17 +72,17 @@ abbrev pub seen_over : {A B C D K : Type 0} → Source A → Sink B → Duplex A
 seen_over of_a of_b client of_c of_d instrument of_k k = seen_of of_a client.source of_b client.sink of_c instrument.source of_d instrument.sink of_k k
 
 -- from `old` to `new` nothing was read of either end of a link, and nothing was written to either end or to the sink
-abbrev pub IsUnused : SeenAtBoth → SeenAtBoth → Type 0
+abbrev pub IsUnused : (old new : SeenAtBoth) → Type 0
 IsUnused old new =
     (new.client.remaining ≡ old.client.remaining) × (new.client.reads ≡ old.client.reads)
     × (new.instrument.remaining ≡ old.instrument.remaining) × (new.instrument.reads ≡ old.instrument.reads)
     × (new.client.taken ≡ old.client.taken) × (new.instrument.taken ≡ old.instrument.taken) × (new.sink.bytes ≡ old.sink.bytes)
 
 -- what the client's end and the sink had taken before, and have taken now
-abbrev pub written_there : SeenAtBoth → SeenAtBoth → Written
+abbrev pub written_there : (old new : SeenAtBoth) → Written
 written_there old new = record { link_old = old.client.taken; link_new = new.client.taken; sink_old = old.sink.bytes; sink_new = new.sink.bytes }
 
--- commands were asked over a link with a simulator at its other end, with this result
+-- commands were asked over a link with an instrument of this program at its other end, with this result
 pub record LoopsOver (commands : List Command) (old new : SeenAtBoth) (result : Result (Unit {0}) RunFault) : Type 0 where
   pub given : List ℕ
   pub gave : Consumes old.client.remaining new.client.remaining given
@@ -94,8 +94,8 @@ pub record LoopsOver (commands : List Command) (old new : SeenAtBoth) (result : 
 abbrev pub LoopRuns : (text_old text_new : Input) → (old new : SeenAtBoth) → Result (Unit {0}) RunFault → Type 0
 LoopRuns text_old text_new old new result = RunsText text_old text_new result (new ≡ old) (λ commands. LoopsOver commands old new result)
 
--- commands were asked, in at most `most` reads and with this result, over some connection with a simulator at its other end;
--- neither end had failed, and nothing was read of them before
+-- commands were asked, in at most `most` reads and with this result, over some connection with an instrument of this
+-- program at its other end; neither end had failed, and nothing was read of them before
 pub record LoopsOverOne (commands : List Command) (most : ℕ) (old new : Taken) (result : Result (Unit {0}) RunFault) : Type 0 where
   pub before : SeenAtBoth
   pub after : SeenAtBoth
@@ -107,7 +107,7 @@ pub record LoopsOverOne (commands : List Command) (most : ℕ) (old new : Taken)
   pub bound : after.client.reads + after.instrument.reads ≤ most
   pub too_many : result ≡ Err TooManyReads → after.client.reads + after.instrument.reads ≡ most
 
--- a run over a source of commands, a connection that it makes to a simulator of its own, and a sink: the text was refused, or it was read
+-- a run over a source of commands, a connection that it makes to an instrument of its own, and a sink: the text was refused, or it was read
 -- and no connection could be had, and in both cases nothing was written; or its commands were asked over the connection
 abbrev pub LoopRunsAt : (text_old text_new : Input) → (most : ℕ) → (old new : Taken) → Result (Unit {0}) RunFault → Type 0
 LoopRunsAt text_old text_new most old new result = RunsText text_old text_new result (new ≡ old) (λ commands.

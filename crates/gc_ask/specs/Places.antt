@@ -12,6 +12,10 @@ fault_of_reason (Some unusable.Held) = fault.Held
 fault_of_reason (Some unusable.Forbidden) = fault.Forbidden
 fault_of_reason None = fault.Socket
 
+-- the fault is one that comes where no connection to a place can be had, with a reason or without one
+abbrev pub IsFaultOfPlace : RunFault → Type 0
+IsFaultOfPlace fault = (reason : Option Unusable) × (fault ≡ fault_of_reason reason)
+
 -- the fault is that of a device that is there and can't be used, for some reason
 abbrev pub IsFaultOfDevice : RunFault → Type 0
 IsFaultOfDevice fault = (unusable : Unusable) × (fault ≡ fault_of_reason (Some unusable))

@@ -4,7 +4,7 @@
 ghost use Rattle.std.specs.Prelude.{◌≡◌, ◌+◌, ◌≤◌, [], ℕ, List, Err};
 ghost use Rattle.gc_lines.specs.Assembler.{StandsFor};
 ghost use Rattle.gc_lines.specs.Lines.{with_end};
-ghost use Rattle.gc_ask.specs.AskRuns.{AskRuns, seen_of_link};
+ghost use Rattle.gc_ask.specs.AskRuns.{AskRuns, IsUnused, seen_of_link};
 ghost use Rattle.gc_ask.specs.Asking.{EndsWith, idle, request_text, waiting_for};
 ghost use Rattle.gc_ask.specs.Listening.{AsksAt, AsksCommand, ExchangesCommand, HasReadNothing, LinkSteps, RunsAt, TakesNothing, reads_of, seen_through};
 ghost use Rattle.gc_texts.specs.declared.fault.RunFault.{RunFault};
@@ -12,40 +12,40 @@ ghost use Rattle.gc_texts.specs.declared.text.TheConstants.{TEXT_LIMIT};
 ghost use Rattle.gc_texts.specs.WholeTexts.{input_of};
 
 use crate::client_end::ClientEnd;
-use crate::link::{Alone, Link};
-use crate::unheard::Unheard;
+use crate::link::{Link, Remote};
+use crate::unused::Unused;
 use gc_lines::{Line, Sink, Source};
 use gc_texts::{Command, RunFault, read_command_text, write_settlements};
 use std::alloc::Global;
 
 // What is kept from one command to the next while commands are asked.
 #[derive(Drop)]
-pub(crate) struct Asking {
+pub(crate) struct AskState {
     // The client with its assembler.
     pub(crate) end: ClientEnd,
     // The bytes that were read and aren't used yet.
-    pub(crate) ahead: Unheard,
+    pub(crate) ahead: Unused,
     // How many reads are still allowed.
     pub(crate) reads: u32,
 }
 
-impl Asking {
+impl AskState {
     // The state before the first command: no request waits, nothing was read, and all `max_reads` reads are left.
-    pub(crate) fn new(max_reads: u32) -> Asking
+    pub(crate) fn new(max_reads: u32) -> AskState
         ensures client { result.end.client.ids ≡ idle 0 }
         ensures assembler { StandsFor result.end.assembler [] }
         ensures ahead { result.ahead ≡ [] }
         ensures reads { result.reads ≡ max_reads }
     {
-        Asking {
+        AskState {
             end: ClientEnd::new(),
-            ahead: Unheard::new(),
+            ahead: Unused::new(),
             reads: max_reads,
         }
     }
 
-    // Returns the request line of the command at this place, for whose reply the client then waits, without a deadline. No other
-    // request waits, so the client doesn't refuse this one.
+    // Returns the request line of the command at this place, without its CR LF. The client then waits for its reply, without a deadline.
+    // No other request waits, so the client doesn't refuse this one.
     fn request(&mut self, place: usize, command: &Command) -> Line
         requires { self.old.end.client.ids ≡ idle place }
         ensures text { with_end result.items ≡ request_text place command.now }
@@ -63,7 +63,8 @@ impl Asking {
         line
     }
 
-    // Sends the command at this place, and waits until it is settled, or the link has a fault, which is returned.
+    // Sends the command at this place, and waits until it is settled, or the link has a fault, which is returned. After a fault the client
+    // still waits for the command.
     fn exchange<L: Link>(
         &mut self,
         place: usize,
@@ -71,7 +72,7 @@ impl Asking {
         link: &mut L,
     ) -> Result<(), RunFault>
         requires { self.old.end.client.ids ≡ idle place }
-        ensures exchanges { ExchangesCommand L.alone place command.now self.old self.new (L.client link.old) (L.client link.new) result }
+        ensures exchanges { ExchangesCommand L.is_remote place command.now self.old self.new (L.client link.old) (L.client link.new) result }
         ensures ends { LinkSteps L.Link link.old link.new result }
         ensures grows { (L.client link.old).reads ≤ (L.client link.new).reads }
         ensures reads { reads_of L.Link link.new + self.new.reads ≡ reads_of L.Link link.old + self.old.reads }
@@ -85,8 +86,8 @@ impl Asking {
         self.end.hear_reply(link, &mut self.ahead, &mut self.reads)
     }
 
-    // Asks the command at this place, and writes the line of its settlement. After a fault of the link the command is lost, and
-    // that is written, too. `Err`: the fault of the link, or `Output` if the sink failed.
+    // Asks the command at this place, and writes the line of its settlement. After a fault of the link the command is lost, and the line
+    // says so. `Err`: the fault of the link, or `Output` if the sink failed, also where the link had a fault before.
     fn ask<L: Link, K: Sink>(
         &mut self,
         place: usize,
@@ -96,7 +97,7 @@ impl Asking {
     ) -> Result<(), RunFault>
         requires idle { self.old.end.client.ids ≡ idle place }
         requires stands { (rest : List ℕ) × StandsFor self.old.end.assembler rest }
-        ensures asks { AsksCommand L.alone place command.now self.old self.new
+        ensures asks { AsksCommand L.is_remote place command.now self.old self.new
             (seen_through L.Link link.old K.Sink sink.old)
             (seen_through L.Link link.new K.Sink sink.new)
             result }
@@ -127,11 +128,12 @@ impl Asking {
 /// settlement goes to the sink as the reply comes.
 ///
 /// Before anything is sent or written, `Read` comes where the source failed, `InputTooLong` where it gave more than 65,536
-/// bytes, `Schedule` at the first line that has the form of no command, counted from 1, and `Memory` where a growth was
-/// refused. Then a fault of the link ends the run: `Read` where it can't be read, `Write` where it can't be written,
-/// `LinkClosed` where it ends, and `TooManyReads` where all reads were made, none was the end, and what came doesn't
-/// settle the request. The request is lost then, and its line is written before the fault is returned. Nothing is sent
-/// afterwards. `Output` comes where the sink failed, also where it failed at the line of the lost request.
+/// bytes, `Schedule` at the first line that has the form of no command, counted from 1, and `Memory` where memory was refused.
+/// Then a fault of the link ends the run: `Read` where it can't be read; `Write` where it can't be written, which says how many
+/// requests were sent whole, and how many bytes of the next; `LinkClosed` where it ends; and `TooManyReads` where all reads were
+/// made, none was the end, and what came doesn't settle the request. The request is lost then, and its line is written before
+/// the fault is returned. Nothing is sent afterwards. `Output` comes where the sink failed, also where it failed at the line of
+/// the lost request.
 pub fn run_ask<S: Source, I: Source, O: Sink, K: Sink>(
     alloc: Global,
     commands: &mut S,
@@ -151,11 +153,11 @@ pub fn run_ask<S: Source, I: Source, O: Sink, K: Sink>(
     ensures bounded { S.reads commands.new ≤ S.reads commands.old + (TEXT_LIMIT + 1) }
 
     // Where memory was refused, nothing was read of the link, sent or written.
-    ensures memory { result ≡ Err RunFault.Memory
-        → (I.remaining link_in.new ≡ I.remaining link_in.old) × (I.reads link_in.new ≡ I.reads link_in.old)
-        × (O.taken link_out.new ≡ O.taken link_out.old) × (K.taken sink.new ≡ K.taken sink.old) }
+    ensures memory { result ≡ Err RunFault.Memory → IsUnused
+        (seen_of_link I.Source link_in.old O.Sink link_out.old K.Sink sink.old)
+        (seen_of_link I.Source link_in.new O.Sink link_out.new K.Sink sink.new) }
 {
-    let mut link = Alone {
+    let mut link = Remote {
         source: link_in,
         sink: link_out,
     };
@@ -171,7 +173,7 @@ pub(crate) fn run_over<S: Source, L: Link, K: Sink>(
     sink: &mut K,
     max_reads: u32,
 ) -> Result<(), RunFault>
-    ensures asks { RunsAt L.alone (input_of S.Source commands.old) (input_of S.Source commands.new) max_reads
+    ensures asks { RunsAt L.is_remote (input_of S.Source commands.old) (input_of S.Source commands.new) max_reads
         (seen_through L.Link link.old K.Sink sink.old)
         (seen_through L.Link link.new K.Sink sink.new)
         result }
@@ -201,13 +203,13 @@ pub(crate) fn ask_all<L: Link, K: Sink>(
     max_reads: u32,
 ) -> Result<(), RunFault>
     // What the link gave, what the link and the sink took, why the asking ended, and which ports have failed.
-    ensures asks { AsksAt L.alone commands.now max_reads
+    ensures asks { AsksAt L.is_remote commands.now max_reads
         (seen_through L.Link link.old K.Sink sink.old)
         (seen_through L.Link link.new K.Sink sink.new)
         result }
     ensures held { L.held link.new ≡ L.held link.old }
 {
-    let mut asking = Asking::new(max_reads);
+    let mut asking = AskState::new(max_reads);
     for (place, command) in commands.iter().enumerate() {
         if let Err(fault) = asking.ask(place, command, link, sink) {
             return Err(fault);

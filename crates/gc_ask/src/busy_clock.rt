@@ -28,8 +28,8 @@ pub struct BusyClock {
     early: RefCell<Early>,
 }
 
-// Bytes that came while the instrument was busy, and how many of them were handed on. It holds 8192 bytes; further ones
-// count as arriving later.
+// Bytes that came while the instrument was busy, and how many of them were handed on. It holds 8192 bytes. `End::take_in` reads no more at
+// once: further ones wait in the system's buffer, and count as having come when they are read.
 #[derive(Drop)]
 struct Early {
     bytes: ArrayVec<u8, 8192>,
@@ -53,7 +53,8 @@ impl BusyClock {
         })
     }
 
-    /// Prepares for a new connection: no reply waits, and the bytes that came early over the last one are discarded.
+    /// Prepares for a new connection: no reply waits, and the bytes that came over the last one while the instrument was busy, and weren't
+    /// handed on, are discarded.
     pub(crate) fn begin(&self) {
         self.waits.set(false);
         if let Ok(mut early) = self.early.try_borrow_mut() {
@@ -66,23 +67,24 @@ impl BusyClock {
         self.drops
     }
 
-    /// When the last bytes came.
+    /// When the last bytes came, in milliseconds since the clock was made: 0 before any did.
     pub(crate) fn came(&self) -> u64 {
         self.came.get()
     }
 
-    /// Records that bytes came just now. If the system's clock can't be read, the moment of the bytes before them is kept.
+    /// Records that bytes came just now. If the system's clock can't be read, the moment of the last bytes stays as it was.
     pub(crate) fn note_now<R: Clock>(&self, rt: &R) {
         self.came.set(self.now(rt));
     }
 
-    /// Records that the instrument is busy until this moment, and that its reply has to wait until then.
+    /// Records that the instrument is busy until this moment of the clock, and that its reply has to wait until then.
     pub(crate) fn note_busy(&self, until: u64) {
         self.until.set(until);
         self.waits.set(true);
     }
 
-    /// Sleeps until the instrument is free, if a reply still has to wait for that. Returns whether it slept.
+    /// Sleeps until the instrument is free, if a reply still has to wait for that. Returns whether it slept. It doesn't if that moment is
+    /// over.
     pub(crate) fn wait<R: Clock>(&self, rt: &R) -> bool {
         let now = self.now(rt);
         let until = self.until.get();
@@ -94,15 +96,15 @@ impl BusyClock {
         true
     }
 
-    /// Stores bytes that came while the instrument was busy, as far as there is room.
-    pub(crate) fn keep_early(&self, bytes: &[u8]) {
+    /// Stores bytes that came while the instrument was busy, as far as there is room. Those without room are discarded.
+    pub(crate) fn store_early(&self, bytes: &[u8]) {
         if let Ok(mut early) = self.early.try_borrow_mut() {
-            keep(&mut early, bytes);
+            store(&mut early, bytes);
         }
     }
 
     /// Moves bytes that came while the instrument was busy into `buf`, and returns how many. They count as having come a millisecond
-    /// before it was free again.
+    /// before it was free again. Where there are none, the moment of the last bytes stays as it was.
     pub(crate) fn take_early(&self, buf: &mut [u8]) -> usize
         ensures { result ≤ length buf.new }
     {
@@ -129,20 +131,20 @@ impl BusyClock {
     }
 }
 
-// Discards all bytes.
+// Discards all bytes, also those that were handed on.
 fn empty(early: &mut Early) {
     early.bytes.clear();
     early.taken = 0;
 }
 
 // Appends these bytes, as far as there is room.
-fn keep(early: &mut Early, bytes: &[u8]) {
+fn store(early: &mut Early, bytes: &[u8]) {
     for byte in bytes {
         let _ = early.bytes.try_push(*byte);
     }
 }
 
-// Moves bytes into the front of `buf`, as many as there are and as it has room for, and returns how many.
+// Moves the bytes that weren't handed on yet into the front of `buf`, as many as it has room for, and returns how many.
 fn hand_on(early: &mut Early, buf: &mut [u8]) -> usize
     ensures { result ≤ length buf.new }
 {

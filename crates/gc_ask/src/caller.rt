@@ -19,17 +19,18 @@ use std::time::{Clock, Duration};
 // The most tries of one read: it is tried again each time that it was interrupted.
 const MOST_TRIES: u32 = 1000;
 
-/// The instrument's end of a connection, which it reads and writes.
+/// The instrument's end of a connection.
 #[derive(Drop)]
 pub(crate) enum End<'a, R> {
-    /// Over TCP, and how long a read may wait; `None`: without end.
+    /// Over TCP, and how long a read may wait, which the stream's time-out says already; `None`: without end.
     Stream(&'a TcpStream, Option<Duration>),
     /// Over a device.
     Device(&'a Wire<'a, R>),
 }
 
 impl<'a, R: Clock> End<'a, R> {
-    // Reads what comes within about a millisecond. `None`: nothing came.
+    // Reads what comes within about a millisecond. `None`: nothing came. `Some(0)`: the connection has ended. Reads after this one may
+    // wait as long as before.
     fn read_soon(&self, buf: &mut [u8]) -> io::Result<Option<usize>>
         ensures { IfOk result (λ read. IfSome read (λ n. n ≤ length buf.new)) }
     {
@@ -39,7 +40,7 @@ impl<'a, R: Clock> End<'a, R> {
         }
     }
 
-    // Reads the connection, waiting until something comes.
+    // Reads the connection, waiting until something comes, it ends (0), or its time-out has passed (`Err`). A device has no time-out.
     fn read_plain(&self, buf: &mut [u8]) -> io::Result<usize>
         ensures { IfOk result (λ n. n ≤ length buf.new) }
     {
@@ -49,8 +50,8 @@ impl<'a, R: Clock> End<'a, R> {
         }
     }
 
-    // Reads the connection, and records in the clock when bytes came. Bytes that came while the instrument was busy are handed out
-    // first.
+    // Reads the connection, and records in the clock when that read returned, also at the end or with `Err`. Bytes that came while the
+    // instrument was busy are handed out first, with no read, as `BusyClock::take_early` says.
     fn read_noted(&self, rt: &R, clock: &BusyClock, buf: &mut [u8]) -> io::Result<usize>
         ensures { IfOk result (λ n. n ≤ length buf.new) }
     {
@@ -73,12 +74,13 @@ impl<'a, R: Clock> End<'a, R> {
         }
     }
 
-    // Moves into the clock what has come while the instrument was busy. 32 reads of 256 bytes are as much as it has room for.
+    // Moves into the clock what has come while the instrument was busy, until a read brings nothing or fails. 32 reads of 256 bytes are as
+    // much as it has room for.
     fn take_in(&self, clock: &BusyClock) {
         let mut buf = [0u8; 256];
         for _ in 0..32 {
             match self.read_soon(&mut buf) {
-                Ok(Some(n)) if n > 0 => clock.keep_early(&buf[..n]),
+                Ok(Some(n)) if n > 0 => clock.store_early(&buf[..n]),
                 _ => return,
             }
         }
@@ -125,7 +127,7 @@ impl<'a, R: Clock> Write for ReplyWriter<'a, R> {
 /// The reading end of a connection. It stores whether the last read that failed had timed out, and for an instrument whose replies take
 /// time it records when bytes came.
 #[derive(Drop)]
-pub(crate) struct Caller<'a, R> {
+pub(crate) struct RequestReader<'a, R> {
     rt: &'a R,
     end: &'a End<'a, R>,
     clock: Option<&'a BusyClock>,
@@ -137,18 +139,18 @@ pub(crate) struct Caller<'a, R> {
     is_idle: bool,
 }
 
-impl<'a, R: Clock> Caller<'a, R> {
-    /// The reading end of a connection that has its time-outs already, and of which nothing was read yet. `clock` is the clock of an
-    /// instrument whose replies take time: it is prepared for this connection.
+impl<'a, R: Clock> RequestReader<'a, R> {
+    /// The reading end of a connection of which nothing was read yet. It sets no time-outs: the connection has them already, or waits
+    /// without end. `clock` is the clock of an instrument whose replies take time: it is prepared for this connection.
     pub(crate) fn new(
         rt: &'a R,
         end: &'a End<'a, R>,
         clock: Option<&'a BusyClock>,
-    ) -> Caller<'a, R> {
+    ) -> RequestReader<'a, R> {
         if let Some(clock) = clock {
             clock.begin();
         }
-        Caller {
+        RequestReader {
             rt,
             end,
             clock,
@@ -167,7 +169,7 @@ impl<'a, R: Clock> Caller<'a, R> {
 
 // `remaining` is `None`: which bytes will come over a connection isn't known. A read fails as one of `FromReader` does: at the first
 // error, and once 2^64 - 1 reads were answered.
-impl<'a, R: Clock> Source for Caller<'a, R> {
+impl<'a, R: Clock> Source for RequestReader<'a, R> {
     ghost use Rattle.std.specs.Prelude.{None};
 
     ghost remaining = { λ _. None };
@@ -203,7 +205,7 @@ impl<'a, R: Clock> Source for Caller<'a, R> {
     }
 }
 
-// Reads a connection, and if there is a clock records in it when bytes came.
+// Reads a connection, by `End::read_noted` if there is a clock, and by `End::read_plain` if there is none.
 fn read_end<R: Clock>(
     rt: &R,
     end: &End<'_, R>,
@@ -263,15 +265,15 @@ fn is_time_out(kind: ErrorKind) -> bool {
     matches!(kind, ErrorKind::WouldBlock | ErrorKind::TimedOut)
 }
 
-/// Restarts an instrument, and serves one connection with it: `source` and `sink` are its two directions. The faults are those
-/// of `serve`.
+/// Restarts an instrument, and serves one connection with it, in at most `max_reads` reads: `source` and `sink` are its two directions. The
+/// faults are those of `serve`: `Read`, also for a read that timed out, `Write` and `TooManyReads`.
 pub(crate) fn serve_caller<I: Simulates, S: Source, K: Sink>(
     instrument: &mut I,
     source: &mut S,
     sink: &mut K,
     max_reads: u32,
 ) -> Result<(), CallerFault>
-    ensures { (end : Result Served ServeFault) × I.served instrument.old instrument.new
+    ensures { (end : Result Served ServeFault) × I.serving instrument.old instrument.new
         (ports_of S.Source source.old K.Sink sink.old)
         (ports_of S.Source source.new K.Sink sink.new)
         max_reads end

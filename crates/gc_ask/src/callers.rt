@@ -1,20 +1,24 @@
-//! The callers of a kept port: they are served one after the other, and after a fault of one caller's connection the next
+//! The callers of a kept port or device: they are served one after the other, and after a fault of one caller's connection the next
 //! caller is served all the same.
 
 ghost use Rattle.std.specs.Prelude.{◌≡◌, [], ◌∷◌, true, OnOk};
 ghost use Rattle.std.specs.Io.KnownBytes.{Appends};
-ghost use Rattle.gc_ask.specs.Keeping.{Grows, Kept, caller_line, end_line};
+ghost use Rattle.gc_ask.specs.Keeping.{Grows, ServesCallers, caller_line, end_line};
 
 use gc_lines::{READ_FAILED, READS_SPENT, WRITE_FAILED};
 use gc_texts::RunFault;
 use std::io::{self, Write};
+
+/// For how many seconds a kept port pauses after an accept that failed, and a kept device each time that it was served or wasn't there.
+/// Without the pause a port for which no descriptor is free, or a device that is gone, would be tried again at once, for ever.
+pub(crate) const PAUSE: u64 = 1;
 
 /// Why a caller's connection was left before its end.
 #[derive(Clone, Copy, Debug, PartialEq, Eq)]
 pub enum CallerFault {
     /// A read failed.
     Read,
-    /// A write failed: how many replies went out whole, and how many bytes of the next.
+    /// A write failed, or nothing was taken for as long as it may wait: how many replies went out whole, and how many bytes of the next.
     Write { replies: u64, bytes: usize },
     /// As many reads were made as are allowed, and none was the end.
     TooManyReads,
@@ -26,7 +30,7 @@ pub enum CallerFault {
 
 impl CallerFault {
     /// Writes the line of the fault: the program's name, the connection's number, counted from 1, and why the connection was
-    /// left.
+    /// left. `Err`: it couldn't be written whole.
     pub fn tell<E: Write>(self, number: u64, messages: &mut E) -> io::Result<()>
         ensures { OnOk result (Appends (E.contents messages.old) (E.contents messages.new) (caller_line number self)) }
     {
@@ -56,10 +60,10 @@ impl CallerFault {
 /// The callers of a port or of a device.
 pub trait Callers {
     ghost use Rattle.std.specs.Prelude.{List, Option};
-    ghost use Rattle.gc_ask.specs.Keeping.{End};
+    ghost use Rattle.gc_ask.specs.Keeping.{ConnectionEnd};
 
     /// How the connections of those who were served ended, in their order, where that is known.
-    ghost served: { Self → Option (List End) };
+    ghost served: { Self → Option (List ConnectionEnd) };
 
     /// Waits for the next caller, and serves the connection to its end. `Err`: a fault came before that.
     fn serve_next(&mut self) -> Result<(), CallerFault>
@@ -71,7 +75,7 @@ pub trait Callers {
 /// whether all lines were written.
 pub fn keep<C: Callers, E: Write>(callers: &mut C, most: u64, messages: &mut E) -> bool
     // `most` callers were served, whatever became of each. Where all lines were written, the messages grew by them alone.
-    ensures kept { Kept most result (C.served callers.old) (C.served callers.new) (E.contents messages.old) (E.contents messages.new) }
+    ensures kept { ServesCallers most result (C.served callers.old) (C.served callers.new) (E.contents messages.old) (E.contents messages.new) }
 {
     let mut all_written = true;
     for at in 0..most {

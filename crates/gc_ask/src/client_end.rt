@@ -9,7 +9,7 @@ ghost use Rattle.gc_ask.specs.Listening.{TakesFrame, Listens, left_by, HearsOver
 ghost use Rattle.gc_ask.specs.Links.{source_of};
 
 use crate::link::Link;
-use crate::unheard::Unheard;
+use crate::unused::Unused;
 use arrayvec::ArrayVec;
 use gc_catalogue::Call;
 use gc_client::{Client, Hearing, Settlement, Slots, WINDOW};
@@ -70,13 +70,13 @@ impl ClientEnd {
         None
     }
 
-    // Reads a link, at most `reads` times, until a line settles a request that waits, and subtracts from `reads` the reads made.
-    // Bytes after that line stay in `ahead` for the next request. The faults are `TooManyReads`, `Read` and `LinkClosed`, as
-    // `run_ask` has them.
+    // Reads a link, at most `reads` times, until a line settles a request that waits, and subtracts from `reads` the reads that were
+    // answered. Bytes after that line stay in `ahead` for the next request. The faults are `TooManyReads`, `Read` and `LinkClosed`, as
+    // `run_ask` has them; after a fault the request still waits.
     pub(crate) fn hear_reply<L: Link>(
         &mut self,
         link: &mut L,
-        ahead: &mut Unheard,
+        ahead: &mut Unused,
         reads: &mut u32,
     ) -> Result<(), RunFault>
         ensures hears { HearsOver self.old self.new ahead.old ahead.new (L.client link.old) (L.client link.new) result }

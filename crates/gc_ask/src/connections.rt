@@ -1,24 +1,23 @@
 //! Asking and serving over real connections, to their ends. How a connection is made is in `gc_links`.
 
-ghost use Rattle.std.specs.Prelude.{◌≡◌, ◌≤◌, Option, Result};
+ghost use Rattle.std.specs.Prelude.{◌≡◌, ◌≤◌, Result};
 ghost use Rattle.gc_lines.specs.declared.served.Served.{Served};
 ghost use Rattle.gc_lines.specs.declared.served.ServeFault.{ServeFault};
 ghost use Rattle.gc_ask.specs.AskRuns.{AskRunsAt, AsksOverOne};
 ghost use Rattle.gc_ask.specs.Asking.{taken_by};
 ghost use Rattle.gc_ask.specs.Looping.{LoopRunsAt, LoopsOverOne};
-ghost use Rattle.gc_ask.specs.Places.{fault_of_reason};
+ghost use Rattle.gc_ask.specs.Places.{IsFaultOfPlace, fault_of_reason};
 ghost use Rattle.gc_texts.specs.Faults.{end_of_serving};
 ghost use Rattle.gc_lines.specs.Answering.{ports_of};
-ghost use Rattle.gc_links.specs.declared.device.Unusable.{Unusable};
 ghost use Rattle.gc_texts.specs.WholeTexts.{input_of};
 ghost use Rattle.gc_texts.specs.declared.fault.RunFault.{RunFault};
 
 use crate::address::Address;
 use crate::ask::ask_all;
 use crate::busy_clock::BusyClock;
-use crate::caller::{Caller, End, ReplyWriter};
+use crate::caller::{End, ReplyWriter, RequestReader};
 use crate::instrument_end::InstrumentEnd;
-use crate::link::Alone;
+use crate::link::Remote;
 use crate::looped::Loop;
 use crate::simulated::Simulates;
 use gc_instrument::{Instrument, ServeFault};
@@ -32,10 +31,10 @@ use std::net::{Net, TcpListener, TcpStream};
 use std::rt::Files;
 use std::time::Clock;
 
-/// The most connections that one call serves.
+/// The most connections that one call of `serve_tcp`, `serve_on` or `serve_device` serves. A kept port or device has no such bound.
 pub const MOST_CONNECTIONS: u32 = 1000;
 
-/// Reads the whole command text of a source, binds a free port, connects to it, and asks the commands over that one
+/// Reads the whole command text of a source, binds a free port of 127.0.0.1, connects to it, and asks the commands over that one
 /// connection, with an instrument at its other end, in at most `max_reads` reads of both ends together.
 ///
 /// The faults come as `run_loop_on` says, and `Socket` comes where a bind, a connect or an accept failed. No socket is opened
@@ -100,7 +99,7 @@ fn loop_over<K: Sink, T: Answers + Drop>(
     ask_all(commands, &mut link, sink, max_reads)
 }
 
-/// Asks the commands of a source as `loop_tcp_on` does, with the simulator as the instrument. The results are the same.
+/// Asks the commands of a source as `loop_tcp_on` does, with the simulator as the instrument. The faults are the same.
 pub fn loop_tcp<R: Net<Listener = TcpListener, Stream = TcpStream>, S: Source, K: Sink>(
     rt: &R,
     alloc: Global,
@@ -148,7 +147,7 @@ pub fn serve_tcp<R: Net<Listener = TcpListener, Stream = TcpStream> + Clock, I: 
 /// system's queue.
 ///
 /// `Socket` comes where an accept failed. A fault of a connection ends the call with it: `Read`, `Write` and `TooManyReads` as
-/// `serve` has them.
+/// `serve` has them. The instrument is left in the state after the lines that it answered last.
 pub fn serve_on<R: Clock, I: Simulates>(
     rt: &R,
     listener: &TcpListener,
@@ -166,7 +165,7 @@ pub fn serve_on<R: Clock, I: Simulates>(
         let end = End::Stream(&stream, None);
         serve_connection(
             instrument,
-            &mut Caller::new(rt, &end, clock),
+            &mut RequestReader::new(rt, &end, clock),
             &mut ToWriter::new(ReplyWriter::new(rt, &end, clock)),
             max_reads,
         )?;
@@ -203,7 +202,8 @@ pub fn ask_tcp<R: Net<Listener = TcpListener, Stream = TcpStream>, S: Source, K:
 
 /// Asks the commands of a source as `ask_tcp` does, at a place: connects to it, or opens it where it is a device.
 ///
-/// The faults come as `run_ask` says, and one of `fault_of` comes where no connection could be had.
+/// The faults come as `run_ask` says, and one of `fault_of_reason` comes where no connection could be had. No connection is made before the
+/// whole text was read.
 pub fn ask_at<
     R: Net<Listener = TcpListener, Stream = TcpStream> + Files<File = File> + Clock,
     S: Source,
@@ -216,7 +216,7 @@ pub fn ask_at<
     sink: &mut K,
     max_reads: u32,
 ) -> Result<(), RunFault>
-    ensures asks { AskRunsAt (λ fault. (reason : Option Unusable) × (fault ≡ fault_of_reason reason)) (input_of S.Source commands.old) (input_of S.Source commands.new) max_reads
+    ensures asks { AskRunsAt IsFaultOfPlace (input_of S.Source commands.old) (input_of S.Source commands.new) max_reads
         (taken_by K.Sink sink.old) (taken_by K.Sink sink.new) result }
 {
     let commands = match read_command_text(alloc, commands) {
@@ -225,7 +225,7 @@ pub fn ask_at<
     };
     let wire = match wire_to(rt, place) {
         Ok(wire) => wire,
-        Err(reason) => return Err(fault_of(reason)),
+        Err(reason) => return Err(fault_of_reason(reason)),
     };
     ask_over(commands.as_slice(), &wire, &wire, sink, max_reads)
 }
@@ -243,7 +243,7 @@ fn ask_over<I: Read + Drop, O: Write + Drop, K: Sink>(
 {
     let mut source = FromReader::new(reader);
     let mut to = ToWriter::new(writer);
-    let mut link = Alone {
+    let mut link = Remote {
         source: &mut source,
         sink: &mut to,
     };
@@ -252,7 +252,7 @@ fn ask_over<I: Read + Drop, O: Write + Drop, K: Sink>(
 
 /// The fault that is reported if no connection to a place could be made: the one for why a device can't be used, or `Socket` if
 /// there is no such reason.
-pub fn fault_of(reason: Option<Unusable>) -> RunFault
+pub fn fault_of_reason(reason: Option<Unusable>) -> RunFault
     ensures { result ≡ fault_of_reason reason }
 {
     match reason {
@@ -271,7 +271,7 @@ pub(crate) fn serve_connection<I: Simulates, S: Source, K: Sink>(
     sink: &mut K,
     max_reads: u32,
 ) -> Result<(), RunFault>
-    ensures { (end : Result Served ServeFault) × I.served instrument.old instrument.new
+    ensures { (end : Result Served ServeFault) × I.serving instrument.old instrument.new
         (ports_of S.Source source.old K.Sink sink.old)
         (ports_of S.Source source.new K.Sink sink.new)
         max_reads end

@@ -1,13 +1,13 @@
-//! An instrument at the end of a serial line: a device that is served as a connection is, once or for good.
+//! An instrument at the end of a serial line: a device that is served as a connection is, a number of times or for good.
 
 ghost use Rattle.std.specs.Prelude.{◌≡◌, ◌≤◌, None, IfErr, IfOk};
-ghost use Rattle.gc_ask.specs.Keeping.{Kept, most_callers};
+ghost use Rattle.gc_ask.specs.Keeping.{ServesCallers, most_callers};
 ghost use Rattle.gc_ask.specs.Places.{IsFaultOfDevice};
 
 use crate::busy_clock::BusyClock;
-use crate::caller::{Caller, End, ReplyWriter, serve_caller};
-use crate::callers::{CallerFault, Callers, keep};
-use crate::connections::{fault_of, serve_connection};
+use crate::caller::{End, ReplyWriter, RequestReader, serve_caller};
+use crate::callers::{CallerFault, Callers, PAUSE, keep};
+use crate::connections::{fault_of_reason, serve_connection};
 use crate::kept_port::Keeping;
 use crate::simulated::Simulates;
 use gc_lines::ToWriter;
@@ -19,14 +19,11 @@ use std::rt::Files;
 use std::thread;
 use std::time::{Clock, Duration};
 
-// The rest after a device ended or wasn't there, in seconds: without one a device that is gone would be looked for without a pause.
-const REST: u64 = 1;
-
 /// Opens a device `connections` times, one after the other. Each time the instrument is restarted, and serves the device until its
-/// end, in at most `max_reads` reads.
+/// end, in at most `max_reads` reads. `clock` is the clock of an instrument whose replies take time.
 ///
-/// A fault ends the call: one of `fault_of` where the device couldn't be opened, else `Read`, `Write` or `TooManyReads` as `serve`
-/// has them.
+/// A fault ends the call: one of `fault_of_reason` where the device couldn't be opened, else `Read`, `Write` or `TooManyReads` as `serve`
+/// has them. The instrument is left in the state after the lines that it answered last.
 pub fn serve_device<R: Files<File = File> + Clock, I: Simulates>(
     rt: &R,
     path: &str,
@@ -40,12 +37,12 @@ pub fn serve_device<R: Files<File = File> + Clock, I: Simulates>(
     for _ in 0..connections {
         let wire = match wire_on(rt, path) {
             Ok(wire) => wire,
-            Err(reason) => return Err(fault_of(reason)),
+            Err(reason) => return Err(fault_of_reason(reason)),
         };
         let end = End::Device(&wire);
         serve_connection(
             instrument,
-            &mut Caller::new(rt, &end, clock),
+            &mut RequestReader::new(rt, &end, clock),
             &mut ToWriter::new(ReplyWriter::new(rt, &end, clock)),
             max_reads,
         )?;
@@ -54,11 +51,12 @@ pub fn serve_device<R: Files<File = File> + Clock, I: Simulates>(
 }
 
 /// Serves a device each time that it is there, as often as `keeping` says, and writes the line of each fault on `messages`. Returns
-/// whether all of these lines were written. A device has one caller alone, who may be silent for as long as he likes, so
-/// `keeping.idle` is not used.
+/// whether all of these lines were written. `clock` is the clock of an instrument whose replies take time. A device has one caller
+/// alone, who may be silent for as long as he likes, so `keeping.idle` is not used.
 ///
-/// Where the device is there at first and can't be used, the call fails as `fault_of` says, and nothing was written. A device that
-/// isn't there, or that ended, is looked for each second.
+/// Where the device is there at first and can't be used, the call fails as `fault_of_reason` says, and nothing was written. A device that
+/// isn't there, or that ended, is looked for each second; one that is there by then and can't be used counts as a caller with the fault
+/// `Socket`.
 pub fn keep_device<R: Files<File = File> + Clock, I: Simulates, E: Write>(
     rt: &R,
     path: &str,
@@ -67,11 +65,11 @@ pub fn keep_device<R: Files<File = File> + Clock, I: Simulates, E: Write>(
     clock: Option<&BusyClock>,
     messages: &mut E,
 ) -> Result<bool, RunFault>
-    ensures kept { IfOk result (λ all_written. Kept (most_callers keeping.connections) all_written None None (E.contents messages.old) (E.contents messages.new)) }
+    ensures kept { IfOk result (λ all_written. ServesCallers (most_callers keeping.connections) all_written None None (E.contents messages.old) (E.contents messages.new)) }
     ensures fault { IfErr result (λ fault. (messages.new ≡ messages.old) × IsFaultOfDevice fault) }
 {
     let first = match wire_on(rt, path) {
-        Err(Some(unusable)) => return Err(fault_of(Some(unusable))),
+        Err(Some(unusable)) => return Err(fault_of_reason(Some(unusable))),
         Ok(wire) => Some(wire),
         Err(None) => None,
     };
@@ -100,7 +98,7 @@ struct DeviceCallers<'a, R, I> {
 
 impl<'a, R: Files<File = File> + Clock, I> DeviceCallers<'a, R, I> {
     // Opens the device, which is looked for each second until it is there. The first call returns the device that was opened already, if it
-    // was. `Socket`: the device is there and can't be used.
+    // was. `Socket`: the device is there and can't be used, or wasn't there in 2^64 - 1 tries.
     fn wait(&mut self) -> Result<Wire<'a, R>, CallerFault> {
         if let Some(first) = self.first.take() {
             return Ok(first);
@@ -109,7 +107,7 @@ impl<'a, R: Files<File = File> + Clock, I> DeviceCallers<'a, R, I> {
             match wire_on(self.rt, self.path) {
                 Ok(wire) => return Ok(wire),
                 Err(Some(_)) => return Err(CallerFault::Socket),
-                Err(None) => self.rest(),
+                Err(None) => self.pause(),
             }
         }
         Err(CallerFault::Socket)
@@ -123,28 +121,28 @@ impl<'a, R: Files<File = File> + Clock, I> DeviceCallers<'a, R, I> {
         let end = End::Device(&wire);
         serve_caller(
             self.instrument,
-            &mut Caller::new(self.rt, &end, self.clock),
+            &mut RequestReader::new(self.rt, &end, self.clock),
             &mut ToWriter::new(ReplyWriter::new(self.rt, &end, self.clock)),
             self.max_reads,
         )
     }
 
-    // Sleeps for a second.
-    fn rest(&self) {
-        thread::sleep(self.rt, Duration::from_secs(REST));
+    // Sleeps for `PAUSE` seconds.
+    fn pause(&self) {
+        thread::sleep(self.rt, Duration::from_secs(PAUSE));
     }
 }
 
 impl<'a, R: Files<File = File> + Clock, I: Simulates> Callers for DeviceCallers<'a, R, I> {
     ghost served = { λ _. None };
 
-    // Serves the device until its end, once it is there, and then rests for a second, however that ended.
+    // Serves the device until its end, once it is there, and then pauses for a second, however that ended.
     fn serve_next(&mut self) -> Result<(), CallerFault> {
         let ended = match self.wait() {
             Ok(wire) => self.serve(wire),
             Err(fault) => Err(fault),
         };
-        self.rest();
+        self.pause();
         ended
     }
 }

@@ -5,17 +5,17 @@ ghost use Rattle.gc_texts.specs.declared.fault.RunFault.{RunFault};
 ghost use Rattle.gc_ask.specs.Links.{StepEnds, CountsReplies};
 ghost use Rattle.gc_lines.specs.Answering.{ports_of};
 
-use crate::unheard::Unheard;
+use crate::unused::Unused;
 use gc_lines::{Answers, Assembler, Line, Outgoing, Sink, Source, write_whole};
 use gc_texts::RunFault;
 
-/// An instrument, and the assembler that gives it its lines: the simulator, or the instrument of a scene.
+/// An instrument (the simulator, or that of a scene), and the assembler that gives it its lines.
 #[derive(Drop)]
 pub(crate) struct InstrumentEnd<T> {
     instrument: T,
     assembler: Assembler,
     // The bytes that were read and aren't used yet.
-    ahead: Unheard,
+    ahead: Unused,
 }
 
 impl<T: Answers> InstrumentEnd<T> {
@@ -24,12 +24,13 @@ impl<T: Answers> InstrumentEnd<T> {
         InstrumentEnd {
             instrument,
             assembler: Assembler::new(),
-            ahead: Unheard::new(),
+            ahead: Unused::new(),
         }
     }
 
-    // Reads, at most `reads` times, until one line is answered, writes that reply, and subtracts from `reads` the reads made. The
-    // faults are `TooManyReads`, `Read`, `LinkClosed`, and `Write`, which counts `place` replies before this one.
+    // Reads, at most `reads` times, until one line is answered, writes that reply, and subtracts from `reads` the reads that were answered.
+    // Bytes after that line stay for the next call. `Err`: `TooManyReads` where no read is left, `Read` where one failed, `LinkClosed` at
+    // the end of what comes, and `Write` where the reply couldn't be written whole, which counts `place` replies before it.
     pub(crate) fn answer_line<I: Source, O: Sink>(
         &mut self,
         place: usize,
@@ -65,8 +66,8 @@ impl<T: Answers> InstrumentEnd<T> {
         })
     }
 
-    // Takes the lines that were read up to the first that draws a reply, and returns whether one does. That reply is then in
-    // `text`. A line that comes in several pieces is put together in `cut`.
+    // Takes the lines that were read up to the first that draws a reply, and returns whether one does. That reply is then in `text`, with
+    // its CR LF. If none does, all bytes that were read are used. A line that comes in several pieces is put together in `cut`.
     fn answer_ahead(&mut self, text: &mut Outgoing, cut: &mut Line) -> bool {
         let left = self.ahead.left();
         let mut at = 0;

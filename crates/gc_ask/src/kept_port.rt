@@ -1,13 +1,13 @@
 //! A port of this machine that is kept: each connection is served with a restarted instrument, and none waits for ever.
 
 ghost use Rattle.std.specs.Prelude.{◌≡◌, None, IfErr, IfOk};
-ghost use Rattle.gc_ask.specs.Keeping.{Kept, most_callers};
+ghost use Rattle.gc_ask.specs.Keeping.{ServesCallers, most_callers};
 ghost use Rattle.gc_texts.specs.declared.fault.RunFault.{RunFault};
 
 use crate::address::Address;
 use crate::busy_clock::BusyClock;
-use crate::caller::{Caller, End, ReplyWriter, serve_caller};
-use crate::callers::{CallerFault, Callers, keep};
+use crate::caller::{End, ReplyWriter, RequestReader, serve_caller};
+use crate::callers::{CallerFault, Callers, PAUSE, keep};
 use crate::simulated::Simulates;
 use gc_lines::ToWriter;
 use gc_links::accept;
@@ -17,15 +17,12 @@ use std::net::{Net, TcpListener, TcpStream};
 use std::thread;
 use std::time::{Clock, Duration};
 
-// The rest after an accept that failed, in seconds: where no descriptor is free each further accept fails at once.
-const REST: u64 = 1;
-
-/// How a port is kept.
+/// How a port or a device is kept.
 #[derive(Clone, Copy, Debug, PartialEq, Eq)]
 pub struct Keeping {
     /// How many connections are served. `None`: as many as come.
     pub connections: Option<u32>,
-    /// After how many seconds in which nothing came, or nothing was taken, a connection is closed. 0 counts as 1.
+    /// After how many seconds in which nothing came, or nothing was taken, a connection is closed. 0 counts as 1. A device isn't closed so.
     pub idle: u32,
     /// How many reads are made of each connection at most.
     pub max_reads: u32,
@@ -48,7 +45,7 @@ impl Keeping {
 /// line is written on `messages`. Returns whether all of these lines were written.
 ///
 /// `Socket` comes where the bind failed, and nothing was written. A connection that couldn't be accepted counts as one, with this
-/// fault, and a rest of a second follows it. The instrument is left in the state after the lines that it answered last.
+/// fault, and a pause of a second follows it. The instrument is left in the state after the lines that it answered last.
 pub fn keep_tcp<R: Net<Listener = TcpListener, Stream = TcpStream> + Clock, I: Simulates, E: Write>(
     rt: &R,
     address: Address<'_>,
@@ -57,7 +54,7 @@ pub fn keep_tcp<R: Net<Listener = TcpListener, Stream = TcpStream> + Clock, I: S
     clock: Option<&BusyClock>,
     messages: &mut E,
 ) -> Result<bool, RunFault>
-    ensures kept { IfOk result (λ all_written. Kept (most_callers keeping.connections) all_written None None (E.contents messages.old) (E.contents messages.new)) }
+    ensures kept { IfOk result (λ all_written. ServesCallers (most_callers keeping.connections) all_written None None (E.contents messages.old) (E.contents messages.new)) }
     ensures fault { IfErr result (λ fault. (fault ≡ RunFault.Socket) × (messages.new ≡ messages.old)) }
 {
     let Ok(listener) = address.listen(rt) else {
@@ -76,7 +73,7 @@ pub fn keep_on<R: Clock, I: Simulates, E: Write>(
     clock: Option<&BusyClock>,
     messages: &mut E,
 ) -> bool
-    ensures { Kept (most_callers keeping.connections) result None None (E.contents messages.old) (E.contents messages.new) }
+    ensures { ServesCallers (most_callers keeping.connections) result None None (E.contents messages.old) (E.contents messages.new) }
 {
     let mut callers = PortCallers {
         rt,
@@ -103,34 +100,34 @@ struct PortCallers<'a, R, I> {
 impl<'a, R: Clock, I: Simulates> Callers for PortCallers<'a, R, I> {
     ghost served = { λ _. None };
 
-    // Waits for the next connection and serves it. `Socket`: no connection could be accepted, and then this sleeps for `REST`
+    // Waits for the next connection and serves it. `Socket`: no connection could be accepted, and then this sleeps for `PAUSE`
     // seconds; or the connection's time-outs couldn't be set. A read that timed out is the fault `Idle`, any other failed read
     // is `Read`.
     fn serve_next(&mut self) -> Result<(), CallerFault> {
         let Ok(stream) = accept(self.listener) else {
-            thread::sleep(self.rt, Duration::from_secs(REST));
+            thread::sleep(self.rt, Duration::from_secs(PAUSE));
             return Err(CallerFault::Socket);
         };
         let Ok(()) = bound_waits(&stream, self.idle) else {
             return Err(CallerFault::Socket);
         };
-        let line = End::Stream(&stream, Some(self.idle));
-        let mut caller = Caller::new(self.rt, &line, self.clock);
+        let connection = End::Stream(&stream, Some(self.idle));
+        let mut reader = RequestReader::new(self.rt, &connection, self.clock);
         let end = serve_caller(
             self.instrument,
-            &mut caller,
-            &mut ToWriter::new(ReplyWriter::new(self.rt, &line, self.clock)),
+            &mut reader,
+            &mut ToWriter::new(ReplyWriter::new(self.rt, &connection, self.clock)),
             self.max_reads,
         );
         match end {
-            Err(CallerFault::Read) if caller.is_idle() => Err(CallerFault::Idle),
+            Err(CallerFault::Read) if reader.is_idle() => Err(CallerFault::Idle),
             _ => end,
         }
     }
 }
 
 // Sets the time-outs of a stream, so that no read and no write waits longer than `longest`: a caller who takes no replies would
-// hold up all others, as an idle one does.
+// hold up all others, as an idle one does. `Err`: the system refused one of them.
 fn bound_waits(stream: &TcpStream, longest: Duration) -> io::Result<()> {
     stream.set_read_timeout(Some(longest))?;
     stream.set_write_timeout(Some(longest))

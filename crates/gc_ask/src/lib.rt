@@ -1,4 +1,4 @@
-//! Commands asked over a link, one at a time.
+//! Commands asked over a link, one at a time; and an instrument served to callers, over connections and devices.
 #![tactic(auto)]
 
 mod address;
@@ -16,14 +16,14 @@ mod link;
 mod looped;
 mod simulated;
 mod slow;
-mod unheard;
+mod unused;
 
 pub use address::Address;
 pub use ask::run_ask;
 pub use busy_clock::BusyClock;
 pub use callers::{CallerFault, Callers, keep};
 pub use connections::{
-    MOST_CONNECTIONS, ask_at, ask_tcp, fault_of, loop_tcp, loop_tcp_on, serve_on, serve_tcp,
+    MOST_CONNECTIONS, ask_at, ask_tcp, fault_of_reason, loop_tcp, loop_tcp_on, serve_on, serve_tcp,
 };
 pub use devices::{keep_device, serve_device};
 pub use kept_port::{Keeping, keep_on, keep_tcp};

@@ -7,7 +7,7 @@ ghost use Rattle.gc_ask.specs.Asking.{taken_by};
 ghost use Rattle.gc_ask.specs.Links.{BothStep, OnlyReads, ReadsOnce, Sends, TakesRequest, source_of};
 ghost use Rattle.gc_texts.specs.declared.fault.RunFault.{RunFault};
 
-use crate::unheard::Unheard;
+use crate::unused::Unused;
 use gc_lines::{Line, PortFailed, Sink, Source, write_line};
 use gc_texts::RunFault;
 
@@ -16,10 +16,10 @@ pub(crate) trait Link {
     ghost use Rattle.std.specs.Prelude.{Bool};
     ghost use Rattle.gc_lines.specs.Answering.{Ports};
     ghost use Rattle.gc_ask.specs.Links.{Held};
-    ghost use Rattle.gc_ask.specs.declared.unheard.TheConstants.{ROOM};
+    ghost use Rattle.gc_ask.specs.declared.unused.TheConstants.{ROOM};
 
     /// Whether somebody other than this program answers at the other end.
-    ghost alone: { Bool };
+    ghost is_remote: { Bool };
 
     /// What is seen of the client's end.
     ghost client: { Self → Ports };
@@ -31,9 +31,10 @@ pub(crate) trait Link {
     ghost held: { Self → Held };
 
     /// Sends the request at this place (its number, counted from 0). Where this program answers at the other end, too, it has
-    /// the request answered there, in at most `reads` reads, and subtracts from `reads` those that it made.
+    /// the request answered there, in at most `reads` reads, and subtracts from `reads` those that were answered. `Err`: `Write`, or a
+    /// fault of the other end, which are those of `InstrumentEnd::answer_line`.
     fn send(&mut self, place: usize, request: &Line, reads: &mut u32) -> Result<(), RunFault>
-        ensures takes { TakesRequest alone place (with_end request.now.items) (client self.old).taken (client self.new).taken result }
+        ensures takes { TakesRequest is_remote place (with_end request.now.items) (client self.old).taken (client self.new).taken result }
         ensures ends { BothStep (client self.old) (client self.new) (instrument self.old) (instrument self.new) result }
         ensures unread { source_of (client self.new) ≡ source_of (client self.old) }
         ensures reads { (instrument self.new).reads + reads.new ≡ (instrument self.old).reads + reads.old }
@@ -42,7 +43,7 @@ pub(crate) trait Link {
 
     /// Reads the client's end once into `ahead`, in place of what was left there. Returns false at the end of the stream. `Err`: the source
     /// failed.
-    fn read(&mut self, ahead: &mut Unheard) -> Result<bool, PortFailed>
+    fn read(&mut self, ahead: &mut Unused) -> Result<bool, PortFailed>
         ensures few { length ahead.new ≤ ROOM }
         ensures end { result ≡ Ok false → ahead.new ≡ [] }
         ensures bytes { ReadsOnce (source_of (client self.old)) (source_of (client self.new)) ahead.new result }
@@ -51,30 +52,31 @@ pub(crate) trait Link {
 
 /// A link at whose other end somebody else answers.
 #[derive(Drop)]
-pub(crate) struct Alone<'a, 'b, I, O> {
+pub(crate) struct Remote<'a, 'b, I, O> {
     pub(crate) source: &'a mut I,
     pub(crate) sink: &'b mut O,
 }
 
-impl<'a, 'b, I: Source, O: Sink> Link for Alone<'a, 'b, I, O> {
+impl<'a, 'b, I: Source, O: Sink> Link for Remote<'a, 'b, I, O> {
     ghost use Rattle.gc_lines.specs.Answering.{ports_of};
     ghost use Rattle.gc_ask.specs.Links.{no_ports};
 
-    ghost alone = { true };
+    ghost is_remote = { true };
 
     ghost client = { λ a. ports_of I.Source a.source.now O.Sink a.sink.now };
 
     ghost instrument = { λ _. no_ports };
 
+    // There is no instrument's end: the client's references are named in its place.
     ghost held = { λ a. record { client_in = a.source.ghost_name; client_out = a.sink.ghost_name; instrument_in = a.source.ghost_name; instrument_out = a.sink.ghost_name } };
 
-    // Sends the request. Whoever is at the other end answers it.
+    // Sends the request. Whoever is at the other end answers it. The only fault is `Write`.
     fn send(&mut self, place: usize, request: &Line, _reads: &mut u32) -> Result<(), RunFault> {
         send_line(place, request, self.sink)
     }
 
     // Reads once of the source, in place of what was left of the last read.
-    fn read(&mut self, ahead: &mut Unheard) -> Result<bool, PortFailed> {
+    fn read(&mut self, ahead: &mut Unused) -> Result<bool, PortFailed> {
         ahead.read(self.source)
     }
 }

@@ -10,7 +10,7 @@ ghost use Rattle.gc_texts.specs.WholeTexts.{input_of};
 use crate::ask::run_over;
 use crate::instrument_end::InstrumentEnd;
 use crate::link::{Link, send_line};
-use crate::unheard::Unheard;
+use crate::unused::Unused;
 use gc_instrument::Instrument;
 use gc_lines::{Answers, Line, PortFailed, Sink, Source};
 use gc_texts::RunFault;
@@ -38,8 +38,12 @@ pub fn run_loop<S: Source, A: Source, B: Sink, C: Source, D: Sink, K: Sink>(
         (seen_of A.Source client_in.old B.Sink client_out.old C.Source instrument_in.old D.Sink instrument_out.old K.Sink sink.old)
         (seen_of A.Source client_in.new B.Sink client_out.new C.Source instrument_in.new D.Sink instrument_out.new K.Sink sink.new)
         result }
+
+    // At most `max_reads` reads of both ends were answered, and exactly as many where `TooManyReads` is the fault.
     ensures bound { A.reads client_in.new + C.reads instrument_in.new ≤ A.reads client_in.old + C.reads instrument_in.old + max_reads }
     ensures too_many { result ≡ Err RunFault.TooManyReads → A.reads client_in.new + C.reads instrument_in.new ≡ A.reads client_in.old + C.reads instrument_in.old + max_reads }
+
+    // Where memory was refused, nothing was read of the link, sent or written.
     ensures memory { result ≡ Err RunFault.Memory → IsUnused (seen_of A.Source client_in.old B.Sink client_out.old C.Source instrument_in.old D.Sink instrument_out.old K.Sink sink.old)
         (seen_of A.Source client_in.new B.Sink client_out.new C.Source instrument_in.new D.Sink instrument_out.new K.Sink sink.new) }
 {
@@ -64,7 +68,7 @@ pub struct Duplex<I, O> {
 }
 
 /// Asks the commands of a source as `run_loop` does, with any instrument in place of the simulator, also that of a scene with rules.
-/// The results are the same.
+/// The faults and the meaning of the clauses are the same.
 pub fn run_loop_on<S: Source, A: Source, B: Sink, C: Source, D: Sink, K: Sink, T: Answers + Drop>(
     alloc: Global,
     instrument: T,
@@ -78,12 +82,8 @@ pub fn run_loop_on<S: Source, A: Source, B: Sink, C: Source, D: Sink, K: Sink, T
         (seen_over A.Source B.Sink client.old C.Source D.Sink instrument_end.old K.Sink sink.old)
         (seen_over A.Source B.Sink client.new C.Source D.Sink instrument_end.new K.Sink sink.new)
         result }
-
-    // At most `max_reads` reads of both ends were answered, and exactly as many where `TooManyReads` is the fault.
     ensures bound { A.reads client.new.source + C.reads instrument_end.new.source ≤ A.reads client.old.source + C.reads instrument_end.old.source + max_reads }
     ensures too_many { result ≡ Err RunFault.TooManyReads → A.reads client.new.source + C.reads instrument_end.new.source ≡ A.reads client.old.source + C.reads instrument_end.old.source + max_reads }
-
-    // Where memory was refused, nothing was read of the link, sent or written.
     ensures memory { result ≡ Err RunFault.Memory → IsUnused (seen_over A.Source B.Sink client.old C.Source D.Sink instrument_end.old K.Sink sink.old)
         (seen_over A.Source B.Sink client.new C.Source D.Sink instrument_end.new K.Sink sink.new) }
 {
@@ -112,7 +112,7 @@ impl<'a, 'b, 'c, 'd, 'e, A: Source, B: Sink, C: Source, D: Sink, T: Answers> Lin
     for Loop<'a, 'b, 'c, 'd, 'e, A, B, C, D, T> {
     ghost use Rattle.std.specs.Prelude.{false};
 
-    ghost alone = { false };
+    ghost is_remote = { false };
 
     ghost client = { λ l. ports_of A.Source l.client_in.now B.Sink l.client_out.now };
 
@@ -120,7 +120,8 @@ impl<'a, 'b, 'c, 'd, 'e, A: Source, B: Sink, C: Source, D: Sink, T: Answers> Lin
 
     ghost held = { λ l. record { client_in = l.client_in.ghost_name; client_out = l.client_out.ghost_name; instrument_in = l.instrument_in.ghost_name; instrument_out = l.instrument_out.ghost_name } };
 
-    // Sends the request at the client's end, and has the instrument answer one line at its own.
+    // Sends the request at the client's end, and has the instrument answer one line at its own. The faults are those of `send_line` and
+    // of `InstrumentEnd::answer_line`.
     fn send(&mut self, place: usize, request: &Line, reads: &mut u32) -> Result<(), RunFault> {
         if let Err(fault) = send_line(place, request, self.client_out) {
             return Err(fault);
@@ -130,7 +131,7 @@ impl<'a, 'b, 'c, 'd, 'e, A: Source, B: Sink, C: Source, D: Sink, T: Answers> Lin
     }
 
     // Reads once at the client's end, in place of what was left of the last read.
-    fn read(&mut self, ahead: &mut Unheard) -> Result<bool, PortFailed> {
+    fn read(&mut self, ahead: &mut Unused) -> Result<bool, PortFailed> {
         ahead.read(self.client_in)
     }
 }

@@ -38,7 +38,8 @@ impl<'a> Slow<'a> {
         Slow { clock, slow }
     }
 
-    // Appends the reply to a line that came at this moment, with CR LF, if there is one, and returns whether there is.
+    // Appends the reply to a line that came at this moment of the clock (`at`, in milliseconds), with CR LF, if there is one, and returns
+    // whether there is.
     fn hear(&mut self, line: &[u8], at: u64, text: &mut Outgoing) -> bool
         requires { array_vec_len text.old + 514 ≤ 8192 }
         ensures heard { AppendsAnswer (HearsSometime self.old (Frame.Line (record { items = line.now })) self.new) text.old.items text.new.items result }
@@ -75,7 +76,7 @@ impl<'a> Answers for Slow<'a> {
 impl<'a> Simulates for Slow<'a> {
     ghost use Rattle.gc_ask.specs.Simulating.{ServesSlowAnew};
 
-    ghost served = { ServesSlowAnew };
+    ghost serving = { ServesSlowAnew };
 
     fn serve_anew<S: Source, K: Sink>(
         &mut self,

@@ -10,7 +10,7 @@ const TEXTS: [&[u8]; 4] = [
     b"-27182.8182845",
 ];
 
-/// Reads `count` doubles, and returns the sum of their scales.
+/// Reads `count` doubles, those of `TEXTS` in turn, and returns the sum of their scales.
 pub fn read(count: u32) -> u64 {
     let mut sum = 0u64;
     for n in 0..count {
@@ -21,7 +21,7 @@ pub fn read(count: u32) -> u64 {
     sum
 }
 
-/// Writes `count` doubles, and returns the sum of the lengths of their texts.
+/// Writes `count` doubles, those of `TEXTS` in turn, and returns the sum of the lengths of their texts.
 pub fn write(count: u32) -> u64 {
     let decimals = &[
         Decimal::literal(123_456_789_012, 8),

@@ -3,7 +3,7 @@
 use gc_files::{RowsFile, SystemFile, end_at, open_at};
 use gc_lines::{Durable, write_whole};
 
-// The header of a file of rows.
+// The header of a file of rows in the form CSV, as gc_rows writes it.
 const HEAD: &[u8] =
     b"run,sent,time,cycle,place,target,name,procedure,outcome,fault,rc_com,rc,values,quality,attempt\n";
 

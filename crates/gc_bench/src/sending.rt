@@ -45,8 +45,8 @@ fn send_one<W: Window<Asked = Call>>(client: &mut Client<W>, target: u32, line: 
     }
 }
 
-// Lets the client hear a reply, and returns the scale of the distance in it. `bench/parts.sh` counts the instructions of this function by
-// its name.
+// Lets the client hear a reply, and returns the scale of the distance in the first settlement that it gave (`scale_of`).
+// `bench/parts.sh` counts the instructions of this function by its name.
 #[inline(never)]
 fn hear_reply<W: Window<Asked = Call>>(
     client: &mut Client<W>,
@@ -57,15 +57,15 @@ fn hear_reply<W: Window<Asked = Call>>(
     scale_of(settled.as_slice())
 }
 
-// The scale of the first settlement's distance, and 0 where there is none.
+// The scale of the distance in the first settlement's answer, and 0 where there is no settlement, or none in it.
 fn scale_of(settled: &[Settlement<Call>]) -> u64 {
-    match settled.first() {
-        Some(settlement) => match &settlement.outcome {
-            Outcome::Answered(Reading::Value(Answer::Measured { distance, .. }), _) => {
-                u64::from(distance.scale())
-            }
-            _ => 0,
-        },
-        None => 0,
+    let Some(settlement) = settled.first() else {
+        return 0;
+    };
+    match &settlement.outcome {
+        Outcome::Answered(Reading::Value(Answer::Measured { distance, .. }), _) => {
+            u64::from(distance.scale())
+        }
+        _ => 0,
     }
 }

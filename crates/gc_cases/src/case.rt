@@ -7,7 +7,7 @@ use crate::told::number_or;
 pub struct Case<'a> {
     /// The case's name, which follows `==`.
     pub name: &'a str,
-    // The lines of the case, each a key and its value.
+    // The lines of the case, as the text has them: those with a key and its value, and those that say nothing.
     lines: &'a str,
 }
 
@@ -46,11 +46,12 @@ fn value_of<'a>(line: &'a str, key: &str) -> Option<&'a str> {
     rest.strip_prefix(' ')
 }
 
-/// The first case of a text, from its `== ` on, and the text after it. `None`: the text has no case.
+/// The first case of a text, from its first `== ` on, and the text after it, which begins before the next case's `== ` or is empty.
+/// `None`: the text has no case.
 pub fn cut_case(text: &str) -> Option<(Case<'_>, &str)> {
     let (_, cases) = text.split_once("== ")?;
-    let (name, behind) = cases.split_once('\n').unwrap_or((cases, ""));
-    let lines = behind.split_once("\n== ").map_or(behind, |cut| cut.0);
-    let rest = behind.get(lines.len()..).unwrap_or("");
+    let case = cases.split_once("\n== ").map_or(cases, |cut| cut.0);
+    let (name, lines) = case.split_once('\n').unwrap_or((case, ""));
+    let rest = cases.get(case.len()..).unwrap_or("");
     Some((Case { name, lines }, rest))
 }

@@ -2,15 +2,15 @@
 
 use std::alloc::{AllocError, Global};
 
-/// The bytes that a value stands for.
+/// The bytes that a value stands for. `Err`: memory ran out.
 pub fn bytes_of(alloc: Global, value: &str) -> Result<Vec<u8>, AllocError> {
     let mut bytes = Vec::new(alloc);
-    push_all(&mut bytes, value)?;
+    push_bytes_of(&mut bytes, value)?;
     Ok(bytes)
 }
 
-/// Appends the bytes that a value stands for.
-pub fn push_all(bytes: &mut Vec<u8>, value: &str) -> Result<(), AllocError> {
+/// Appends the bytes that a value stands for. `Err`: memory ran out, and some of them may be appended.
+pub fn push_bytes_of(bytes: &mut Vec<u8>, value: &str) -> Result<(), AllocError> {
     let mut rest = value.as_bytes();
     // A value stands for no more bytes than it has.
     for _ in 0..value.len() {
@@ -45,8 +45,8 @@ fn next_byte(value: &[u8]) -> Option<(u8, &[u8])> {
 }
 
 // The byte that a backslash and the text `rest` after it stand for, and the text after that: `n`, `r` and `t` stand for LF, CR and
-// a tab, `x` and two digits for the byte with that value, any other byte for itself, and a backslash at the end of the text for
-// itself.
+// a tab, `x` and the two bytes after it for the byte that these write in hexadecimal (`digit_of`), any other byte for itself, and a
+// backslash at the end of the text for itself.
 fn escape_of(rest: &[u8]) -> (u8, &[u8]) {
     match rest {
         [b'n', behind @ ..] => (b'\n', behind),

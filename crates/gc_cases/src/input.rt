@@ -1,11 +1,11 @@
 //! The bytes that a case gives a player as input.
 
 use crate::case::Case;
-use crate::escapes::push_all;
+use crate::escapes::push_bytes_of;
 use std::alloc::{AllocError, Global};
 
-/// A case's input: the bytes under `front`, those under `input`, as many times as the number under `times` says (once without
-/// one), and those under `behind`.
+/// A case's input: the bytes under `front`, those under `input` as many times as the number under `times` says (once where no number
+/// is there), and those under `behind`; none for a key that the case doesn't have. `Err`: memory ran out.
 pub fn input_of(alloc: Global, case: &Case<'_>) -> Result<Vec<u8>, AllocError> {
     let mut input = Vec::new(alloc);
     push_input(case, &mut input)?;
@@ -14,9 +14,9 @@ pub fn input_of(alloc: Global, case: &Case<'_>) -> Result<Vec<u8>, AllocError> {
 
 // Appends a case's input, as `input_of` says.
 fn push_input(case: &Case<'_>, input: &mut Vec<u8>) -> Result<(), AllocError> {
-    push_all(input, case.value("front"))?;
+    push_bytes_of(input, case.value("front"))?;
     for _ in 0..case.number("times", 1) {
-        push_all(input, case.value("input"))?;
+        push_bytes_of(input, case.value("input"))?;
     }
-    push_all(input, case.value("behind"))
+    push_bytes_of(input, case.value("behind"))
 }

@@ -6,14 +6,17 @@ use crate::told::Told;
 use std::alloc::{AllocError, Global};
 use std::{fs, io};
 
-/// Plays the cases of files with one ending.
+/// Plays the cases of files.
 pub trait Player {
-    /// Plays a case, and appends a line to `wrong` for each key where something else came than the case expects (`Case::tell`).
+    /// Plays a case, and appends a line to `wrong` for each key or row where something else came than the case expects (`Case::tell`,
+    /// `play_rows`). After an `Err` the case counts as one that came to something else.
     fn play(&self, rt: &HostRuntime, case: &Case<'_>, wrong: &mut Told) -> io::Result<()>;
 }
 
 /// Plays each file of a folder with this ending, as `.stations`, in the order of their names. For each it prints what differs from what
-/// its cases expect, and a line with the counts. It returns whether all cases of all files came to what they expect.
+/// its cases expect, and a line with the counts. It returns whether all cases of all files came to what they expect, and `true` where
+/// there is no such file. `Err`: the folder or a file can't be read, a line can't be printed, or memory ran out; then no further file is
+/// played.
 pub fn play_folder<P: Player>(
     rt: &HostRuntime,
     folder: &str,
@@ -24,7 +27,8 @@ pub fn play_folder<P: Player>(
     play_files(rt, folder, names.as_slice(), player)
 }
 
-/// The names of a folder's files that have an ending, in order.
+/// The names of a folder's files that have an ending, in order; of all with an empty ending. `Err`: the folder can't be read, or memory
+/// ran out.
 pub fn names_of(rt: &HostRuntime, folder: &str, ending: &str) -> io::Result<Vec<String>> {
     let mut names = Vec::new(rt.alloc());
     add_names(rt, folder, ending, &mut names)?;
@@ -72,7 +76,8 @@ fn play_files<P: Player>(
     Ok(are_right)
 }
 
-// Plays a file of a folder, prints how it went, and returns whether all its cases came to what they expect.
+// Plays a file of a folder, prints how it went, and returns whether all its cases came to what they expect. Where what differs isn't
+// UTF-8, `no text` is printed in its place.
 fn play_file<P: Player>(
     rt: &HostRuntime,
     folder: &str,
@@ -117,15 +122,16 @@ fn play_text<P: Player>(rt: &HostRuntime, text: &str, player: &P, wrong: &mut To
         };
         rest = behind;
         count = count.saturating_add(1);
-        if is_right(rt, player, &case, wrong) {
+        if play_case(rt, player, &case, wrong) {
             right = right.saturating_add(1);
         }
     }
     (count, right)
 }
 
-// Plays a case, and returns whether it came to what it expects: nothing was appended to `wrong`. An error of the system is appended.
-fn is_right<P: Player>(rt: &HostRuntime, player: &P, case: &Case<'_>, wrong: &mut Told) -> bool {
+// Plays a case, and returns whether it came to what it expects: nothing was appended to `wrong`, and memory didn't run out for a line
+// of it. A line is appended where the player returns an error, too.
+fn play_case<P: Player>(rt: &HostRuntime, player: &P, case: &Case<'_>, wrong: &mut Told) -> bool {
     let before = wrong.size();
     if player.play(rt, case, wrong).is_err() {
         case.tell_wrong("end", b"an error of the system", wrong);

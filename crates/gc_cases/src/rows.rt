@@ -15,8 +15,9 @@ pub trait Rows {
     fn play(&mut self, alloc: Global, word: &str, what: &str, bytes: &[u8], came: &mut Told);
 }
 
-/// Plays the rows of a case, at most 10,000. Where something else came than what follows a row's arrow, a line with it is appended
-/// to `wrong`; so is one for a case without rows.
+/// Plays the rows of a case, and none after the first 10,000. Where something else came than what follows a row's arrow, a line with it
+/// is appended to `wrong`; so is one for a case without rows. Once memory ran out for what came of a row, there is one for each row from
+/// there on.
 pub fn play_rows<R: Rows>(alloc: Global, case: &Case<'_>, rows: &mut R, wrong: &mut Told) {
     if case.value("do").is_empty() {
         return case.tell_wrong("rows", b"none", wrong);
@@ -31,7 +32,7 @@ pub fn play_rows<R: Rows>(alloc: Global, case: &Case<'_>, rows: &mut R, wrong: &
     }
 }
 
-// Plays one row of a case, and compares what came with what follows its arrow.
+// Plays one row of a case, and where something else came than what follows its arrow, appends a line with it to `wrong`.
 fn play_row<R: Rows>(
     alloc: Global,
     case: &Case<'_>,
@@ -47,7 +48,7 @@ fn play_row<R: Rows>(
     }
 }
 
-// Plays what is before a row's arrow.
+// Plays what is before a row's arrow, a word and the text after it. `came` lacks a part if memory ran out for that text's bytes.
 fn play_given<R: Rows>(alloc: Global, given: &str, rows: &mut R, came: &mut Told) {
     let (word, what) = cut_word(given);
     match bytes_of(alloc, what) {
@@ -71,7 +72,8 @@ pub fn cut_word(text: &str) -> (&str, &str) {
     text.split_once(' ').unwrap_or((text, ""))
 }
 
-/// Of the bytes for which a text stands, those after its first word and the space after it. `word` is that word.
+/// Of the bytes for which a text stands, those after its first word and the space after it; none if there is no space. `word` is that
+/// word, and has to be without a backslash, so that it stands for as many bytes as it has.
 pub fn bytes_behind<'a>(word: &str, bytes: &'a [u8]) -> &'a [u8] {
     bytes.get(word.len().saturating_add(1)..).unwrap_or(b"")
 }

@@ -5,7 +5,7 @@ use crate::escapes::spells;
 use crate::told::Told;
 
 impl<'a> Case<'a> {
-    /// Whether the value under a key is this one.
+    /// Whether the value under a key is this text, as it is written there, with its backslashes. Without such a line the value is empty.
     pub fn has(&self, key: &str, value: &str) -> bool {
         self.value(key) == value
     }
@@ -24,7 +24,7 @@ impl<'a> Case<'a> {
         }
     }
 
-    /// Appends a line with what came for a key to `wrong`.
+    /// Appends a line with what came for a key to `wrong`, as a value spells it: `NAME: KEY is CAME`.
     pub fn tell_wrong(&self, key: &str, came: &[u8], wrong: &mut Told) {
         wrong.text(self.name);
         wrong.text(": ");

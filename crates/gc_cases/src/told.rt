@@ -28,7 +28,7 @@ impl Told {
         self.bytes.as_slice()
     }
 
-    /// The bytes of the text, for a caller that appends to them by itself.
+    /// The bytes of the text, for a caller that appends to them by itself, and calls `lack` where it gets no memory.
     pub fn writer(&mut self) -> &mut Vec<u8> {
         &mut self.bytes
     }
@@ -38,7 +38,7 @@ impl Told {
         self.lacks
     }
 
-    /// Whether a value of a case stands for the text, which lacks no part.
+    /// Whether the text lacks no part, and a value of a case stands for it.
     pub fn is(&self, value: &str) -> bool {
         !self.lacks && spells(value, self.as_bytes())
     }
@@ -70,7 +70,7 @@ impl Told {
     }
 
     /// Appends the text `other`. Where `other` lacks a part, this text lacks one, too.
-    pub fn told(&mut self, other: &Told) {
+    pub fn append(&mut self, other: &Told) {
         self.bytes(other.as_bytes());
         self.lacks |= other.lacks;
     }
@@ -124,12 +124,12 @@ impl Told {
     }
 }
 
-// The hexadecimal digit of a number below 16.
+// The hexadecimal digit of a number below 16, and `?` for any other number.
 fn hex_of(digit: u8) -> u8 {
     *b"0123456789abcdef".get(usize::from(digit)).unwrap_or(&b'?')
 }
 
-/// The number that a word writes in decimal digits; `or` if it is no number of 64 bits.
+/// The number that a word writes in decimal digits, with or without a `+` before them; `or` if it is no number of 64 bits.
 pub fn number_or(word: &str, or: u64) -> u64 {
     word.parse::<u64>().unwrap_or(or)
 }

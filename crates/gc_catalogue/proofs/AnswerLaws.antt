@@ -15,7 +15,7 @@ use Rattle.gc_catalogue.specs.Lists.{shown_values}
 use Rattle.gc_catalogue.specs.Readings.{IsReading}
 use Rattle.gc_values.proofs.RoundedDecimals.{rounded_rounds}
 use Rattle.gc_values.proofs.ListLaws.{no_list_fault, one_list_fault, one_values, params_fit}
-use Rattle.gc_catalogue.proofs.Table.{answer_kinds, few_values_out, same_answer, same_answer_kinds, shape-rounded, values-rounded}
+use Rattle.gc_catalogue.proofs.Table.{answer_kinds, few_answer_values, same_answer, same_answer_kinds, shape-rounded, values-rounded}
 
 -- parameters are read as at most one answer of a call
 pub one_answer : (call : Call) (params : List ℕ) (a b : Answer) → IsAnswer call params a → IsAnswer call params b → a ≡ b
@@ -26,7 +26,7 @@ one_answer call params a b x y =
 -- parameters of an answer of the call are not unreadable for it
 pub no_unreadable : (call : Call) (params : List ℕ) (a : Answer) (e : ValueFault) → IsAnswer call params a → IsUnreadable call params e → ⊥
 no_unreadable call params a e x y =
-    no_list_fault (answer_fields a).values params e (few_values_out a) x.values (rw (same_answer_kinds a y.0 (x.of_call ∙ sym y.1)) y.2)
+    no_list_fault (answer_fields a).values params e (few_answer_values a) x.values (rw (same_answer_kinds a y.0 (x.of_call ∙ sym y.1)) y.2)
 
 -- parameters that are unreadable for a call have one fault
 pub one_unreadable : (call : Call) (params : List ℕ) (e f : ValueFault) → IsUnreadable call params e → IsUnreadable call params f → e ≡ f

@@ -1,8 +1,8 @@
 -- Texts joined by commas, and texts each after a comma.
-use Rattle.std.specs.Prelude.{◌≡◌, ◌≢◌, ◌<◌, ◌-◌, ◌++◌, ℕ, List, [], ◌∷◌, Option, length, map, take, refl}
+use Rattle.std.specs.Prelude.{◌≡◌, ◌≢◌, ◌<◌, ◌-◌, ◌++◌, ℕ, List, [], ◌∷◌, Option, length, take, refl}
 use Rattle.std.specs.Fmt.{decimal}
-use Rattle.std.specs.List.{flat_map}
 use Rattle.std.proofs.Common.{sym, ◌∙◌, ap, arith, append_assoc, append-nil, length-append}
+use Rattle.std.proofs.lemmas.List.Folds.{flat_map-map}
 use Rattle.std.proofs.Math.Seq.{take-append_seam}
 use Rattle.gc_lines.specs.Replies.{params_text, reply_text}
 use Rattle.gc_lines.specs.Headers.{id_text}
@@ -13,14 +13,9 @@ use Rattle.gc_catalogue.specs.Lists.{before_commas, behind_commas, params_of}
 use Rattle.gc_values.proofs.TextShape.{text_is_some}
 use Rattle.gc_values.proofs.Trimming.{last_same}
 
--- the texts of values, with a comma put before each, are `behind_commas`
-commas-map : (vs : List Value) → flat_map (λ u. 44 ∷ u) (map text vs) ≡ behind_commas vs
-commas-map [] = refl
-commas-map (v ∷ vs) = rw (commas-map vs) refl
-
 -- joined values are the first one's text and the others after commas
 pub params_of-cons : (v : Value) (vs : List Value) → params_of (v ∷ vs) ≡ text v ++ behind_commas vs
-params_of-cons v vs = ap (λ rest. text v ++ rest) (commas-map vs)
+params_of-cons v vs = ap (λ rest. text v ++ rest) (flat_map-map (λ (u : List ℕ). 44 ∷ u) text vs)
 
 -- parameters of at least one byte follow a comma
 params_text-some : (bytes : List ℕ) → 0 < length bytes → params_text bytes ≡ 44 ∷ bytes

@@ -25,7 +25,7 @@ use Rattle.gc_catalogue.proofs.Table.{number_fits, shape-rounded, values-rounded
 pub call_again : (id : Option ℕ) (call : Call) → IfSome id (λ n. n < 8) → IsFitting call → ReadsBackCall id call
 call_again id call i fits = record { line = request_back (request_of id call) (record { rpc = number_fits call; id = i }); is_call = written_is_call call fits }
 
--- a result that is `Ok` of two values is `Ok` of one: they are equal
+-- a result is `Ok` of at most one value: if it is `Ok` of p and of q, these are equal
 pub read_once : (r : Result RequestFields LineFault) (p q : RequestFields) → r ≡ Ok p → r ≡ Ok q → p ≡ q
 read_once r p q e f = cc
 
@@ -74,7 +74,7 @@ refusal_again call id rc places i some fits = record {
   is_reading = (refl, (λ e. omega arith), refl);
 }
 
--- an id that is below 8 wherever it is `Some` is none, or below 8
+-- where each number i that makes the id `Some i` is below 8, `IfSome` says of the id that it is below 8
 pub some_id : (id : Option ℕ) → ((i : ℕ) → id ≡ Some i → i < 8) → IfSome id (λ i. i < 8)
 some_id None h = tt
 some_id (Some i) h = h i refl

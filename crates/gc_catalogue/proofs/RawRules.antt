@@ -5,7 +5,7 @@ use Rattle.gc_lines.specs.Replies.{ReplyFields}
 use Rattle.gc_values.proofs.EachItem.{each_list}
 use Rattle.gc_values.proofs.ParamLists.{one_list, params_even, even_not_odd}
 use Rattle.gc_values.specs.Lists.{IsListFault, open_quote, faulty_items}
-use Rattle.gc_values.specs.Params.{IsParams, quotes}
+use Rattle.gc_values.specs.Params.{AreTooMany, IsParams, quotes}
 use Rattle.gc_values.specs.declared.fault.ValueFault.{ValueFault}
 use Rattle.gc_values.specs.declared.fault.ValueFault.TheVariants as fault
 use Rattle.gc_catalogue.specs.declared.answer.Reading.{Reading}
@@ -13,7 +13,7 @@ use Rattle.gc_catalogue.specs.declared.answer.Reading.TheVariants as reading
 use Rattle.gc_catalogue.specs.declared.answer.Answer.TheVariants.{Nothing}
 use Rattle.gc_catalogue.specs.declared.raw.RawFault.{RawFault}
 use Rattle.gc_catalogue.specs.declared.raw.RawFault.TheVariants.{InTable, NotPlain, TooLong, OpenQuote, TooMany}
-use Rattle.gc_catalogue.specs.Raws.{AreFewItems, AreManyItems, IsItemsRefusal, IsRawCall, IsRawReading, IsRawRefusal}
+use Rattle.gc_catalogue.specs.Raws.{AreFewItems, IsItemsRefusal, IsRawCall, IsRawReading, IsRawRefusal}
 
 -- parameters of at most 16 items have their double quotes in pairs
 pub few_closed : (params : List ℕ) → AreFewItems params → quotes params % 2 ≡ 0
@@ -24,7 +24,7 @@ pub few_always : (params : List ℕ) → AreFewItems params → (items : List (L
 few_always params few items is = subst (λ (xs : List (List ℕ)). length xs ≤ 16) (one_list params few.0 items few.1 is) few.2
 
 -- parameters that are never split into more than 16 items aren't more than 16 items
-not_many : (params : List ℕ) → ((items : List (List ℕ)) → IsParams params items → length items ≤ 16) → AreManyItems params → ⊥
+not_many : (params : List ℕ) → ((items : List (List ℕ)) → IsParams params items → length items ≤ 16) → AreTooMany params → ⊥
 not_many params few many = let f = few many.0 many.1 in let m = many.2 in omega (arith, f, m)
 
 -- parameters of at most 16 items have no refusal
@@ -63,7 +63,7 @@ no_raw_refusal rpc params TooLong is why = let s = is.short in let l = why.2 in 
 no_raw_refusal rpc params OpenQuote is why = even_not_odd _ is.closed why.3
 no_raw_refusal rpc params TooMany is why = not_many params is.few why.3
 
--- a number and parameters have at most one refusal
+-- a number and parameters are refused for at most one fault, as those of a procedure that isn't in the table
 pub one_raw_refusal : (rpc : ℕ) (params : List ℕ) (e f : RawFault) → IsRawRefusal rpc params e → IsRawRefusal rpc params f → e ≡ f
 one_raw_refusal rpc params InTable InTable x y = refl
 one_raw_refusal rpc params InTable NotPlain x y = absurd (y.0 x.0 x.1)

@@ -44,8 +44,8 @@ pub same_call : (c d : Call) → (call_fields c).number ≡ (call_fields d).numb
 same_call c d number values = grind arith
 
 -- no answer has more than six values
-pub few_values_out : (answer : Answer) → length (answer_fields answer).values ≤ 6
-few_values_out answer = grind arith
+pub few_answer_values : (answer : Answer) → length (answer_fields answer).values ≤ 6
+few_answer_values answer = grind arith
 
 -- answers of one shape have values of the same kinds
 pub same_answer_kinds : (a b : Answer) → (answer_fields a).shape ≡ (answer_fields b).shape → answer_kinds a ≡ answer_kinds b

@@ -7,7 +7,7 @@ use Rattle.gc_catalogue.specs.declared.answer.Reading.{Reading}
 use Rattle.gc_catalogue.specs.declared.asked.Asked.{Asked}
 use Rattle.gc_catalogue.specs.declared.raw.RawCall.{RawCall}
 use Rattle.gc_catalogue.specs.Asked.{asked_line, asked_request, raw_line, IsAsked, IsAskedFitting, IsAskedReading}
-use Rattle.gc_catalogue.specs.Raws.{IsNoProcedure}
+use Rattle.gc_catalogue.specs.Calls.{IsNoProcedure}
 
 -- the request line of a procedure that isn't in the table has at most 512 bytes without CR and LF, and no procedure of the table has its
 -- number
@@ -24,7 +24,8 @@ RawLinesFit = (id : Option ℕ) (raw : RawCall) → IfSome id (λ n. n < 8) → 
 abbrev pub OneAsked : Type 0
 OneAsked = (rpc : ℕ) (params : List ℕ) (a b : Asked) → IsAsked rpc params a → IsAsked rpc params b → a ≡ b
 
--- two requests with the same line ask for the same thing, and have the same id
+-- two requests for what is allowed (`IsAskedFitting`) with the same line, each with an id below 8 or without one, ask for the same thing,
+-- and have the same id
 abbrev pub OneAskedForALine : Type 0
 OneAskedForALine = (i j : Option ℕ) (a b : Asked) → IfSome i (λ n. n < 8) → IfSome j (λ n. n < 8) → IsAskedFitting a → IsAskedFitting b
     → asked_line i a ≡ asked_line j b → (i ≡ j) × (a ≡ b)
@@ -34,7 +35,7 @@ pub record ReadsBackAsked (id : Option ℕ) (asked : Asked) : Type 0 where
   pub line : request_at (asked_line id asked) ≡ Ok (asked_request id asked)
   pub is_asked : IsAsked (asked_request id asked).rpc (asked_request id asked).params asked
 
--- the request line of whatever is asked reads back as what was asked
+-- the request line of whatever is asked and allowed (`IsAskedFitting`), with an id below 8 or without one, reads back as what was asked
 abbrev pub AskedReadBack : Type 0
 AskedReadBack = (id : Option ℕ) (asked : Asked) → IfSome id (λ n. n < 8) → IsAskedFitting asked → ReadsBackAsked id asked
 

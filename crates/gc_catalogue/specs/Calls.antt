@@ -1,6 +1,6 @@
 -- Calls: the table of procedures, and which parameters are a call's. Numbers and names are those of the manual's procedure
 -- tables; which parameters a procedure has, and of which kinds, is this project's own after them.
-use Rattle.std.specs.Prelude.{◌≡◌, ◌≢◌, ℕ, List, [], ◌∷◌}
+use Rattle.std.specs.Prelude.{◌≡◌, ◌≢◌, ℕ, List, [], ◌∷◌, Result, Ok, Err, IsOk}
 use Rattle.gc_lines.specs.declared.request.Request.{Request}
 use Rattle.gc_values.specs.declared.value.Value.{Value}
 use Rattle.gc_values.specs.declared.value.Value.TheVariants.{Double, Long, Short, Bool}
@@ -72,6 +72,14 @@ call_fields (ChangeFace pos_mode atr_mode dummy) = record { number = 9028; value
 -- AUT_FineAdjust
 call_fields (FineAdjust area_hz area_v dummy) = record { number = 9037; values = Double area_hz ∷ Double area_v ∷ Bool dummy ∷ []; answer = shape.Nothing }
 
+-- a procedure of the table has the number
+abbrev pub IsProcedure : ℕ → Type 0
+IsProcedure rpc = (call : Call) × ((call_fields call).number ≡ rpc)
+
+-- no procedure of the table has the number
+abbrev pub IsNoProcedure : ℕ → Type 0
+IsNoProcedure rpc = (call : Call) → (call_fields call).number ≢ rpc
+
 -- a request with this number and these parameters is a request for the call: the number is that of the call's procedure, and the
 -- parameters read as the call's values
 pub record IsCall (rpc : ℕ) (params : List ℕ) (call : Call) : Type 0 where
@@ -81,7 +89,7 @@ pub record IsCall (rpc : ℕ) (params : List ℕ) (call : Call) : Type 0 where
 -- the fault for which the number and the parameters are no call's: no procedure has the number, or the parameters can't be read as those
 -- of the procedure with the number
 abbrev pub IsRefusal : ℕ → List ℕ → CallFault → Type 0
-IsRefusal rpc params Unknown = (call : Call) → (call_fields call).number ≢ rpc
+IsRefusal rpc params Unknown = IsNoProcedure rpc
 IsRefusal rpc params (Parameters e) = (call : Call) × ((call_fields call).number ≡ rpc) × IsListFault (kinds_of (call_fields call).values) params e
 
 -- the call's numbers are in the ranges of their types
@@ -95,3 +103,15 @@ IsCallOf request call = IsCall request.rpc request.params.now call
 -- the fault for which the request is for no call, by its number and its parameters
 abbrev pub IsRefusalOf : Request → CallFault → Type 0
 IsRefusalOf request e = IsRefusal request.rpc request.params.now e
+
+-- if the request is for a call, the result is that call
+abbrev pub GivesCallOf : Request → Result Call CallFault → Type 0
+GivesCallOf request result = (call : Call) → IsCallOf request call → result ≡ Ok call
+
+-- if the request is for a call, the result is a success, and `written` is that call
+abbrev pub WritesCallOf : {A : Type 0} → Request → Result A CallFault → (written : Call) → Type 0
+WritesCallOf request result written = (call : Call) → IsCallOf request call → IsOk result × (written ≡ call)
+
+-- if the request is for no call because of a fault, the result is that fault
+abbrev pub GivesRefusalOf : {A : Type 0} → Request → Result A CallFault → Type 0
+GivesRefusalOf request result = (e : CallFault) → IsRefusalOf request e → result ≡ Err e

@@ -46,7 +46,8 @@ DoublesAreRounded = (places : ℕ) (answer : Answer)
     → ((answer_fields (rounded_answer places answer)).shape ≡ (answer_fields answer).shape)
     × AreShown places (answer_fields answer).values (answer_fields (rounded_answer places answer)).values
 
--- two calls with the same request line are the same call, and have the same id
+-- two calls with values in range and with the same request line, each with an id below 8 or without one, are the same call, and have the
+-- same id
 abbrev pub OneCallForALine : Type 0
 OneCallForALine = (i j : Option ℕ) (c d : Call) → IfSome i (λ n. n < 8) → IfSome j (λ n. n < 8) → IsFitting c → IsFitting d
     → request_line i c ≡ request_line j d → (i ≡ j) × (c ≡ d)
@@ -70,7 +71,7 @@ pub record ReadsBackCall (id : Option ℕ) (call : Call) : Type 0 where
   pub line : request_at (request_line id call) ≡ Ok (request_of id call)
   pub is_call : IsCall (request_of id call).rpc (request_of id call).params call
 
--- the line of each call reads back as that call
+-- the line of each call with values in range, with an id below 8 or without one, reads back as that call
 abbrev pub CallsReadBack : Type 0
 CallsReadBack = (id : Option ℕ) (call : Call) → IfSome id (λ n. n < 8) → IsFitting call → ReadsBackCall id call
 
@@ -79,8 +80,8 @@ pub record ReadsBackAnswer (call : Call) (id rc : ℕ) (answer : Answer) (places
   pub line : reply_at (reply_line id rc answer places) ≡ Ok (reply_of id rc answer places)
   pub is_reading : IsReading call (reply_of id rc answer places) reading
 
--- if the return code is 0, the reply line with this answer reads back, for each call of which it is an answer, as the answer with its doubles
--- rounded
+-- if the return code is 0, the reply line with this answer reads back, for each call of which it is an answer, as the answer with its
+-- doubles rounded
 abbrev pub ReadsBackValue : ℕ → ℕ → Answer → ℕ → Type 0
 ReadsBackValue id rc answer places =
     (call : Call) → rc ≡ 0 → IsAnswerOf call answer → ReadsBackAnswer call id rc answer places (reading.Value (rounded_answer places answer))
@@ -89,7 +90,8 @@ ReadsBackValue id rc answer places =
 abbrev pub ReadsBackRefusal : ℕ → ℕ → Answer → ℕ → Type 0
 ReadsBackRefusal id rc answer places = (call : Call) → rc ≢ 0 → ReadsBackAnswer call id rc answer places (reading.Refused rc)
 
--- the line of a call's answer reads back as the answer with its doubles rounded, and that of a return code other than 0 as a refusal
+-- the line of a call's answer with values in range, with the return code 0, reads back as the answer with its doubles rounded, and that of
+-- another return code, below 65536, with the answer `Nothing` as the refusal with that code; ids are below 8
 pub record AnswersReadBack : Type 0 where
   pub value : (call : Call) (id : ℕ) (answer : Answer) (places : ℕ) → id < 8 → IsAnswerOf call answer → IsFittingAnswer answer
       → ReadsBackAnswer call id 0 answer places (reading.Value (rounded_answer places answer))

@@ -37,7 +37,7 @@ shown_values places vs = map (λ v. shown places v) vs
 abbrev pub ReadsAll : {P : Type 0} → (reads : P → List Value → Type 0) → (old new : P) → List Value → Type 0
 ReadsAll reads old new values = reads new [] → reads old values
 
--- parameters of the kinds of these values are asked for one by one, which took them from `old` to `new`: if none are asked for after them, each
--- fault of `new` is one of `old`, by the relation `fails` of the trait `Parameters`
+-- parameters of the kinds of these values are asked for one by one, which took them from `old` to `new`: if none are asked for after them,
+-- each fault of `new` is one of `old`, by the relation `fails` of the trait `Parameters`
 abbrev pub FailsAll : {P : Type 0} → (fails : P → List Kind → ValueFault → Type 0) → (old new : P) → List Value → Type 0
 FailsAll fails old new values = (e : ValueFault) → fails new [] e → fails old (kinds_of values) e

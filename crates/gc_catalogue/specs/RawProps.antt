@@ -3,7 +3,8 @@ use Rattle.std.specs.Prelude.{◌≡◌, ◌<◌, ◌≤◌, ◌%◌, ℕ, List,
 use Rattle.std.proofs.Props.{props}
 use Rattle.gc_lines.specs.Lines.{IsPlain}
 use Rattle.gc_values.specs.Params.{IsParams, quotes}
-use Rattle.gc_catalogue.specs.Raws.{line_length, IsNoProcedure, IsRawCall}
+use Rattle.gc_catalogue.specs.Calls.{IsNoProcedure}
+use Rattle.gc_catalogue.specs.Raws.{line_length, IsRawCall}
 
 -- any two proofs that a number and parameters may be asked for are equal
 pub IsRawCall-prop : (rpc : ℕ) (params : List ℕ) → IsProp (IsRawCall rpc params)

@@ -1,27 +1,18 @@
 -- Procedures that aren't in the table: which numbers and parameters may be asked for, why others may not, and what a reply says. The
 -- lines' form is the manual's; these rules are this project's own.
-use Rattle.std.specs.Prelude.{◌≡◌, ◌≢◌, ◌⊎◌, ◌<◌, ◌≤◌, ◌%◌, ℕ, List, length, Some}
+use Rattle.std.specs.Prelude.{◌≡◌, ◌≢◌, ◌⊎◌, ◌<◌, ◌≤◌, ◌%◌, ℕ, List, length, Some, Result, Err}
 use Rattle.gc_lines.specs.Lines.{IsPlain}
 use Rattle.gc_lines.specs.Replies.{ReplyFields}
 use Rattle.gc_lines.specs.Requests.{request_text}
-use Rattle.gc_values.specs.Params.{IsParams, quotes}
+use Rattle.gc_values.specs.Params.{AreTooMany, HasOpenQuote, IsParams, quotes}
 use Rattle.gc_values.specs.declared.fault.ValueFault.{ValueFault}
 use Rattle.gc_values.specs.declared.fault.ValueFault.TheVariants as fault
 use Rattle.gc_catalogue.specs.declared.answer.Answer.TheVariants.{Nothing}
 use Rattle.gc_catalogue.specs.declared.answer.Reading.{Reading}
 use Rattle.gc_catalogue.specs.declared.answer.Reading.TheVariants.{Value, Refused, ComFault, Unreadable}
-use Rattle.gc_catalogue.specs.declared.call.Call.{Call}
 use Rattle.gc_catalogue.specs.declared.raw.RawFault.{RawFault}
 use Rattle.gc_catalogue.specs.declared.raw.RawFault.TheVariants.{InTable, NotPlain, TooLong, OpenQuote, TooMany}
-use Rattle.gc_catalogue.specs.Calls.{call_fields}
-
--- a procedure of the table has the number
-abbrev pub IsProcedure : ℕ → Type 0
-IsProcedure rpc = (call : Call) × ((call_fields call).number ≡ rpc)
-
--- no procedure of the table has the number
-abbrev pub IsNoProcedure : ℕ → Type 0
-IsNoProcedure rpc = (call : Call) → (call_fields call).number ≢ rpc
+use Rattle.gc_catalogue.specs.Calls.{IsNoProcedure, IsProcedure}
 
 -- the length, in bytes, of the line of a request with this number, these parameters and an id
 abbrev pub line_length : ℕ → List ℕ → ℕ
@@ -31,13 +22,9 @@ line_length rpc params = length (request_text (record { rpc = rpc; id = Some 0; 
 abbrev pub AreFewItems : List ℕ → Type 0
 AreFewItems params = (items : List (List ℕ)) × IsParams params items × (length items ≤ 16)
 
--- the parameters are a list of more than 16 items
-abbrev pub AreManyItems : List ℕ → Type 0
-AreManyItems params = (items : List (List ℕ)) × IsParams params items × (16 < length items)
-
 -- the fault for which the parameters aren't at most 16 items: an odd number of double quotes, or more than 16 items
 abbrev pub IsItemsRefusal : List ℕ → ValueFault → Type 0
-IsItemsRefusal params e = ((e ≡ fault.OpenQuote) × (quotes params % 2 ≡ 1)) ⊎ ((e ≡ fault.TooMany) × AreManyItems params)
+IsItemsRefusal params e = ((e ≡ fault.OpenQuote) × HasOpenQuote params) ⊎ ((e ≡ fault.TooMany) × AreTooMany params)
 
 -- this number may be asked for with these parameters: no procedure of the table has it, the parameters have neither CR nor LF, the
 -- request's line has at most 512 bytes with an id, the double quotes are in pairs, and there are at most 16 items
@@ -54,8 +41,12 @@ abbrev pub IsRawRefusal : ℕ → List ℕ → RawFault → Type 0
 IsRawRefusal rpc params InTable = IsProcedure rpc
 IsRawRefusal rpc params NotPlain = IsNoProcedure rpc × (¬ IsPlain params)
 IsRawRefusal rpc params TooLong = IsNoProcedure rpc × IsPlain params × (512 < line_length rpc params)
-IsRawRefusal rpc params OpenQuote = IsNoProcedure rpc × IsPlain params × (line_length rpc params ≤ 512) × (quotes params % 2 ≡ 1)
-IsRawRefusal rpc params TooMany = IsNoProcedure rpc × IsPlain params × (line_length rpc params ≤ 512) × AreManyItems params
+IsRawRefusal rpc params OpenQuote = IsNoProcedure rpc × IsPlain params × (line_length rpc params ≤ 512) × HasOpenQuote params
+IsRawRefusal rpc params TooMany = IsNoProcedure rpc × IsPlain params × (line_length rpc params ≤ 512) × AreTooMany params
+
+-- if the number may not be asked for with these parameters because of a fault, the result is that fault
+abbrev pub GivesRawRefusal : {A : Type 0} → ℕ → List ℕ → Result A RawFault → Type 0
+GivesRawRefusal rpc params result = (e : RawFault) → IsRawRefusal rpc params e → result ≡ Err e
 
 -- the reply has this reading for a procedure that isn't in the table: a communication fault if the communication code isn't 0, else a
 -- refusal if the return code isn't 0, else the answer `Nothing` if its parameters are at most 16 items, else the fault of its parameters

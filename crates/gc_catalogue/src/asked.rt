@@ -65,7 +65,7 @@ impl Asked {
     }
 }
 
-// Appends the request line of a procedure that isn't in the table, with the id or without one. It fits in a line.
+// Appends the request line of a procedure that isn't in the table, with the id or without one: at most 512 bytes, without CR LF.
 fn encode_raw_onto<const N: usize>(out: &mut ArrayVec<u8, N>, id: Option<u8>, raw: &RawCall)
     requires id { ForSome id (λ i. i < 8) }
     requires room { array_vec_len out.old + 512 ≤ N }
@@ -76,7 +76,7 @@ fn encode_raw_onto<const N: usize>(out: &mut ArrayVec<u8, N>, id: Option<u8>, ra
     append(out, raw.params());
 }
 
-/// Appends the request line of what is asked, with the id or without one. It fits in a line and reads back.
+/// As [`encode_asked`], but the line is appended to `out`, which has to have room for 512 more bytes.
 #[inline]
 pub fn encode_asked_onto<const N: usize>(out: &mut ArrayVec<u8, N>, id: Option<u8>, asked: &Asked)
     requires id { ForSome id (λ i. i < 8) }
@@ -92,7 +92,8 @@ pub fn encode_asked_onto<const N: usize>(out: &mut ArrayVec<u8, N>, id: Option<u
     }
 }
 
-/// Writes the request line of what is asked, with the id or without one. It fits in a line and reads back.
+/// Writes the request line of what is asked, without its CR LF, with the id, 0 to 7, or without one. It always fits in a line, and reads
+/// back as what is asked.
 pub fn encode_asked(id: Option<u8>, asked: &Asked) -> Line
     requires { ForSome id (λ i. i < 8) }
     ensures line { result.items ≡ asked_line id asked.now }
@@ -137,7 +138,8 @@ fn decode_raw_into(reply: &Reply<'_>, reading: &mut Reading)
     }
 }
 
-/// Reads what a reply says in answer to what was asked, into `reading`.
+/// Reads what a reply says in answer to what was asked, into `reading`: in answer to a call of the table as `decode_answer` does. The
+/// answer to another procedure is `Answer::Nothing`, if both codes are 0 and there are at most 16 parameters, whose values aren't read.
 #[inline]
 pub fn decode_asked_into(asked: &Asked, reply: &Reply<'_>, reading: &mut Reading)
     ensures found { IsAskedReading asked.now (reply_seen reply.now) reading.new }

@@ -51,7 +51,7 @@ pub enum Call {
     IntTemp,
     /// CSV_GetSWVersion.
     CsvVersion,
-    /// TMC_DoMeasure: starts, stops or clears a distance measurement.
+    /// TMC_DoMeasure: starts (command 1), stops (0) or clears (3) a distance measurement.
     DoMeasure {
         command: i32,
         mode: i32,
@@ -70,7 +70,7 @@ pub enum Call {
     GetAngle {
         mode: i32,
     },
-    /// TMC_GetSimpleMea: angles, and the distance measured before.
+    /// TMC_GetSimpleMea: angles, and the distance measured before. `wait` is in milliseconds.
     SimpleMea {
         wait: i32,
         mode: i32,

@@ -9,7 +9,7 @@ pub fn numbers_differ()
     ensures { NumbersDiffer }
 {}
 
-/// Two calls with the same request line are the same call, and have the same id.
+/// Two calls with the same request line, each with an id below 8 or without one, are the same call, and have the same id.
 pub fn one_call_for_a_line()
     ensures { OneCallForALine }
 {}
@@ -29,13 +29,13 @@ pub fn each_reply_is_read()
     ensures { EachReplyIsRead }
 {}
 
-/// The request line of a call reads back as that call.
+/// The request line of a call, with an id below 8 or without one, reads back as that call.
 pub fn calls_read_back()
     ensures { CallsReadBack }
 {}
 
-/// The reply line of a call's answer reads back as that answer with its doubles rounded, and the reply line of a refusal as that
-/// refusal.
+/// The reply line of a call's answer, with the return code 0 and an id below 8, reads back as that answer with its doubles rounded. The
+/// reply line of a refusal, with the answer `Nothing` and another return code, reads back as that refusal.
 pub fn answers_read_back()
     ensures { AnswersReadBack }
 {}
@@ -45,8 +45,8 @@ pub fn doubles_are_rounded()
     ensures { DoublesAreRounded }
 {}
 
-/// The request line of a procedure that isn't in the table has at most 512 bytes without CR and LF, and no procedure of the table
-/// has its number.
+/// The request line of a procedure that isn't in the table, with an id below 8 or without one, has at most 512 bytes, none of them CR or
+/// LF, and no procedure of the table has its number.
 pub fn raw_lines_fit()
     ensures { RawLinesFit }
 {}
@@ -56,12 +56,12 @@ pub fn one_asked()
     ensures { OneAsked }
 {}
 
-/// Two requests with the same line ask for the same thing, and have the same id.
+/// Two requests with the same line, each with an id below 8 or without one, ask for the same thing, and have the same id.
 pub fn one_asked_for_a_line()
     ensures { OneAskedForALine }
 {}
 
-/// The request line of whatever is asked reads back as what was asked.
+/// The request line of whatever is asked, with an id below 8 or without one, reads back as what was asked.
 pub fn asked_read_back()
     ensures { AskedReadBack }
 {}

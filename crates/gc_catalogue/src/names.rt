@@ -1,9 +1,8 @@
 //! The names of the procedures, as the manual's tables have them.
 
 ghost use Rattle.std.specs.Prelude.{◌≡◌, Some, IfSome, IfNone, option_map};
-ghost use Rattle.gc_catalogue.specs.Calls.{call_fields};
+ghost use Rattle.gc_catalogue.specs.Calls.{call_fields, IsNoProcedure, IsProcedure};
 ghost use Rattle.gc_catalogue.specs.Names.{call_name};
-ghost use Rattle.gc_catalogue.specs.Raws.{IsNoProcedure, IsProcedure};
 ghost use Rattle.gc_catalogue.specs.declared.call.Call.{Call};
 
 use crate::call::Call;

@@ -1,10 +1,10 @@
 //! Procedures that aren't in the table: which may be asked for, and with which parameters. The rules are this project's own.
 
-ghost use Rattle.std.specs.Prelude.{◌≡◌, IsOk, IfOk, IfErr, IfSome, IfNone, Ok, Err};
+ghost use Rattle.std.specs.Prelude.{◌≡◌, IsOk, IfOk, IfErr, IfSome, IfNone, Ok};
 ghost use Rattle.gc_values.specs.declared.fault.ValueFault.{ValueFault};
 ghost use Rattle.gc_catalogue.specs.RawProps.{IsRawCall-prop};
 ghost use Rattle.gc_catalogue.specs.RawTexts.{raw_bytes};
-ghost use Rattle.gc_catalogue.specs.Raws.{AreFewItems, IsItemsRefusal, IsRawCall, IsRawRefusal};
+ghost use Rattle.gc_catalogue.specs.Raws.{AreFewItems, GivesRawRefusal, IsItemsRefusal, IsRawCall, IsRawRefusal};
 
 use crate::names::procedure_name;
 use crate::raw_text::RawText;
@@ -36,7 +36,7 @@ pub enum RawFault {
 }
 
 impl RawFault {
-    // The `RawFault` for a fault that `items_fault` found: `OpenQuote` or `TooMany`.
+    // The `RawFault` of the same name for a fault that `items_fault` found, which is `OpenQuote` or `TooMany`; no other fault comes here.
     fn of_items(fault: ValueFault) -> RawFault
         ensures open_quote { fault ≡ ValueFault.OpenQuote → result ≡ RawFault.OpenQuote }
         ensures too_many { fault ≡ ValueFault.TooMany → result ≡ RawFault.TooMany }
@@ -87,15 +87,14 @@ fn raw_fault(rpc: u16, params: &[u8]) -> Option<RawFault>
     }
 }
 
-/// The request for a procedure that isn't in the table, with these parameters exactly as they are.
-///
-/// The faults come in this order: `InTable`, `NotPlain`, `TooLong`, `OpenQuote`, `TooMany`.
+/// The request for a procedure that isn't in the table, with these parameters exactly as they are. If it may not be asked for, the result
+/// is the first fault that holds, in this order: `InTable`, `NotPlain`, `TooLong`, `OpenQuote`, `TooMany`.
 pub fn raw_call(rpc: u16, params: &[u8]) -> Result<RawCall, RawFault>
     ensures found { IfOk result (λ raw. (raw.rpc ≡ rpc) × (raw_bytes raw.params ≡ params.now)) }
     ensures allowed { IsRawCall rpc params.now → IsOk result }
     ensures only { (raw : RawCall) → raw.rpc ≡ rpc → raw_bytes raw.params ≡ params.now → result ≡ Ok raw }
     ensures fault { IfErr result (λ e. IsRawRefusal rpc params.now e) }
-    ensures exactly { (e : RawFault) → IsRawRefusal rpc params.now e → result ≡ Err e }
+    ensures exactly { GivesRawRefusal rpc params.now result }
 {
     match raw_fault(rpc, params) {
         Some(fault) => Err(fault),

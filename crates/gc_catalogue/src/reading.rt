@@ -1,29 +1,29 @@
 //! The rows for reading: of which kinds the parameters of each procedure are, and the values of each shape of answer. A row reads
 //! them one by one, in their order on the line.
 
-ghost use Rattle.std.specs.Prelude.{◌≡◌, ◌≢◌, ◌++◌, [], List, IsTrue, IsFalse};
+ghost use Rattle.std.specs.Prelude.{◌≡◌, ◌++◌, [], List, IsTrue, IsFalse};
 ghost use Rattle.gc_values.specs.Lists.{kinds_of};
 ghost use Rattle.gc_values.specs.declared.fault.ValueFault.{ValueFault};
 ghost use Rattle.gc_values.specs.declared.value.Kind.{Kind};
 ghost use Rattle.gc_values.specs.declared.value.Value.{Value};
 ghost use Rattle.gc_catalogue.specs.Answers.{answer_fields};
-ghost use Rattle.gc_catalogue.specs.Calls.{call_fields};
+ghost use Rattle.gc_catalogue.specs.Calls.{call_fields, IsNoProcedure};
 ghost use Rattle.gc_catalogue.specs.Lists.{FailsAll, ReadsAll};
 ghost use Rattle.gc_catalogue.specs.Structs.{date_values, station_values};
 ghost use Rattle.gc_catalogue.specs.declared.answer.Shape.TheVariants as shape;
-ghost use Rattle.gc_catalogue.specs.declared.call.Call.{Call};
 
 use crate::answer::{Answer, Shape};
 use crate::call::{Call, DateTime, Station};
 use gc_values::Parameters;
 
-/// Reads the parameters of the procedure with this number, and makes a call of them in `call`. It returns `false`, and reads nothing,
-/// if no procedure has the number.
+/// Reads the parameters of the procedure with this number, and makes a call of them in `call`. It returns `false` if no procedure has the
+/// number; `call` may then be any call. `true` doesn't say that the parameters were read: for one that is missing or can't be read, a zero
+/// of its kind stands in the call, and `Quick::is_done` or `Listed::finish` tells so afterwards.
 pub(crate) fn read_row<P: Parameters>(rpc: u16, params: &mut P, call: &mut Call) -> bool
     ensures found { IsTrue result → (call_fields call.new).number ≡ rpc }
     ensures reads { IsTrue result → ReadsAll P.reads params.old params.new (call_fields call.new).values }
     ensures fails { IsTrue result → FailsAll P.fails params.old params.new (call_fields call.new).values }
-    ensures none { IsFalse result → (other : Call) → (call_fields other).number ≢ rpc }
+    ensures none { IsFalse result → IsNoProcedure rpc }
 {
     match rpc {
         0 => *call = Call::NullProc,
@@ -143,7 +143,8 @@ fn read_fine_adjust<P: Parameters>(params: &mut P, call: &mut Call)
     };
 }
 
-/// Reads the values of an answer of this shape, and makes an answer of them in `answer`.
+/// Reads the values of an answer of this shape, and makes an answer of them in `answer`. As in `read_row`, zeros stand in it for values
+/// that are missing or can't be read, and `Quick::is_done` or `Listed::finish` tells so afterwards.
 pub(crate) fn read_answer_row<P: Parameters>(shape: Shape, params: &mut P, answer: &mut Answer)
     ensures found { (answer_fields answer.new).shape ≡ shape }
     ensures reads { ReadsAll P.reads params.old params.new (answer_fields answer.new).values }

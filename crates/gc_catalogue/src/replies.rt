@@ -17,8 +17,7 @@ use arrayvec::ArrayVec;
 use gc_lines::{Line, Reply, push_reply};
 use gc_values::{Listed, Quick};
 
-/// Appends the reply line of an answer, with each double rounded to `places` places. It fits in a line, whatever the answer
-/// is, and reads back. With a return code other than 0, `answer` has to be `Nothing`.
+/// As [`encode_answer`], but the line is appended to `out`, which has to have room for 512 more bytes.
 #[inline(always)]
 pub fn encode_answer_onto<const N: usize>(
     out: &mut ArrayVec<u8, N>,
@@ -45,8 +44,9 @@ pub fn encode_answer_onto<const N: usize>(
     out.pop();
 }
 
-/// Writes the reply line of an answer, with each double rounded to `places` places. It fits in a line, whatever the answer
-/// is, and reads back. With a return code other than 0, `answer` has to be `Nothing`.
+/// Writes the reply line of an answer, without its CR LF, with the communication code 0, an id from 0 to 7, and each double rounded to
+/// `places` places, at most 15. With a return code other than 0, `answer` has to be `Nothing`. The line always fits. It reads back as
+/// the refusal with the return code, or, for a call that has answers of this shape, as the rounded answer.
 pub fn encode_answer(id: u8, rc: u16, answer: &Answer, places: u8) -> Line
     requires id { id < 8 }
     requires places { places ≤ 15 }
@@ -61,8 +61,8 @@ pub fn encode_answer(id: u8, rc: u16, answer: &Answer, places: u8) -> Line
     line
 }
 
-// Reads parameters in the common spelling as the call's answer, into `reading`. It returns `false` if they aren't in the common
-// spelling; `reading` may then be any reading.
+// Reads parameters in the common spelling as the call's answer, into `reading`. It returns `false` if they can't be read so, which they
+// may still be in another spelling; `reading` may then be any reading.
 fn read_quickly(call: &Call, params: &[u8], reading: &mut Reading) -> bool
     ensures { IsTrue result → IsReading call.now (successful_reply params.now) reading.new }
 {

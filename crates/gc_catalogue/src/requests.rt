@@ -1,14 +1,12 @@
 //! Calls and their request lines.
 
-ghost use Rattle.std.specs.Prelude.{◌≡◌, ◌≢◌, ◌+◌, ◌<◌, ◌≤◌, ◌++◌, ◌∷◌, [], ℕ, List, IsTrue, IsOk, IfOk, IfErr, OnOk, Ok, Err};
+ghost use Rattle.std.specs.Prelude.{◌≡◌, ◌≢◌, ◌+◌, ◌<◌, ◌≤◌, ◌++◌, ◌∷◌, [], ℕ, List, IsTrue, IfOk, IfErr, OnOk};
 ghost use Rattle.std.specs.Option.{ForSome};
 ghost use Rattle.arrayvec.specs.ArrayVec.{array_vec_len};
 ghost use Rattle.gc_lines.specs.Lines.{IsPlain};
-ghost use Rattle.gc_catalogue.specs.Calls.{IsCall, IsCallOf, IsRefusal, IsRefusalOf, IsFitting};
+ghost use Rattle.gc_catalogue.specs.Calls.{GivesCallOf, GivesRefusalOf, IsCall, IsCallOf, IsFitting, IsRefusal, IsRefusalOf, WritesCallOf};
 ghost use Rattle.gc_catalogue.specs.Laws.{ReadsBackCall};
 ghost use Rattle.gc_catalogue.specs.Texts.{request_line};
-ghost use Rattle.gc_catalogue.specs.declared.fault.CallFault.{CallFault};
-ghost use Rattle.gc_catalogue.specs.declared.call.Call.{Call};
 
 use crate::call::Call;
 use crate::fault::CallFault;
@@ -17,7 +15,7 @@ use arrayvec::ArrayVec;
 use gc_lines::{Line, Request};
 use gc_values::{Listed, Quick};
 
-/// Appends the request line of a call, with the id or without one. It fits in a line and reads back, whatever the call is.
+/// As [`encode_call`], but the line is appended to `out`, which has to have room for 512 more bytes.
 pub fn encode_call_onto<const N: usize>(out: &mut ArrayVec<u8, N>, id: Option<u8>, call: &Call)
     requires id { ForSome id (λ i. i < 8) }
     requires room { array_vec_len out.old + 512 ≤ N }
@@ -30,7 +28,8 @@ pub fn encode_call_onto<const N: usize>(out: &mut ArrayVec<u8, N>, id: Option<u8
     end_list(out);
 }
 
-/// Writes the request line of a call, with the id or without one. It fits in a line and reads back, whatever the call is.
+/// Writes the request line of a call, without its CR LF, with the id, 0 to 7, or without one. It fits in a line, whatever the call is, and
+/// reads back as the call.
 pub fn encode_call(id: Option<u8>, call: &Call) -> Line
     requires { ForSome id (λ i. i < 8) }
     ensures line { result.items ≡ request_line id call.now }
@@ -54,7 +53,7 @@ fn end_list<const N: usize>(out: &mut ArrayVec<u8, N>)
 }
 
 // Reads a number and parameters in the common spelling as a call, into `call`. It returns `false` if no procedure has the number, or the
-// parameters aren't in the common spelling; `call` may then be any call.
+// parameters can't be read so, which they may still be in another spelling; `call` may then be any call.
 fn read_quickly(rpc: u16, params: &[u8], call: &mut Call) -> bool
     ensures { IsTrue result → IsCall rpc params.now call.new }
 {
@@ -62,7 +61,7 @@ fn read_quickly(rpc: u16, params: &[u8], call: &mut Call) -> bool
     read_row(rpc, &mut quick, call) && quick.is_done()
 }
 
-// Reads a number and parameters in any spelling as a call, into `call`, or names the first fault.
+// Reads a number and parameters in any spelling as a call, into `call`, or names the first fault; `call` may then be any call.
 #[inline(never)]
 fn read_any_spelling(rpc: u16, params: &[u8], call: &mut Call) -> Result<(), CallFault>
     ensures found { OnOk result (IsCall rpc params.now call.new) }
@@ -78,7 +77,7 @@ fn read_any_spelling(rpc: u16, params: &[u8], call: &mut Call) -> Result<(), Cal
     }
 }
 
-// Reads a number and parameters as a call, into `call`, or names the first fault. It tries the common spelling first.
+// As `read_any_spelling`, but it tries the common spelling first, which is read faster.
 #[inline]
 fn read_call(rpc: u16, params: &[u8], call: &mut Call) -> Result<(), CallFault>
     ensures found { OnOk result (IsCall rpc params.now call.new) }
@@ -95,9 +94,9 @@ fn read_call(rpc: u16, params: &[u8], call: &mut Call) -> Result<(), CallFault>
 pub fn decode_call_into(request: &Request<'_>, call: &mut Call) -> Result<(), CallFault>
     ensures found { OnOk result (IsCallOf request.now call.new) }
     ensures fitting { OnOk result (IsFitting call.new) }
-    ensures only { (c : Call) → IsCallOf request.now c → IsOk result × (call.new ≡ c) }
+    ensures only { WritesCallOf request.now result call.new }
     ensures fault { IfErr result (λ e. IsRefusalOf request.now e) }
-    ensures exactly { (e : CallFault) → IsRefusalOf request.now e → result ≡ Err e }
+    ensures exactly { GivesRefusalOf request.now result }
 {
     read_call(request.rpc, request.params, call)
 }
@@ -109,9 +108,9 @@ pub fn decode_call_into(request: &Request<'_>, call: &mut Call) -> Result<(), Ca
 pub fn decode_call(request: &Request<'_>) -> Result<Call, CallFault>
     ensures found { IfOk result (λ call. IsCallOf request.now call) }
     ensures fitting { IfOk result (λ call. IsFitting call) }
-    ensures only { (call : Call) → IsCallOf request.now call → result ≡ Ok call }
+    ensures only { GivesCallOf request.now result }
     ensures fault { IfErr result (λ e. IsRefusalOf request.now e) }
-    ensures exactly { (e : CallFault) → IsRefusalOf request.now e → result ≡ Err e }
+    ensures exactly { GivesRefusalOf request.now result }
 {
     let mut call = Call::NullProc;
     match decode_call_into(request, &mut call) {

@@ -17,8 +17,8 @@ use gc_values::{
     push_text,
 };
 
-/// A taker of a call's number, with the request's id, and of values, from the left. Each call's clause `takes` says what was
-/// taken up to some later state `t`, from the state before the call: its own value, and then what was taken after it.
+/// A taker of a call's number, with the request's id, and of values, from the left. Each method's clause `takes` says what was taken
+/// from the state before the method up to some later state `t`: the method's own value, and then what was taken after it.
 pub(crate) trait Taker {
     /// How many values can still be taken.
     ghost room: { Self → ℕ };
@@ -80,7 +80,7 @@ pub(crate) trait Taker {
         ensures takes { (vs : List Value) (t : Self) → takes self.new vs t → takes self.old (Value.Text v.now ∷ vs) t };
 }
 
-/// A taker that stores a call's number and ignores its values.
+/// A taker that stores a call's number, and ignores the id and the values.
 #[derive(Drop)]
 pub(crate) struct NumberAlone {
     pub(crate) rpc: u16,
@@ -113,7 +113,7 @@ impl Taker for NumberAlone {
     fn text(&mut self, _v: &Text) {}
 }
 
-/// Appends the head of a request, and then each value's text with a comma after it.
+/// `number` appends a request through its colon, and each other method its value's text with a comma after it.
 impl<const N: usize> Taker for ArrayVec<u8, N> {
     // A value's text has at most 66 bytes, and a comma follows it.
     ghost room = { λ s. (N - length s.items) / 67 };

@@ -13,8 +13,8 @@ use crate::call::{Call, DateTime, Station};
 use crate::taking::{NumberAlone, Taker};
 
 impl Call {
-    /// Hands over the call's number and then its values, in their order on the line, and returns the shape of the
-    /// call's answers. It is the table of procedures, a row for each; the definition's is `call_fields`.
+    /// Hands over the call's number with the request's id, and then the call's values, in their order on the line. It returns the shape
+    /// of the call's answers. It is the table of procedures, a row for each; the definition's is `call_fields`.
     pub(crate) fn write_row<T: Taker>(&self, id: Option<u8>, to: &mut T) -> Shape
         requires room { 7 ≤ T.room to.old }
         requires id { ForSome id (λ i. i < 8) }

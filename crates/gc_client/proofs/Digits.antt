@@ -1,11 +1,11 @@
 -- Ids and places of the requests that wait, as numbers: `next` is the client's next id, and `waiting` how many requests wait.
-use Rattle.std.proofs.Common.{◌≡◌, ℕ, ◌<◌, ◌≤◌, ◌↔◌, true, List, length, Some, Result, Ok, Err, refl, sym, subst, ap, ◌∙◌, arith}
+use Rattle.std.proofs.Common.{◌≡◌, ℕ, ◌<◌, ◌≤◌, ◌↔◌, true, List, length, Some, IfSome, Result, Ok, Err, refl, sym, subst, ap, ◌∙◌, arith}
 use Rattle.std.proofs.lemmas.Bool.{lt-ltb, ltb-true}
 use Rattle.gc_lines.specs.declared.fault.LineFault.{LineFault}
 use Rattle.gc_lines.specs.Replies.{ReplyFields, IsReply}
 use Rattle.gc_lines.specs.Readers.{reply_at}
 use Rattle.gc_lines.proofs.Replies.{reply_found, reply_again}
-use Rattle.gc_client.specs.Rule.{ById, place, place_in, fits, id_in}
+use Rattle.gc_client.specs.Rule.{ById, place, place_in, fits, heard, id_in}
 use Rattle.gc_client.specs.Ids.{id_at, id_of, IsWithinLimits, Waits, SendKeepsIds, SettlingKeepsIds, HearsByGrammar}
 
 -- a request that is sent has the next id, and the others keep theirs
@@ -25,7 +25,7 @@ place_back : (next waiting k : ℕ) → next < 8 → waiting ≤ 7 → k < waiti
 place_back next waiting k digit few below = omega arith
 
 -- from an id to its place, and from that place to its id, leads back to the same id
-id_back : (next waiting id : ℕ) → next < 8 → waiting ≤ 7 → id < 8 → id_at next waiting (place next waiting id) ≡ id
+pub id_back : (next waiting id : ℕ) → next < 8 → waiting ≤ 7 → id < 8 → id_at next waiting (place next waiting id) ≡ id
 id_back next waiting id digit few below = omega arith
 
 -- the id of the request at place k has place k
@@ -55,3 +55,9 @@ heard_by_grammar line =
     read : (r : Result ReplyFields LineFault) → reply_at line ≡ r → (id : ℕ) → id_in r ≡ Some id → (reply : ReplyFields) × IsReply line reply × (reply.id ≡ Some id)
     read (Ok reply) reads id e = (reply, reply_found line reply reads, e)
     read (Err fault) reads id e = cc
+
+-- an id that is heard is below 8
+pub heard_digit : (line : List ℕ) (id : ℕ) → heard line ≡ Some id → id < 8
+heard_digit line id e =
+    let reply = (heard_by_grammar line).only id e in
+    subst (λ o. IfSome o (λ n. n < 8)) reply.2 reply.1.is_id

@@ -1,5 +1,6 @@
 -- What a reply settles.
-use Rattle.std.proofs.Common.{◌≡◌, ℕ, zero, suc, ◌≤◌, Bool, true, false, List, [], ◌∷◌, ◌++◌, length, map, take, drop, Option, Some, None, Ok, refl, sym, ap, ap₂, ◌∙◌, arith, length-drop, if◌then◌else◌}
+use Rattle.std.proofs.Common.{◌≡◌, ℕ, zero, suc, ◌≤◌, Bool, true, false, List, [], ◌∷◌, ◌++◌, length, map, take, drop, Option, Some, None, Ok, sym, ap, ap₂, ◌∙◌, arith, length-drop, if◌then◌else◌}
+use Rattle.std.proofs.lemmas.Option.{cond_some, none-some}
 use Rattle.gc_lines.specs.Replies.{ReplyFields}
 use Rattle.gc_lines.specs.Readers.{reply_at}
 use Rattle.gc_lines.proofs.Replies.{reply_found}
@@ -35,19 +36,10 @@ settle_is (suc k) line [] p left e = cc
 settle_is zero line (w ∷ ws) p left e = let same : w ≡ p = cc in ap (λ x. settled_by_line x line ∷ []) same
 settle_is (suc k) line (w ∷ ws) p left e = ap (λ rs. lost w ∷ rs) (settle_is k line ws p left e)
 
--- `None` isn't `Some k`
-none_is_not_some : (k : ℕ) → None ≡ Some k → ⊥
-none_is_not_some k e = cc
-
--- where `if b then Some q else None` is `Some k`, b is true and q is k
-some_if : (b : Bool) (q k : ℕ) → (if b then Some q else None) ≡ Some k → (b ≡ true) × (q ≡ k)
-some_if true q k e = (refl, cc)
-some_if false q k e = absurd (none_is_not_some k e)
-
 -- a reply with the id of the request at place k settles the requests up to that one
 hears_at : {Q : Type 0} (c : ById Q) (line : List ℕ) (id : Option ℕ) (k : ℕ) → place_heard c.next (length c.waiting) id ≡ Some k → hears c line id ≡ id_settled c line k true
-hears_at c line None k e = absurd (none_is_not_some k e)
-hears_at c line (Some id) k e = let at = some_if _ _ k e in ap₂ (λ q b. id_settled c line q b) at.1 at.0
+hears_at c line None k e = absurd (none-some k e)
+hears_at c line (Some id) k e = let at = cond_some _ _ k e in ap₂ (λ q b. id_settled c line q b) at.1 at.0
 
 -- a line that reads as a reply to the request at place k settles the requests up to that one
 pub settles : {Q : Type 0} (c : ById Q) (line : List ℕ) (fields : ReplyFields) (k : ℕ) → reply_at line ≡ Ok fields → place_heard c.next (length c.waiting) fields.id ≡ Some k

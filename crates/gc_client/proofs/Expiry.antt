@@ -3,8 +3,8 @@
 -- deadlines were reached.
 use Rattle.std.proofs.Common.{◌≡◌, ℕ, zero, suc, ◌+◌, ◌<◌, ◌≤◌, Bool, true, false, ◌||◌, ◌&&◌, not, List, [], ◌∷◌, ◌++◌, map, filter, take, drop, Some, leb, refl, sym, ◌∙◌, ap, ap₂, subst, arith}
 use Rattle.std.specs.Prelude.{slice_get, nat_le}
-use Rattle.std.proofs.lemmas.Bool.{le-leb, lt-leb}
-use Rattle.std.proofs.lemmas.List.{map-append}
+use Rattle.std.proofs.lemmas.Bool.{le-leb, lt-leb, and_right}
+use Rattle.std.proofs.lemmas.List.{map-append, append-nil}
 use Rattle.std.proofs.lemmas.List.Elements.{filter-append}
 use Rattle.gc_client.specs.declared.pending.Pending.{Pending}
 use Rattle.gc_client.specs.Rule.{expired, is_expiring, expiring, given_up_at}
@@ -99,16 +99,11 @@ module _ {Q : Type 0} (now k : ℕ) (ws qs : List (Pending Q)) (p : Pending Q) (
   -- where the request at place k doesn't time out at the moment, the list of targets stays as it is
   pub not_due_listed : (targets : List ℕ) → targets ≡ expiring now (take k ws) → is_expiring now p ≡ false → targets ≡ expiring now (take (k + 1) ws)
   not_due_listed targets listed b =
-      listed ∙ sym (append_none _) ∙ ap (λ ys. expiring now (take k ws) ++ ys) (sym (none b)) ∙ sym (next_expiring now k ws p at_k) ∙ ap (λ m. expiring now (take m ws)) suc_k
+      listed ∙ sym (append-nil _) ∙ ap (λ ys. expiring now (take k ws) ++ ys) (sym (none b)) ∙ sym (next_expiring now k ws p at_k) ∙ ap (λ m. expiring now (take m ws)) suc_k
     where
       -- where p doesn't time out at the moment, the list of the targets timed out, for p alone, is empty
       none : is_expiring now p ≡ false → expiring now (p ∷ []) ≡ []
       none b = rw b refl
-
-      -- a list with the empty list after it is that list
-      append_none : (xs : List ℕ) → xs ++ [] ≡ xs
-      append_none [] = refl
-      append_none (x ∷ xs) = ap (λ ys. x ∷ ys) (append_none xs)
 
 -- a request whose deadline is reached, and that hadn't timed out, times out at this moment
 pub is_due : {Q : Type 0} (now : ℕ) (p : Pending Q) → p.deadline ≤ now → not p.given_up ≡ true → is_expiring now p ≡ true
@@ -124,8 +119,4 @@ is_not_due now p early =
 
 -- a request that had timed out before doesn't time out again
 pub is_given_up : {Q : Type 0} (now : ℕ) (p : Pending Q) → not p.given_up ≡ false → is_expiring now p ≡ false
-is_given_up now p given_up = rw given_up (flag (leb p.deadline now)) where
-  -- a test and false are false together
-  flag : (b : Bool) → (b && false) ≡ false
-  flag true = refl
-  flag false = refl
+is_given_up now p given_up = and_right (leb p.deadline now) (not p.given_up) given_up

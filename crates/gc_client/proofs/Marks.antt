@@ -1,6 +1,7 @@
 -- Marking the request at a place as timed out is a write at that place.
-use Rattle.std.proofs.Common.{◌≡◌, ℕ, zero, suc, ◌<◌, ◌≤◌, List, [], ◌∷◌, length, get_or, set, Some, None, true, refl, ap, arith}
+use Rattle.std.proofs.Common.{◌≡◌, ℕ, zero, suc, ◌<◌, ◌≤◌, List, [], ◌∷◌, length, get_or, set, Some, None, true, refl, sym, ap, arith}
 use Rattle.std.specs.Prelude.{slice_get}
+use Rattle.std.proofs.lemmas.Option.{none-some}
 use Rattle.gc_client.specs.declared.pending.Pending.{Pending}
 use Rattle.gc_client.specs.Rule.{given_up_at}
 
@@ -23,8 +24,5 @@ set_some_is_given_up (q ∷ ps) (suc k) p e = ap (λ qs. q ∷ qs) (set_some_is_
 -- a place at which nothing was read is past the end
 pub none_is_past : {Q : Type 0} (ps : List (Pending Q)) (k : ℕ) → slice_get ps k ≡ None → length ps ≤ k
 none_is_past [] k e = omega arith
-none_is_past {Q} (p ∷ ps) zero e = absurd (some_is_not_none p e) where
-  -- `Some p` isn't `None`
-  some_is_not_none : (p : Pending Q) → Some p ≡ None → ⊥
-  some_is_not_none p e = cc
+none_is_past (p ∷ ps) zero e = absurd (none-some p (sym e))
 none_is_past (p ∷ ps) (suc k) e = omega (arith, none_is_past ps k e)

@@ -1,7 +1,7 @@
 -- For the loop that settles requests as lost: what one more settlement adds to those made so far.
-use Rattle.std.proofs.Common.{◌≡◌, ℕ, zero, suc, ◌+◌, ◌<◌, List, [], ◌∷◌, ◌++◌, length, map, take, drop, set, All, Some, refl, sym, subst, ◌∙◌, ap, ap₂, arith}
+use Rattle.std.proofs.Common.{◌≡◌, ℕ, zero, suc, ◌+◌, ◌<◌, List, [], ◌∷◌, ◌++◌, length, map, take, drop, set, All, Some, sym, subst, ◌∙◌, ap, ap₂, arith}
 use Rattle.std.specs.Prelude.{slice_get}
-use Rattle.std.proofs.lemmas.List.{map-append}
+use Rattle.std.proofs.lemmas.List.{map-append, take_more_set}
 use Rattle.std.proofs.lemmas.List.Elements.{All-append}
 use Rattle.gc_client.specs.declared.pending.Pending.{Pending}
 use Rattle.gc_client.specs.declared.settlement.Settlement.{Settlement}
@@ -24,18 +24,11 @@ one_more says ss rs s r are is =
       read = All-append (λ s. IsReadBy says s.call s.outcome) ss (s ∷ []) are.read (well_read_one says s is.read);
     }
 
--- the first k + 1 elements, once place k is written, are the first k and the one written
-take_set : {A : Type 0} (xs : List A) (k : ℕ) (x : A) → k < length xs → take (suc k) (set xs k x) ≡ take k xs ++ x ∷ []
-take_set [] k x lt = absurd (omega arith)
-take_set (y ∷ xs) zero x lt = refl
-take_set (y ∷ xs) (suc k) x lt = ap (λ zs. y ∷ zs) (take_set xs k x (omega arith))
-
 -- where the first k settlements are the rule's, and the one at place k is written as the rule's next, the first k + 1 are
 pub one_written : {Q : Type 0} (says : Says Q) (ss : List (Settlement Q)) (k : ℕ) (rs : List (Rule.Settlement Q)) (s : Settlement Q) (r : Rule.Settlement Q) → k < length ss
     → AreSettledBy says (take k ss) rs → IsSettledBy says s r → AreSettledBy says (take (k + 1) (set ss k s)) (rs ++ r ∷ [])
 one_written says ss k rs s r lt are is =
-    let n : suc k ≡ k + 1 = omega arith in
-    subst (λ xs. AreSettledBy says xs (rs ++ r ∷ [])) (sym (take_set ss k s lt) ∙ ap (λ m. take m (set ss k s)) n) (one_more says (take k ss) rs s r are is)
+    subst (λ xs. AreSettledBy says xs (rs ++ r ∷ [])) (sym (take_more_set ss k s lt)) (one_more says (take k ss) rs s r are is)
 
 -- the first k + 1 requests, settled as lost, are the first k, settled as lost, and the request p, which is taken out next
 pub next_lost : {Q : Type 0} (ws : List (Pending Q)) (k : ℕ) (p : Pending Q) (qs qs' : List (Pending Q)) → qs ≡ drop k ws → qs ≡ p ∷ qs'

@@ -4,6 +4,7 @@
 use Rattle.std.specs.Prelude.{◌≡◌, ◌⊎◌, ℕ, Bool, true, false, List, [], ◌∷◌, Option, Some, None, nat_eq}
 use Rattle.gc_catalogue.specs.declared.call.Call.TheVariants.{NullProc}
 use Rattle.gc_catalogue.specs.Texts.{request_line}
+use Rattle.gc_client.specs.Rule.{heard}
 
 -- The word: the ids of the null procedures, in order. It goes downward, because the ids of a run that measures go upward; and its last id
 -- is the one before that of the first command.
@@ -24,8 +25,8 @@ abbrev pub asks : List ℕ → Option (List ℕ)
 asks [] = None
 asks (asked ∷ rest) = Some (request_line (Some asked) NullProc)
 
--- whether a reply with this id, or a line without one (`None`), answers the null procedure with the first id that isn't answered: it does if
--- it has that id
+-- whether a reply with this id, or a line without one (`None`), answers the null procedure with the first id that isn't answered: it does
+-- if it has that id
 abbrev pub is_answered : List ℕ → Option ℕ → Bool
 is_answered [] id = false
 is_answered (asked ∷ rest) None = false
@@ -40,3 +41,9 @@ left_by_one false asked rest = asked ∷ rest
 abbrev pub left_by : List ℕ → Option ℕ → List ℕ
 left_by [] id = []
 left_by (asked ∷ rest) id = left_by_one (is_answered (asked ∷ rest) id) asked rest
+
+-- which of the ids `word` aren't answered yet after these lines, in order: each line answers the first id that is left if it has that id,
+-- and otherwise none
+abbrev pub unanswered_after : List ℕ → List (List ℕ) → List ℕ
+unanswered_after word [] = word
+unanswered_after word (line ∷ others) = unanswered_after (left_by word (heard line)) others

@@ -18,8 +18,9 @@ settlements_in (Settled settlements) = settlements.items
 settlements_in Stray = []
 settlements_in (Unread fault) = []
 
--- what a client reports of a line is right: `old` is the client before the line, and `new` after it. A stray and a line that is no reply
--- settle nothing and change nothing; which settlements a reply makes is in `AreSettledBy`
+-- what a client reports of a line is right: `old` is the client before the line, and `new` after it. `Settled`: a request waits with the
+-- line's id; what is then settled is in `AreSettledByLine`, and the client after it in `IsAfterLine`. A stray and a line that is no
+-- reply settle nothing and change nothing
 abbrev pub HearsInto : {Q : Type 0} → ById Q → List ℕ → Hearing → List (Settlement Q) → ById Q → Type 0
 HearsInto old line kind.Settled settlements new = fits old (heard line) ≡ true
 HearsInto old line kind.Stray settlements new = IsOk (reply_at line) × (fits old (heard line) ≡ false) × (settlements ≡ []) × (new ≡ old)

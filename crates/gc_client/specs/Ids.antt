@@ -39,7 +39,7 @@ pub record HearsByGrammar (line : List ℕ) : Type 0 where
 abbrev pub IdsDiffer : {Q : Type 0} → ById Q → Type 0
 IdsDiffer c = (j k : ℕ) → IsWithinLimits c → j < length c.waiting → k < length c.waiting → id_of c j ≡ id_of c k → j ≡ k
 
--- the place of the id of each request that waits is that request's place
+-- the id of each request that waits leads back to its place: `place_in` gives that place
 abbrev pub IdsHavePlaces : {Q : Type 0} → ById Q → Type 0
 IdsHavePlaces c = (k : ℕ) → IsWithinLimits c → k < length c.waiting → place_in c (id_of c k) ≡ k
 

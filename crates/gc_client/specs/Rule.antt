@@ -59,11 +59,11 @@ pending_of target call deadline = record { target = target; call = call; deadlin
 abbrev pub expired : {Q : Type 0} → ℕ → Pending Q → Pending Q
 expired now p = record p { given_up = p.given_up || nat_le p.deadline now }
 
--- whether a request times out at this moment, and not before
+-- whether a request times out now: it hasn't timed out before, and its deadline is at most this moment
 abbrev pub is_expiring : {Q : Type 0} → ℕ → Pending Q → Bool
 is_expiring now p = nat_le p.deadline now && not p.given_up
 
--- the targets of the requests that time out at this moment, and not before, in order
+-- the targets of the requests that time out now (`is_expiring`), in order
 abbrev pub expiring : {Q : Type 0} → ℕ → List (Pending Q) → List ℕ
 expiring now ps = map (λ p. p.target) (filter (is_expiring now) ps)
 
@@ -139,8 +139,8 @@ id_send c target call deadline false =
 abbrev pub sends : {Q : Type 0} → ℕ → ById Q → ℕ → Q → ℕ → Option (Sending (ById Q))
 sends width c target call deadline = id_send c target call deadline (nat_eq (length c.waiting) width)
 
--- the rule accepts a send of this call, which leads the client from `old` to `new`, and `line` is the request line with the id that was next,
--- where `line_of` gives the request line of a call with an id
+-- the rule accepts a send of this call, which leads the client from `old` to `new`, and `line` is the request line with the id that was
+-- next, where `line_of` gives the request line of a call with an id
 abbrev pub IsAcceptedSend : {Q : Type 0} → (Option ℕ → Q → List ℕ) → Windowed Q → ℕ → Q → ℕ → Windowed Q → List ℕ → Type 0
 IsAcceptedSend line_of old target call deadline new line =
     (sends old.width old.ids target call deadline ≡ Some (record { id = old.ids.next; client = new.ids })) × (line ≡ line_of (Some old.ids.next) call)
@@ -164,10 +164,10 @@ abbrev pub hears : {Q : Type 0} → ById Q → List ℕ → Option ℕ → Settl
 hears c line None = record { settlements = []; client = c }
 hears c line (Some id) = id_settled c line (place_in c id) (nat_lt (place_in c id) (length c.waiting))
 
--- a moment: each request whose deadline it has reached times out, and goes on waiting
+-- the client after this moment: each request whose deadline is at most the moment has timed out, and goes on waiting
 abbrev pub expires : {Q : Type 0} → ById Q → ℕ → ById Q
 expires c now = record { next = c.next; waiting = map (expired now) c.waiting }
 
--- a restart: all requests that wait are lost, and the ids begin again at 0
+-- what a restart settles, and the client after it: all requests that wait are lost, and the ids begin again at 0
 abbrev pub restarts : {Q : Type 0} → ById Q → Settled Q (ById Q)
 restarts c = record { settlements = map lost c.waiting; client = fresh }

@@ -44,6 +44,10 @@ IsReadBy says call Lost = ⊤
 abbrev pub IsReadForCall : Call → Outcome → Type 0
 IsReadForCall call outcome = IsReadBy IsReading call outcome
 
+-- each of these settlements that is an answer has the reading of its line for what was asked (`IsReadBy`)
+abbrev pub AreReadBy : {Q : Type 0} → Says Q → List (Settlement Q) → Type 0
+AreReadBy says settlements = All (λ s. IsReadBy says s.call s.outcome) settlements
+
 -- the settlement `s` is the rule's: it has the target, call and outcome of `ruled`, and an answer's reading is that of its line
 pub record IsSettledBy {Q : Type 0} (says : Says Q) (s : Settlement Q) (ruled : Rule.Settlement Q) : Type 0 where
   pub seen : settlement_seen s ≡ ruled
@@ -52,7 +56,7 @@ pub record IsSettledBy {Q : Type 0} (says : Says Q) (s : Settlement Q) (ruled : 
 -- these settlements are the rule's, one for one
 pub record AreSettledBy {Q : Type 0} (says : Says Q) (settlements : List (Settlement Q)) (ruled : List (Rule.Settlement Q)) : Type 0 where
   pub seen : map settlement_seen settlements ≡ ruled
-  pub read : All (λ s. IsReadBy says s.call s.outcome) settlements
+  pub read : AreReadBy says settlements
 
 -- these settlements of calls are the rule's, one for one
 abbrev pub AreSettlements : List (Settlement Call) → List (Rule.Settlement Call) → Type 0

@@ -54,16 +54,17 @@ impl Error for WindowFull {}
 ///
 /// Its width is how many requests it lets wait, from one to seven. It is chosen once, and no call changes it.
 ///
-/// No call takes memory, also where it refuses a send or knows no request for a line. The caller has a clock and a
-/// connection:
+/// No call allocates, unless the window does. The caller has a clock, and a connection over which a
+/// [`Beginning`](crate::Beginning) has begun:
 ///
-/// 1. `send` each request, and write its line, with CR LF, on the connection, while fewer wait than the width.
+/// 1. `send` each request, and write its line, with CR LF, on the connection, while fewer wait than the width, and fewer are
+///    `current` than the instrument can take.
 /// 2. Read, waiting until [`next_deadline`](Client::next_deadline) at most.
 /// 3. Hand the moment after the read to `expire`, on the clock of the deadlines. Then hand each line that came, without
 ///    its CR LF, to `on_line`. So a reply that came past its deadline is late. Go on at 1.
-/// 4. Where the connection fails, close it, keep the client, and go on over a new one: ids go on. Only where seven wait that
-///    have all timed out, discard what comes until the line is quiet, `restart`, and send a null procedure alone until it is
-///    answered: ids begin at 0 again (`docs/LIBRARY.md`). By calling `restart` the caller vouches that no line is in flight.
+/// 4. Where the connection fails, close it, keep the client, and go on over a new one: ids go on. Only where as many wait as
+///    the width, and all have timed out, finish a new `Beginning` and then `restart`: ids begin at 0 again (`docs/LIBRARY.md`).
+///    By calling `restart` the caller vouches that no line is in flight.
 ///
 /// What to do at each outcome:
 ///
@@ -100,8 +101,9 @@ impl<W: Window> Client<W> {
         Client::with_width(window, WINDOW as u8)
     }
 
-    /// Makes a client as `new` does, but one that lets `width` requests wait. Take 1 where the instrument buffers one
-    /// request, and 7 where it takes them all.
+    /// Makes a client as `new` does, but one that lets `width` requests wait. A narrower client is as safe, but a
+    /// single lost reply fills one of width 1. With an instrument that takes fewer requests at once than the width, send while
+    /// fewer are `current` than it takes.
     pub fn with_width(mut window: W, width: u8) -> Client<W>
         requires least { 1 ≤ width }
         requires most { width ≤ WINDOW }
@@ -244,8 +246,8 @@ impl<W: Window> Client<W> {
         }
     }
 
-    /// Times out each outstanding request whose deadline is at most this time. It returns the targets of those that hadn't
-    /// timed out before, in order.
+    /// Times out each outstanding request whose deadline is at most `now`, a moment on the clock of the deadlines. It returns the
+    /// targets of those that hadn't timed out before, in order.
     ///
     /// A request that has timed out stays outstanding, and a reply that arrives for it settles it as late. If the time lies
     /// before that of an earlier call, no time-out is undone.
@@ -267,8 +269,8 @@ impl<W: Window> Client<W> {
 
     // Mutators.
 
-    /// Registers a request that has to be answered before the deadline, and returns its line, without CR LF. The target is
-    /// returned with the settlement.
+    /// Registers a request that has to be answered before the deadline, a moment on the caller's own clock, and returns its line, without
+    /// CR LF. The target is returned with the settlement.
     ///
     /// The send is refused exactly if as many requests wait as the window is wide, timed-out ones included. A refusal changes
     /// nothing.
@@ -323,7 +325,7 @@ impl<W: Window> Client<W> {
     ///
     /// The caller has to make sure that no line is in flight in either direction. An instrument that still retains the reply
     /// to its last request would take a new request with that id for a repeat, and not execute it. So either the instrument
-    /// restarts too, or the first request is a null procedure, alone until it is answered (`docs/LIBRARY.md`).
+    /// restarts too, or a new [`Beginning`](crate::Beginning) is finished before this call (`docs/LIBRARY.md`).
     pub fn restart(&mut self) -> ArrayVec<Settlement<W::Asked>, WINDOW>
         ensures settled { AreSettledBy W.Asked.says result.items (restarts self.old.ids).settlements }
         ensures client { self.new ≡ record self.old { ids = (restarts self.old.ids).client } }
@@ -363,7 +365,8 @@ impl<W: Window> Client<W> {
         }
     }
 
-    // Settles the request at place k by its reply, and those before it as lost: `settled` then has these k + 1 settlements alone.
+    // Settles the request at place k by `reply`, which was read from `line`, and those before it as lost. `settled` then has these
+    // k + 1 settlements alone, in the order of sending.
     #[inline]
     fn settle(
         &mut self,

@@ -17,7 +17,7 @@ use arrayvec::ArrayVec;
 use gc_catalogue::{Asking, Reading};
 use gc_lines::{Line, Reply, append};
 
-/// Makes a list `count` settlements long. Their values don't matter, since the caller writes over them.
+/// Cuts or fills a list to `count` settlements. Their values don't matter, since the caller writes over them.
 #[inline(always)]
 pub(crate) fn make_places<Q: Asking>(settled: &mut ArrayVec<Settlement<Q>, WINDOW>, count: usize)
     requires { count ≤ WINDOW }
@@ -92,7 +92,7 @@ pub(crate) fn set_replied<Q: Asking>(
     if p.given_up {
         set_late(&mut settlement.outcome);
     } else {
-        answer(&p.call, reply, line, &mut settlement.outcome);
+        set_answered(&p.call, reply, line, &mut settlement.outcome);
     }
 }
 
@@ -106,7 +106,7 @@ fn set_late(outcome: &mut Outcome)
 
 // Writes the answer that a reply in time gives. Where `outcome` is an answer already, the new one is written over its parts.
 #[inline]
-fn answer<Q: Asking>(call: &Q, reply: &Reply<'_>, line: &[u8], outcome: &mut Outcome)
+fn set_answered<Q: Asking>(call: &Q, reply: &Reply<'_>, line: &[u8], outcome: &mut Outcome)
     requires { length line.now ≤ 512 }
     ensures { IsAnsweredBy Q.says call.now (reply_seen reply.now) line.now outcome.new }
 {
@@ -116,14 +116,14 @@ fn answer<Q: Asking>(call: &Q, reply: &Reply<'_>, line: &[u8], outcome: &mut Out
             copy.clear();
             append(copy, line);
         },
-        other => answer_anew(call, reply, line, other),
+        other => set_answered_anew(call, reply, line, other),
     }
 }
 
 // Writes the answer that a reply in time gives, whatever `outcome` is. The function has a frame of its own, because an outcome
 // is large.
 #[inline(never)]
-fn answer_anew<Q: Asking>(call: &Q, reply: &Reply<'_>, line: &[u8], outcome: &mut Outcome)
+fn set_answered_anew<Q: Asking>(call: &Q, reply: &Reply<'_>, line: &[u8], outcome: &mut Outcome)
     requires { length line.now ≤ 512 }
     ensures { IsAnsweredBy Q.says call.now (reply_seen reply.now) line.now outcome.new }
 {

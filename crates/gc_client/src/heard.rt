@@ -25,6 +25,6 @@ pub enum Hearing {
     Settled,
     /// The line is a reply, and no request waits for it: it has no id, or one that nothing waits with.
     Stray,
-    /// The line is no reply; the fault names its first faulty field.
+    /// The line is no reply; the fault names its first faulty field. Of a line of more than 512 bytes it is `TooLong`.
     Unread(LineFault),
 }

@@ -14,8 +14,8 @@ pub enum Outcome {
     Answered(Reading, Line),
     /// A reply to it came after it had timed out. The reply is discarded.
     Late,
-    /// A reply to a later request came first, or the client was restarted: a reply to it that comes now is ignored. It isn't
-    /// known whether the instrument acted on it.
+    /// A reply to a later request came first, or the client was restarted. A reply to it that comes now is a stray, unless a new
+    /// request waits with its id. It isn't known whether the instrument acted on it.
     Lost,
 }
 

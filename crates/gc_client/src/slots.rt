@@ -1,4 +1,4 @@
-//! A window in an array of eight places, one for each id.
+//! A window in an array of eight places, as many as there are ids.
 
 ghost use Rattle.std.specs.Prelude.{◌≡◌, ◌<◌, [], ◌∷◌, ◌++◌, length};
 ghost use Rattle.gc_client.specs.declared.window.TheConstants.{WINDOW};
@@ -8,11 +8,11 @@ use crate::window::{IDS, Window};
 use gc_catalogue::{Asking, Call};
 use std::marker::Model;
 
-// A place for each id.
+// As many places as there are ids.
 const PLACES: usize = IDS as usize;
 
 /// A window in an array of eight places, which never allocates. Requests take the places in turn, going round. `clear` begins again at
-/// place 0, as a new client's ids begin at 0, so in its window the request with id i is at place i.
+/// place 0. A new client clears its window and its ids begin at 0, so the request with id i is at place i, until a restart.
 #[derive(Drop)]
 pub struct SlotsOf<Q: Asking> {
     places: [Pending<Q>; PLACES],

@@ -9,7 +9,7 @@ use gc_catalogue::Asking;
 /// The most requests that can wait at the same time: the width of the widest window.
 pub const WINDOW: usize = 7;
 
-/// How many ids there are: the digits 0 to 7, one more than requests can wait.
+/// How many ids there are: the digits 0 to 7, one more than the most requests that can wait.
 pub const IDS: u8 = 8;
 
 /// A store of the requests that wait, which contracts see as a list of at most seven, oldest first.

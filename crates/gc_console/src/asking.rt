@@ -9,9 +9,9 @@ use gc_links::Place;
 use gc_measuring::{Appended, Spot, append_at, check_task_text, measure_at};
 use gc_messages::{Lossy, Noticed, Noting, Standard, Streams};
 use gc_station::Kept;
-use gc_subcommands::Asking;
+use gc_subcommands::ClientJob;
 use gc_subcommands::ask::ask_place;
-use gc_subcommands::looped::loop_port;
+use gc_subcommands::looped::loop_scene;
 use gc_words::{Recording, Settings, Site};
 use std::alloc::Global;
 use std::cell::Cell;
@@ -22,7 +22,7 @@ use std::process::ExitCode;
 use std::rt::Files;
 use std::time::Clock;
 
-/// Runs the subcommand `loop`, `ask` or `station`, as `asking` says, and reports how that ended; or only reports that a standard
+/// Runs the subcommand `loop`, `ask` or `station`, as `job` says, and reports how that ended; or only reports that a standard
 /// stream is closed. The streams are handed back.
 pub(crate) fn run_asking<
     R: Net<Listener = TcpListener, Stream = TcpStream> + Clock + Files<File = File>,
@@ -33,7 +33,7 @@ pub(crate) fn run_asking<
     rt: &Noting<'_, R>,
     alloc: Global,
     standard: Standard,
-    asking: Asking<'_>,
+    job: ClientJob<'_>,
     mut streams: Streams<S, K, E>,
 ) -> (Streams<S, K, E>, io::Result<ExitCode>)
     // If a stream is closed, that is reported with status 1, and nothing was read or written.
@@ -45,10 +45,10 @@ pub(crate) fn run_asking<
         let ended = standard.refuse(&mut streams.messages);
         return (streams, ended);
     }
-    run_open(rt, alloc, standard, asking, streams)
+    run_open(rt, alloc, standard, job, streams)
 }
 
-// Runs the subcommand that `asking` says over streams that are open, and reports how that ended. The streams are handed back.
+// Runs the subcommand that `job` says over streams that are open, and reports how that ended. The streams are handed back.
 fn run_open<
     R: Net<Listener = TcpListener, Stream = TcpStream> + Clock + Files<File = File>,
     S: Source,
@@ -58,16 +58,16 @@ fn run_open<
     rt: &Noting<'_, R>,
     alloc: Global,
     standard: Standard,
-    asking: Asking<'_>,
+    job: ClientJob<'_>,
     streams: Streams<S, K, E>,
 ) -> (Streams<S, K, E>, io::Result<ExitCode>)
     ensures { IfOk result.1 (λ status. exit_status status ≤ 1) }
 {
-    match asking {
-        Asking::Loop { scene } => run_loop(rt, alloc, scene, streams),
-        Asking::Ask { place } => run_ask(rt, alloc, place, streams),
-        Asking::Outline { choice } => check_task_text(alloc, choice, streams),
-        Asking::Station {
+    match job {
+        ClientJob::Loop { scene } => run_loop_job(rt, alloc, scene, streams),
+        ClientJob::Ask { place } => run_ask_job(rt, alloc, place, streams),
+        ClientJob::Outline { choice } => check_task_text(alloc, choice, streams),
+        ClientJob::Station {
             site,
             station,
             recording,
@@ -78,9 +78,9 @@ fn run_open<
     }
 }
 
-// Asks the commands of the input over a connection within this program, to the instrument of the file `scene`, or to the simulator if
-// none is named. The streams are handed back.
-fn run_loop<
+// Asks the commands of the input over a connection within this program, of the instrument of the file `scene`, or of the simulator if
+// none is named, and reports how that ended. The streams are handed back.
+fn run_loop_job<
     R: Net<Listener = TcpListener, Stream = TcpStream> + Files,
     S: Source,
     K: Durable + Drop,
@@ -93,7 +93,7 @@ fn run_loop<
 ) -> (Streams<S, K, E>, io::Result<ExitCode>)
     ensures { IfOk result.1 (λ status. exit_status status ≤ 1) }
 {
-    let ended = loop_port(
+    let ended = loop_scene(
         rt,
         alloc,
         scene,
@@ -104,8 +104,8 @@ fn run_loop<
     (streams, ended)
 }
 
-// Asks the commands of the input at a place. The streams are handed back.
-fn run_ask<
+// Asks the commands of the input at a place, and reports how that ended. The streams are handed back.
+fn run_ask_job<
     R: Net<Listener = TcpListener, Stream = TcpStream> + Clock + Files<File = File>,
     S: Source,
     K: Durable + Drop,
@@ -160,7 +160,8 @@ fn measure_site<
     (lossless_of(lossy), ended)
 }
 
-// Measures at a site, with the records in a file if one is named. The streams are handed back.
+// Measures at a site, with the records in a file if one is named, and otherwise on the output; and reports how that ended. The streams are
+// handed back.
 fn measure_recorded<
     R: Net<Listener = TcpListener, Stream = TcpStream> + Clock + Files<File = File>,
     S: Source,

@@ -17,8 +17,8 @@ use gc_nights::rehearse;
 use gc_subcommands::check::check;
 use gc_subcommands::drill::{Drilling, drill_scene};
 use gc_subcommands::exec::exec_scene;
-use gc_subcommands::serve::{Serving, serve_filled};
-use gc_subcommands::{Asked, Asking, Subcommand, asked_of};
+use gc_subcommands::serve::{Serving, serve_with_places_filled};
+use gc_subcommands::{ClientJob, Job, Subcommand, job_of};
 use gc_texts::RunFault;
 use gc_words::Rehearsal;
 use std::alloc::Global;
@@ -71,17 +71,17 @@ fn run_words<
 ) -> io::Result<ExitCode>
     ensures { IfOk result (λ status. exit_status status ≤ 2) }
 {
-    match asked_of(alloc, words.as_slice()) {
-        Ok(asked) => run_asked(rt, alloc, standard, asked, streams),
+    match job_of(alloc, words.as_slice()) {
+        Ok(job) => run_job(rt, alloc, standard, job, streams),
         Err(error) => {
             let reads = reads_a_text(words.as_slice());
-            answer(&error, reads, &mut streams.output, &mut streams.messages)
+            answer_words(&error, reads, &mut streams.output, &mut streams.messages)
         }
     }
 }
 
-// Runs what is asked for over the streams, and reports how that ended.
-fn run_asked<
+// Runs the job over the streams, and reports how that ended; or reports, with status 2, why the words name no job that can be run.
+fn run_job<
     R: Net<Listener = TcpListener, Stream = TcpStream> + Clock + Files<File = File>,
     I: Read + Drop,
     O: Write + Drop,
@@ -90,21 +90,21 @@ fn run_asked<
     rt: &R,
     alloc: Global,
     standard: Standard,
-    asked: Asked<'_>,
+    job: Job<'_>,
     mut streams: Streams<I, O, E>,
 ) -> io::Result<ExitCode>
     ensures { IfOk result (λ status. exit_status status ≤ 2) }
 {
-    match asked {
-        Asked::Exec { scene } => run_exec(rt, alloc, scene, streams),
-        Asked::Check { log } => run_check(log, streams),
-        Asked::Drill(drilling) => run_drill(rt, alloc, drilling, streams),
-        Asked::Serve(serving) => run_serve(rt, alloc, standard, serving, streams),
-        Asked::Rehearse(rehearsal) => run_rehearse(rt, alloc, standard, rehearsal, streams),
-        Asked::Over(asking) => run_over(rt, alloc, standard, asking, streams),
-        Asked::Nowhere { serves } => refuse_place(serves, &mut streams.messages),
-        Asked::Unnumbered => refuse_numbers(&mut streams.messages),
-        Asked::StaleTooSoon => refuse_stale(&mut streams.messages),
+    match job {
+        Job::Exec { scene } => run_exec_job(rt, alloc, scene, streams),
+        Job::Check { log } => run_check_job(log, streams),
+        Job::Drill(drilling) => run_drill_job(rt, alloc, drilling, streams),
+        Job::Serve(serving) => run_serve_job(rt, alloc, standard, serving, streams),
+        Job::Rehearse(rehearsal) => run_rehearse_job(rt, alloc, standard, rehearsal, streams),
+        Job::Client(job) => run_client_job(rt, alloc, standard, job, streams),
+        Job::Nowhere { serves } => refuse_place(serves, &mut streams.messages),
+        Job::NumberMissing => refuse_numbers(&mut streams.messages),
+        Job::StaleTooSoon => refuse_stale(&mut streams.messages),
     }
 }
 
@@ -141,7 +141,7 @@ fn as_ports_ahead<I: Read, O: Write, E>(
 }
 
 // Answers requests as the instrument of the file `scene`, or as the simulator if none is named, and reports how that ended.
-fn run_exec<R: Files, I: Read + Drop, O: Write + Drop, E: Write + Drop>(
+fn run_exec_job<R: Files, I: Read + Drop, O: Write + Drop, E: Write + Drop>(
     rt: &R,
     alloc: Global,
     scene: Option<&str>,
@@ -160,8 +160,8 @@ fn run_exec<R: Files, I: Read + Drop, O: Write + Drop, E: Write + Drop>(
     )
 }
 
-// Checks a log if `log` is set, otherwise a stream, and reports how that ended.
-fn run_check<I: Read + Drop, O: Write + Drop, E: Write + Drop>(
+// Checks the log on the input if `log` is set, otherwise the stream on it, and reports how that ended.
+fn run_check_job<I: Read + Drop, O: Write + Drop, E: Write + Drop>(
     log: bool,
     streams: Streams<I, O, E>,
 ) -> io::Result<ExitCode>
@@ -176,8 +176,8 @@ fn run_check<I: Read + Drop, O: Write + Drop, E: Write + Drop>(
     )
 }
 
-// Plays a schedule, and reports how that ended.
-fn run_drill<R: Files, I: Read + Drop, O: Write + Drop, E: Write + Drop>(
+// Plays the schedule on the input, and reports how that ended.
+fn run_drill_job<R: Files, I: Read + Drop, O: Write + Drop, E: Write + Drop>(
     rt: &R,
     alloc: Global,
     drilling: Drilling<'_>,
@@ -196,8 +196,8 @@ fn run_drill<R: Files, I: Read + Drop, O: Write + Drop, E: Write + Drop>(
     )
 }
 
-// Rehearses a station, and reports how that ended; after a fault also what the system refused last, and why.
-fn run_rehearse<R: Files, I: Read + Drop, O: Write + Drop, E: Write + Drop>(
+// Rehearses the station whose text is on the input, and reports how that ended; after a fault also what the system refused last, and why.
+fn run_rehearse_job<R: Files, I: Read + Drop, O: Write + Drop, E: Write + Drop>(
     rt: &R,
     alloc: Global,
     standard: Standard,
@@ -212,7 +212,7 @@ fn run_rehearse<R: Files, I: Read + Drop, O: Write + Drop, E: Write + Drop>(
 }
 
 // Serves a simulator, and reports how that ended; after a fault also what the system refused last, and why.
-fn run_serve<
+fn run_serve_job<
     R: Net<Listener = TcpListener, Stream = TcpStream> + Clock + Files<File = File>,
     I: Drop,
     O: Drop,
@@ -227,13 +227,12 @@ fn run_serve<
     ensures { IfOk result (λ status. exit_status status ≤ 2) }
 {
     let noting = Noting::new(rt);
-    let ended = serve_filled(&noting, alloc, standard, serving, &mut streams.messages);
+    let ended = serve_with_places_filled(&noting, alloc, standard, serving, &mut streams.messages);
     noting.report(standard, ended, &mut streams.messages)
 }
 
-// Runs a subcommand that asks over a connection, and reports how that ended; after a fault also what the system refused last, and
-// why.
-fn run_over<
+// Runs `loop`, `ask` or `station`, and reports how that ended; after a fault also what the system refused last, and why.
+fn run_client_job<
     R: Net<Listener = TcpListener, Stream = TcpStream> + Clock + Files<File = File>,
     I: Read + Drop,
     O: Write + Drop,
@@ -242,19 +241,19 @@ fn run_over<
     rt: &R,
     alloc: Global,
     standard: Standard,
-    asking: Asking<'_>,
+    job: ClientJob<'_>,
     streams: Streams<I, O, E>,
 ) -> io::Result<ExitCode>
     ensures { IfOk result (λ status. exit_status status ≤ 2) }
 {
     let noting = Noting::new(rt);
-    let (mut ports, ended) = run_asking(&noting, alloc, standard, asking, as_ports(streams));
+    let (mut ports, ended) = run_asking(&noting, alloc, standard, job, as_ports(streams));
     noting.report(standard, ended, &mut ports.messages)
 }
 
 // Reports why words ask for no subcommand: memory ran out (status 1), they don't parse (status 2), or they ask for the help or the
-// version (status 0). `reads` says whether they name a subcommand that reads a text.
-fn answer<O: Write, E: Write>(
+// version (status 0, or 1 if the output fails). `reads` says whether they name a subcommand that reads a text.
+fn answer_words<O: Write, E: Write>(
     error: &Error,
     reads: bool,
     output: &mut O,
@@ -282,7 +281,7 @@ fn show<O: Write, E: Write>(text: &Error, output: &mut O, messages: &mut E) -> i
     }
 }
 
-// Whether words name a subcommand that reads a text from standard input.
+// Whether words name a subcommand that reads a text from standard input. `false` if they name none.
 fn reads_a_text(words: &[String]) -> bool {
     let Some(word) = words.get(1) else {
         return false;
@@ -293,8 +292,8 @@ fn reads_a_text(words: &[String]) -> bool {
     }
 }
 
-// Writes why a command line doesn't parse. If an argument is unknown, and the subcommand reads a text (`reads`), a second line
-// says that the text comes on standard input. The status is 2.
+// Writes why a command line doesn't parse. If an argument is unknown, and the subcommand reads a text (`reads`), a tip follows:
+// the text comes on standard input. The status is 2.
 fn refuse<E: Write>(error: &Error, reads: bool, messages: &mut E) -> io::Result<ExitCode>
     ensures { IfOk result (λ status. exit_status status ≡ 2) }
 {

@@ -11,7 +11,7 @@ use Rattle.gc_lines.specs.declared.served.Served.{Served}
 use Rattle.gc_lines.specs.declared.served.ServeFault.{ServeFault}
 use Rattle.gc_lines.specs.declared.served.ServeFault.TheVariants.{Read, Write, TooManyReads}
 use Rattle.gc_lines.proofs.InOrder.{in_order_then, in_order_one}
-use Rattle.gc_engines.specs.Verdicts.{IsVerdict, AreVerdicts, verdict_line, lines_from, AreLinesOf}
+use Rattle.gc_engines.specs.Verdicts.{IsVerdict, AreVerdicts, verdict_line, verdict_lines_from, AreLinesOf}
 use Rattle.gc_engines.specs.Checking.{JudgesFrame, ChecksAll, ChecksPart, Checks}
 use Rattle.gc_engines.specs.declared.check.Judge.{Judge}
 use Rattle.gc_engines.specs.declared.verdict.Verdict.{Verdict}
@@ -62,13 +62,13 @@ few_frames given = omega (arith, length-map (pieces_behind [] given) frame_of, f
 record Judged (n : ℕ) (seen : List Frame) (texts : List (List ℕ)) : Type 0 where
   verdicts : List Verdict
   are : AreVerdicts seen verdicts
-  numbered : texts ≡ lines_from (n + 1) verdicts
+  numbered : texts ≡ verdict_lines_from (n + 1) verdicts
 
 -- where frame n + 1 was judged, so that its verdict's line was written and the count grew by one, and the later frames got
 -- their verdicts' lines, too, numbered from n + 2 on, all of these frames got theirs
-judged_next : (s u : Judge) (frame : Frame) (later : List Frame) (v : Verdict) (text : Option (List ℕ)) (rest texts : List (List ℕ)) (n : ℕ) → s.frames ≡ n → n + 1 < 2 ^ 64
-    → IsVerdict frame v → u.frames ≡ min (s.frames + 1) (2 ^ 64 - 1) → text ≡ Some (verdict_line u.frames v) → texts ≡ option_to_list text ++ rest
-    → (u.frames ≡ n + 1 → Judged (n + 1) later rest) → Judged n (frame ∷ later) texts
+judged_next : (s u : Judge) (frame : Frame) (later : List Frame) (v : Verdict) (text : Option (List ℕ)) (rest texts : List (List ℕ)) (n : ℕ) → (at : s.frames ≡ n)
+    → (few : n + 1 < 2 ^ 64) → (is : IsVerdict frame v) → (counts : u.frames ≡ min (s.frames + 1) (2 ^ 64 - 1)) → (told : text ≡ Some (verdict_line u.frames v))
+    → (are : texts ≡ option_to_list text ++ rest) → (next : u.frames ≡ n + 1 → Judged (n + 1) later rest) → Judged n (frame ∷ later) texts
 judged_next s u frame later v text rest texts n at few is counts told are next =
     let more : u.frames ≡ n + 1 = omega (arith, at, few, counts) in
     let k = next more in
@@ -124,7 +124,7 @@ part_checked s t given a b count bytes at few part =
       line = part.text;
       are = lines_of s t seen (part.texts ++ part.text ∷ []) at fewer ended
           (in_order_then JudgesFrame s part.state t part.earlier (part.frame ∷ []) part.texts (part.text ∷ []) part.answers
-          (in_order_one JudgesFrame part.state t part.frame (Some part.text) part.draws));
+          (in_order_one JudgesFrame part.state t part.frame (Some part.text) part.gives));
       counts = omega (arith, part.counts);
       not_all = part.not_all;
       took = part.took;

@@ -8,7 +8,7 @@ use Rattle.gc_world.specs.declared.event.Event.TheVariants.{Send, UpDeliver, UpB
 use Rattle.gc_texts.specs.Cuts.{Cuts}
 use Rattle.gc_texts.specs.Procedures.{IsNumber, IsProcedure}
 use Rattle.gc_texts.proofs.Cutting.{cut_found, digits_lack_spaces}
-use Rattle.gc_world.proofs.Options.{some_is}
+use Rattle.std.proofs.lemmas.Option.{same_Some}
 use Rattle.gc_engines.specs.Schedule.{IsNumbered, IsRequested, IsSend, IsEvent, IsNumberedEvent, SendsRequested}
 
 -- where a line is a word and `rest`, and `r` is the number that `rest` is, or `None` where it is none, `r` is the number behind
@@ -29,7 +29,7 @@ module _ (text : List ℕ) (t : ℕ) (call : Call) (d : ℕ) (r : IsRequested te
   second_cut : (target rest deadline : List ℕ) (behind : Option (List ℕ)) → Cuts 32 text target (Some rest) → Cuts 32 rest deadline behind → (deadline ≡ r.deadline_text) × (behind ≡ Some r.procedure)
   second_cut target rest deadline behind cut next =
       let first = first_cut target (Some rest) cut in
-      cut_found 32 rest deadline behind r.deadline_text r.procedure next (some_is rest (r.deadline_text ++ 32 ∷ r.procedure) first.1) (digits_lack_spaces r.deadline_text r.deadline_is.names.digits)
+      cut_found 32 rest deadline behind r.deadline_text r.procedure next (same_Some rest (r.deadline_text ++ 32 ∷ r.procedure) first.1) (digits_lack_spaces r.deadline_text r.deadline_is.names.digits)
 
   -- a text that requests a call has a space
   pub no_first_space : (target : List ℕ) → Cuts 32 text target None → ⊥
@@ -51,7 +51,7 @@ module _ (text : List ℕ) (t : ℕ) (call : Call) (d : ℕ) (r : IsRequested te
   -- what stands behind the second space is a procedure and its parameters
   pub has_procedure : (target rest deadline procedure : List ℕ) → Cuts 32 text target (Some rest) → Cuts 32 rest deadline (Some procedure) → ((c : Call) → IsProcedure procedure c → ⊥) → ⊥
   has_procedure target rest deadline procedure cut next none =
-      none call (subst (λ (p : List ℕ). IsProcedure p call) (sym (some_is procedure r.procedure (second_cut target rest deadline (Some procedure) cut next).1)) r.procedure_is)
+      none call (subst (λ (p : List ℕ). IsProcedure p call) (sym (same_Some procedure r.procedure (second_cut target rest deadline (Some procedure) cut next).1)) r.procedure_is)
 
 -- where a line is `send ` and `rest`, and `event` is the send that `rest` requests, the line has the form of the event
 pub send_is : (word line rest : List ℕ) (event : Event) → word ≡ codes "send " → line ≡ word ++ rest → SendsRequested rest event → IsEvent line event
@@ -64,16 +64,16 @@ pub no_send : (word line rest : List ℕ) → word ≡ codes "send " → line �
 no_send word line rest same e none t call d sent =
     none t call d (subst (λ (x : List ℕ). IsRequested x t call d) (append_cancel_left (codes "send ") sent.rest rest (sym sent.line_is ∙ e ∙ ap (λ w. w ++ rest) same)) sent.requested)
 
--- a line that is none of the seven words with a number has the form of no event that is words and a number
+-- a line that has none of these seven forms is the line of no event that is written as words and a number
 pub no_numbered :
     (line : List ℕ) →
-    ((n : ℕ) → IsNumbered (codes "up bytes ") line n 4294967295 → ⊥) →
-    ((n : ℕ) → IsNumbered (codes "up lose ") line n 4294967295 → ⊥) →
-    ((n : ℕ) → IsNumbered (codes "up repeat ") line n 4294967295 → ⊥) →
-    ((n : ℕ) → IsNumbered (codes "down bytes ") line n 4294967295 → ⊥) →
-    ((n : ℕ) → IsNumbered (codes "down lose ") line n 4294967295 → ⊥) →
-    ((n : ℕ) → IsNumbered (codes "down repeat ") line n 4294967295 → ⊥) →
-    ((n : ℕ) → IsNumbered (codes "expire ") line n 18446744073709551615 → ⊥) →
+    (no_up_bytes : (n : ℕ) → IsNumbered (codes "up bytes ") line n 4294967295 → ⊥) →
+    (no_up_lose : (n : ℕ) → IsNumbered (codes "up lose ") line n 4294967295 → ⊥) →
+    (no_up_repeat : (n : ℕ) → IsNumbered (codes "up repeat ") line n 4294967295 → ⊥) →
+    (no_down_bytes : (n : ℕ) → IsNumbered (codes "down bytes ") line n 4294967295 → ⊥) →
+    (no_down_lose : (n : ℕ) → IsNumbered (codes "down lose ") line n 4294967295 → ⊥) →
+    (no_down_repeat : (n : ℕ) → IsNumbered (codes "down repeat ") line n 4294967295 → ⊥) →
+    (no_expire : (n : ℕ) → IsNumbered (codes "expire ") line n 18446744073709551615 → ⊥) →
     (event : Event) → IsNumberedEvent event → IsEvent line event → ⊥
 no_numbered line ub ul ur db dl dr ex (UpBytes n) counted h = ub n h
 no_numbered line ub ul ur db dl dr ex (UpLose k) counted h = ul k h

@@ -67,8 +67,8 @@ pieces_one rest b false feeds = let bad : false ≡ true = feeds in cc
 
 -- where a line feed came, and the verdict on the line that it ends went out, `WritesVerdicts` is true of this one byte, and nothing
 -- is kept of the next line
-pub byte_verdict : (rest : List ℕ) (b : ℕ) (a c : Option (List ℕ)) (n m : ℕ) (kept : PartialLine) (text : List ℕ) → is_line_feed b ≡ true → KeepsLine kept []
-    → IsLogVerdict rest text → Appends a c text → m ≡ n + 1
+pub byte_verdict : (rest : List ℕ) (b : ℕ) (a c : Option (List ℕ)) (n m : ℕ) (kept : PartialLine) (text : List ℕ) → (feeds : is_line_feed b ≡ true)
+    → (keeps : KeepsLine kept []) → (verdict : IsLogVerdict rest text) → (took : Appends a c text) → (more : m ≡ n + 1)
     → KeepsLine kept (rest_behind rest (b ∷ [])) × WritesVerdicts rest (b ∷ []) a c n m
 byte_verdict rest b a c n m kept text feeds keeps verdict took more =
     let both = pieces_one rest b (is_line_feed b) feeds in (

@@ -12,7 +12,7 @@ use Rattle.gc_lines.proofs.Replies.{reply_one, reply_again, reply_bad}
 use Rattle.gc_catalogue.proofs.CallLaws.{one_refusal, no_refusal}
 use Rattle.gc_catalogue.specs.declared.fault.CallFault.{CallFault}
 use Rattle.gc_engines.specs.Laws.{OneVerdict}
-use Rattle.gc_engines.specs.Verdicts.{IsRequestVerdict, reads, refuses, BeginsAsReply, IsLineVerdict, request, reply, no_reply, no_request, IsVerdict, AreVerdicts, AreVerdictLines, lines_from}
+use Rattle.gc_engines.specs.Verdicts.{IsRequestVerdict, reads, refuses, BeginsAsReply, IsLineVerdict, request, reply, no_reply, no_request, IsVerdict, AreVerdicts, AreVerdictLines, verdict_lines_from}
 use Rattle.gc_engines.specs.declared.verdict.Verdict.{Verdict}
 use Rattle.gc_engines.specs.declared.verdict.Verdict.TheVariants as verdict
 
@@ -21,8 +21,8 @@ one_fault : {A : Type 0} (r : Result A LineFault) (e f : LineFault) → r ≡ Er
 one_fault r e f is other = cc
 
 -- a result isn't both a value and a fault
-never : {A : Type 0} (r : Result A LineFault) (x : A) (f : LineFault) → r ≡ Ok x → r ≡ Err f → ⊥
-never r x f is other = cc
+no_ok_and_fault : {A : Type 0} (r : Result A LineFault) (x : A) (f : LineFault) → r ≡ Ok x → r ≡ Err f → ⊥
+no_ok_and_fault r x f is other = cc
 
 -- bytes that begin with `Q,`, as a request does behind `%R1`, don't begin with `P,`, as a reply does there
 other_letter : (xs ys : List ℕ) → 81 ∷ 44 ∷ xs ≡ 80 ∷ 44 ∷ ys → ⊥
@@ -49,17 +49,17 @@ one_of_line : (line : List ℕ) (v w : Verdict) → IsLineVerdict line v → IsL
 one_of_line line v w (request q is says) (request p other tells) = one_of_request q v w says (subst (λ (f : RequestFields). IsRequestVerdict f w) (one_request line p q other is) tells)
 one_of_line line v w (request q is says) (reply r other tells) = absurd (no_both line q is (begins line r other))
 one_of_line line v w (request q is says) (no_reply f so bad tells) = absurd (no_both line q is so)
-one_of_line line v w (request q is says) (no_request f none bad tells) = absurd (never (request_at line) q f (request_again line q is) (request_bad line f bad))
+one_of_line line v w (request q is says) (no_request f none bad tells) = absurd (no_ok_and_fault (request_at line) q f (request_again line q is) (request_bad line f bad))
 one_of_line line v w (reply r is says) (request q other tells) = absurd (no_both line q other (begins line r is))
 one_of_line line v w (reply r is says) (reply p other tells) = says ∙ ap (λ (f : ReplyFields). verdict.Reply f.rc_com f.rc) (reply_one line r p is other) ∙ sym tells
-one_of_line line v w (reply r is says) (no_reply f so bad tells) = absurd (never (reply_at line) r f (reply_again line r is) (reply_bad line f bad))
+one_of_line line v w (reply r is says) (no_reply f so bad tells) = absurd (no_ok_and_fault (reply_at line) r f (reply_again line r is) (reply_bad line f bad))
 one_of_line line v w (reply r is says) (no_request f none bad tells) = absurd (none (begins line r is))
 one_of_line line v w (no_reply e so bad says) (request q other tells) = absurd (no_both line q other so)
-one_of_line line v w (no_reply e so bad says) (reply r other tells) = absurd (never (reply_at line) r e (reply_again line r other) (reply_bad line e bad))
+one_of_line line v w (no_reply e so bad says) (reply r other tells) = absurd (no_ok_and_fault (reply_at line) r e (reply_again line r other) (reply_bad line e bad))
 one_of_line line v w (no_reply e so bad says) (no_reply f also worse tells) =
     says ∙ ap (λ (g : LineFault). verdict.Fault g) (one_fault (reply_at line) e f (reply_bad line e bad) (reply_bad line f worse)) ∙ sym tells
 one_of_line line v w (no_reply e so bad says) (no_request f none worse tells) = absurd (none so)
-one_of_line line v w (no_request e none bad says) (request q other tells) = absurd (never (request_at line) q e (request_again line q other) (request_bad line e bad))
+one_of_line line v w (no_request e none bad says) (request q other tells) = absurd (no_ok_and_fault (request_at line) q e (request_again line q other) (request_bad line e bad))
 one_of_line line v w (no_request e none bad says) (reply r other tells) = absurd (none (begins line r other))
 one_of_line line v w (no_request e none bad says) (no_reply f so worse tells) = absurd (none so)
 one_of_line line v w (no_request e none bad says) (no_request f nothing worse tells) =
@@ -84,7 +84,8 @@ one_of_frames (frame ∷ later) (v ∷ vs) (w ∷ ws) says tells =
 
 -- a stream has one list of verdicts' lines at most
 one_of_stream : (bytes : List ℕ) (xs ys : List (List ℕ)) → AreVerdictLines bytes xs → AreVerdictLines bytes ys → xs ≡ ys
-one_of_stream bytes xs ys says tells = says.numbered ∙ ap (λ (vs : List Verdict). lines_from 1 vs) (one_of_frames (frames bytes) says.verdicts tells.verdicts says.are tells.are) ∙ sym tells.numbered
+one_of_stream bytes xs ys says tells =
+    says.numbered ∙ ap (λ (vs : List Verdict). verdict_lines_from 1 vs) (one_of_frames (frames bytes) says.verdicts tells.verdicts says.are tells.are) ∙ sym tells.numbered
 
 -- the law: a frame has one verdict at most, and a stream one list of verdicts' lines
 pub one_verdict : OneVerdict

@@ -13,17 +13,11 @@ use Rattle.gc_texts.specs.Cuts.{before, behind}
 use Rattle.gc_texts.specs.Procedures.{IsNumber}
 use Rattle.gc_texts.proofs.Procedures.{one_number}
 use Rattle.gc_engines.specs.Scenes.{IsSerial, IsName, IsTarget}
-use Rattle.gc_engines.specs.RuleScenes.{Begins, IsAnswer, IsFault, IsBlocked, IsDrift, IsNoise, IsRuleLine, way_line}
+use Rattle.gc_engines.specs.RuleScenes.{Begins, IsAnswer, IsFault, IsBlocked, IsDrift, IsNoise, IsRuleLine, Scripts, way_line}
 use Rattle.gc_engines.specs.declared.rule_line.RuleLine.{RuleLine}
 use Rattle.gc_engines.specs.declared.rule_line.RuleLine.TheVariants as says
 use Rattle.gc_engines.specs.declared.rule_line.Blocked.{Blocked}
 use Rattle.gc_engines.specs.declared.rule_line.Drift.{Drift}
-
--- r is the reply to this procedure with this return code and these parameters, or `None` if no such reply can be made
-abbrev pub Scripts : ℕ → ℕ → List ℕ → Option Scripted → Type 0
-Scripts rpc rc params r =
-    MatchOption r ((a : Scripted) (call : RawCall) → a.rpc ≡ rpc → a.with ≡ Some call → call.rpc ≡ rpc → raw_bytes call.params ≡ params → ⊥)
-    (λ a. (a.rpc ≡ rpc) × (a.rc ≡ rc) × ((call : RawCall) × (a.with ≡ Some call) × (call.rpc ≡ rpc) × (raw_bytes call.params ≡ params)))
 
 -- `Scripts` holds of the reply r that was made of a request of this procedure with these parameters: r is `None` only if they are too
 -- long for a reply
@@ -37,8 +31,9 @@ scripts rpc rc params call (Some s) number bytes made long = (made.0 ∙ number,
 
 -- where a line is `answer` with this procedure, this return code and these parameters, and r is the reply made of them, r is what the
 -- line is read as
-pub answer_is : (line params : List ℕ) (rpc rc : ℕ) (r : Option Scripted) → Begins (codes "answer") line → IsNumber (before 32 (behind 32 line)) rpc 65535
-    → IsNumber (before 44 (behind 32 (behind 32 line))) rc 65535 → params ≡ behind 44 (behind 32 (behind 32 line)) → Scripts rpc rc params r
+pub answer_is : (line params : List ℕ) (rpc rc : ℕ) (r : Option Scripted) → (word : Begins (codes "answer") line)
+    → (rpc_is : IsNumber (before 32 (behind 32 line)) rpc 65535) → (rc_is : IsNumber (before 44 (behind 32 (behind 32 line))) rc 65535)
+    → (params_is : params ≡ behind 44 (behind 32 (behind 32 line))) → Scripts rpc rc params r
     → MatchOption r ((a : Scripted) → IsAnswer line a → ⊥) (λ a. IsAnswer line a)
 answer_is line params rpc rc None word rpc_is rc_is params_is none = λ a h.
     let same : a.rpc ≡ rpc = one_number (before 32 (behind 32 line)) a.rpc rpc 65535 h.rpc rpc_is in
@@ -54,9 +49,10 @@ answer_is line params rpc rc (Some a) word rpc_is rc_is params_is made = record 
 }
 
 -- a line that has none of the ten forms is no line of a scene with rules
-pub no_rule : (line : List ℕ) → ((n : ℤ) → IsSerial line n → ⊥) → ((bytes : List ℕ) → IsName line bytes → ⊥) → ((t : Target) → IsTarget line t → ⊥)
-    → ((f : Fault) → IsFault line f → ⊥) → ((a : Scripted) → IsAnswer line a → ⊥) → ((b : Blocked) → IsBlocked line b → ⊥) → ((d : Drift) → IsDrift line d → ⊥)
-    → ((n : Noise) → IsNoise line n → ⊥) → ((w : Way) → line ≡ way_line w → ⊥) → (line ≡ codes "repeats no" → ⊥) → (rule : RuleLine) → IsRuleLine line rule → ⊥
+pub no_rule : (line : List ℕ) → (no_serial : (n : ℤ) → IsSerial line n → ⊥) → (no_name : (bytes : List ℕ) → IsName line bytes → ⊥)
+    → (no_target : (t : Target) → IsTarget line t → ⊥) → (no_fault : (f : Fault) → IsFault line f → ⊥) → (no_answer : (a : Scripted) → IsAnswer line a → ⊥)
+    → (no_blocked : (b : Blocked) → IsBlocked line b → ⊥) → (no_drift : (d : Drift) → IsDrift line d → ⊥) → (no_noise : (n : Noise) → IsNoise line n → ⊥)
+    → (no_way : (w : Way) → line ≡ way_line w → ⊥) → (no_repeats : line ≡ codes "repeats no" → ⊥) → (rule : RuleLine) → IsRuleLine line rule → ⊥
 no_rule line s n t f a b d x w r (says.Serial m) h = s m h
 no_rule line s n t f a b d x w r (says.Name bytes) h = n bytes h
 no_rule line s n t f a b d x w r (says.Target u) h = t u h

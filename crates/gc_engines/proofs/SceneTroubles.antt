@@ -10,9 +10,11 @@ use Rattle.gc_engines.specs.declared.scene_trouble.SceneWord.{SceneWord}
 use Rattle.gc_engines.specs.declared.scene_trouble.SceneWord.TheVariants as word
 
 -- bytes that are none of the twelve words are no word of a scene
-pub no_word : (first : List ℕ) → (first ≡ codes "serial" → ⊥) → (first ≡ codes "name" → ⊥) → (first ≡ codes "target" → ⊥) → (first ≡ codes "fault" → ⊥) → (first ≡ codes "answer" → ⊥)
-    → (first ≡ codes "blocked" → ⊥) → (first ≡ codes "drift" → ⊥) → (first ≡ codes "noise" → ⊥) → (first ≡ codes "repeats" → ⊥) → (first ≡ codes "behave" → ⊥) → (first ≡ codes "delay" → ⊥)
-    → (first ≡ codes "busy" → ⊥) → (w : SceneWord) → first ≡ word_text w → ⊥
+pub no_word : (first : List ℕ) → (no_serial : first ≡ codes "serial" → ⊥) → (no_name : first ≡ codes "name" → ⊥) → (no_target : first ≡ codes "target" → ⊥)
+    → (no_fault : first ≡ codes "fault" → ⊥) → (no_answer : first ≡ codes "answer" → ⊥) → (no_blocked : first ≡ codes "blocked" → ⊥)
+    → (no_drift : first ≡ codes "drift" → ⊥) → (no_noise : first ≡ codes "noise" → ⊥) → (no_repeats : first ≡ codes "repeats" → ⊥)
+    → (no_behave : first ≡ codes "behave" → ⊥) → (no_delay : first ≡ codes "delay" → ⊥) → (no_busy : first ≡ codes "busy" → ⊥)
+    → (w : SceneWord) → first ≡ word_text w → ⊥
 no_word first s n t f a b d x r h l u word.Serial e = s e
 no_word first s n t f a b d x r h l u word.Name e = n e
 no_word first s n t f a b d x r h l u word.Target e = t e
@@ -27,8 +29,8 @@ no_word first s n t f a b d x r h l u word.Delay e = l e
 no_word first s n t f a b d x r h l u word.Busy e = u e
 
 -- what is at fault in the parameters of a reply is at fault in its line
-pub reply_fault : (line number params : List ℕ) (rpc : ℕ) (t : SceneTrouble) → BeginsWith word.Answer line → number ≡ second_word line → params ≡ behind 44 (after_two_words line)
-    → IsNumber number rpc 65535 → IsReplyTrouble rpc params t → IsSceneTrouble line t
+pub reply_fault : (line number params : List ℕ) (rpc : ℕ) (t : SceneTrouble) → (has : BeginsWith word.Answer line) → (at : number ≡ second_word line)
+    → (behind_is : params ≡ behind 44 (after_two_words line)) → (is : IsNumber number rpc 65535) → (h : IsReplyTrouble rpc params t) → IsSceneTrouble line t
 reply_fault line number params rpc (trouble.InTable n) has at behind_is is h =
     (has, (rpc, subst (λ (x : List ℕ). IsNumber x rpc 65535) at is, subst (λ (x : List ℕ). IsReplyTrouble rpc x (trouble.InTable n)) behind_is h))
 reply_fault line number params rpc trouble.Params has at behind_is is h =

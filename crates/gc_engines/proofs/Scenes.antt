@@ -13,21 +13,21 @@ use Rattle.gc_texts.specs.Cuts.{Cuts}
 use Rattle.gc_texts.specs.LineForms.{IsText, is_kept, text_lines}
 use Rattle.gc_texts.proofs.Cutting.{cut_found, one_front}
 use Rattle.gc_texts.proofs.OneReading.{one_list}
-use Rattle.gc_engines.specs.Scenes.{IsSerial, IsPrism, IsTarget, IsSceneLine, IsScene, IsOverfullScene, scene_opening, targets_of}
+use Rattle.gc_engines.specs.Scenes.{IsSerial, IsTargetWords, IsTarget, IsSceneLine, IsScene, IsOverfullScene, scene_opening, targets_of}
 use Rattle.gc_engines.specs.declared.scene_line.SceneLine.{SceneLine}
 use Rattle.gc_engines.specs.declared.scene_line.SceneLine.TheVariants as says
-use Rattle.gc_world.proofs.Options.{some_is}
+use Rattle.std.proofs.lemmas.Option.{same_Some}
 
 -- where a line is `target ` and `rest`, and `o` is the target that `rest` says, or `None` where it says none, `o` is what the
 -- line says, too
 pub target_is : (line rest : List ℕ) (o : Option Target) → line ≡ codes "target " ++ rest
-    → MatchOption o ((t : Target) → IsPrism rest t → ⊥) (λ t. IsPrism rest t) → MatchOption o ((t : Target) → IsTarget line t → ⊥) (λ t. IsTarget line t)
+    → MatchOption o ((t : Target) → IsTargetWords rest t → ⊥) (λ t. IsTargetWords rest t) → MatchOption o ((t : Target) → IsTarget line t → ⊥) (λ t. IsTarget line t)
 target_is line rest None e none =
-    λ t found. none t (subst (λ (ws : List ℕ). IsPrism ws t) (append_cancel_left (codes "target ") found.words rest (sym found.line_is ∙ e)) found.prism)
-target_is line rest (Some t) e prism = record { words = rest; line_is = e; prism = prism }
+    λ t found. none t (subst (λ (ws : List ℕ). IsTargetWords ws t) (append_cancel_left (codes "target ") found.words rest (sym found.line_is ∙ e)) found.words_say)
+target_is line rest (Some t) e said = record { words = rest; line_is = e; words_say = said }
 
 -- the parts of a text `HZ V DISTANCE`, three decimals with a space between two of them
-module _ (words : List ℕ) (t : Target) (p : IsPrism words t) where
+module _ (words : List ℕ) (t : Target) (p : IsTargetWords words t) where
   -- the first space stands behind HZ
   first_cut : (hz : List ℕ) (rest : Option (List ℕ)) → Cuts 32 words hz rest → (hz ≡ p.hz_text) × (rest ≡ Some (p.v_text ++ 32 ∷ p.distance_text))
   first_cut hz rest cut = cut_found 32 words hz rest p.hz_text (p.v_text ++ 32 ∷ p.distance_text) cut p.words_are p.hz_lacks
@@ -35,7 +35,7 @@ module _ (words : List ℕ) (t : Target) (p : IsPrism words t) where
   -- the second space stands behind V
   second_cut : (hz rest v : List ℕ) (behind : Option (List ℕ)) → Cuts 32 words hz (Some rest) → Cuts 32 rest v behind → (v ≡ p.v_text) × (behind ≡ Some p.distance_text)
   second_cut hz rest v behind cut next =
-      cut_found 32 rest v behind p.v_text p.distance_text next (some_is rest (p.v_text ++ 32 ∷ p.distance_text) (first_cut hz (Some rest) cut).1) p.v_lacks
+      cut_found 32 rest v behind p.v_text p.distance_text next (same_Some rest (p.v_text ++ 32 ∷ p.distance_text) (first_cut hz (Some rest) cut).1) p.v_lacks
 
   -- three decimals have a first space
   pub no_first_space : (hz : List ℕ) → Cuts 32 words hz None → ⊥
@@ -56,7 +56,7 @@ module _ (words : List ℕ) (t : Target) (p : IsPrism words t) where
   -- what stands behind the second space is a decimal
   pub has_distance : (hz rest v distance : List ℕ) → Cuts 32 words hz (Some rest) → Cuts 32 rest v (Some distance) → ((d : Decimal) → Spells distance d.digits d.scale → ⊥) → ⊥
   has_distance hz rest v distance cut next none =
-      none t.distance (subst (λ (x : List ℕ). Spells x t.distance.digits t.distance.scale) (sym (some_is distance p.distance_text (second_cut hz rest v (Some distance) cut next).1)) p.distance_is)
+      none t.distance (subst (λ (x : List ℕ). Spells x t.distance.digits t.distance.scale) (sym (same_Some distance p.distance_text (second_cut hz rest v (Some distance) cut next).1)) p.distance_is)
 
 -- the first byte of a line that says this: the first letter of `serial`, `name` or `target`
 abbrev head : SceneLine → ℕ
@@ -76,8 +76,8 @@ same_target t u e f g =
     ap (λ x. record { hz = x; v = t.v; distance = t.distance }) e ∙ ap (λ x. record { hz = u.hz; v = x; distance = t.distance }) f ∙ ap (λ x. record { hz = u.hz; v = u.v; distance = x }) g
 
 -- three words say one target at most
-one_prism : (words : List ℕ) (t u : Target) → IsPrism words t → IsPrism words u → t ≡ u
-one_prism words t u p q =
+one_target_of_words : (words : List ℕ) (t u : Target) → IsTargetWords words t → IsTargetWords words u → t ≡ u
+one_target_of_words words t u p q =
     let first = one_front 32 p.hz_text q.hz_text (p.v_text ++ 32 ∷ p.distance_text) (q.v_text ++ 32 ∷ q.distance_text) (sym p.words_are ∙ q.words_are) p.hz_lacks q.hz_lacks in
     let second = one_front 32 p.v_text q.v_text p.distance_text q.distance_text first.1 p.v_lacks q.v_lacks in
     same_target t u
@@ -95,7 +95,7 @@ one_serial line m n x y =
 one_target : (line : List ℕ) (t u : Target) → IsTarget line t → IsTarget line u → t ≡ u
 one_target line t u x y =
     let words : x.words ≡ y.words = append_cancel_left (codes "target ") x.words y.words (sym x.line_is ∙ y.line_is) in
-    one_prism y.words t u (subst (λ (ws : List ℕ). IsPrism ws t) words x.prism) y.prism
+    one_target_of_words y.words t u (subst (λ (ws : List ℕ). IsTargetWords ws t) words x.words_say) y.words_say
 
 -- a line says one serial number, one name or one target at most
 one_line : (line : List ℕ) (a b : SceneLine) → IsSceneLine line a → IsSceneLine line b → a ≡ b

@@ -20,8 +20,9 @@ use Rattle.gc_engines.specs.SceneDrill.{scene_drill_text}
 use Rattle.gc_engines.specs.Drill.{wire_text, drill_text_on}
 
 -- a function of six counts gives the same text for equal counts
-six : (f : ℕ → ℕ → ℕ → ℕ → ℕ → ℕ → List ℕ) (a b c d e g a' b' c' d' e' g' : ℕ) → a ≡ a' → b ≡ b' → c ≡ c' → d ≡ d' → e ≡ e' → g ≡ g' → f a b c d e g ≡ f a' b' c' d' e' g'
-six f a b c d e g a' b' c' d' e' g' ea eb ec ed ee eg = cc
+equal_by_six : (f : ℕ → ℕ → ℕ → ℕ → ℕ → ℕ → List ℕ) (a b c d e g a' b' c' d' e' g' : ℕ) → (ea : a ≡ a') → (eb : b ≡ b') → (ec : c ≡ c') → (ed : d ≡ d') → (ee : e ≡ e')
+    → (eg : g ≡ g') → f a b c d e g ≡ f a' b' c' d' e' g'
+equal_by_six f a b c d e g a' b' c' d' e' g' ea eb ec ed ee eg = cc
 
 -- two texts are the same where their settlements and their totals are
 totals_where : (totals : Bool) (s t x y : List ℕ) → s ≡ t → x ≡ y → s ++ (if totals then x else []) ≡ t ++ (if totals then y else [])
@@ -36,7 +37,7 @@ text_shown r w totals is =
     let settled : length r.settled ≡ length w.settled = sym (length-map r.settled settlement_seen) ∙ ap length is.settled.seen in
     totals_where totals _ _ _ _
     (ap settlement_lines is.settled.seen)
-    (six totals_text (length r.sent) (length r.executed) (length r.made) (length r.settled) r.refused_sends r.idle_events (length w.sent) (length w.executed)
+    (equal_by_six totals_text (length r.sent) (length r.executed) (length r.made) (length r.settled) r.refused_sends r.idle_events (length w.sent) (length w.executed)
     (length w.made) (length w.settled) w.refused w.idle
     sent (ap length is.executed) made settled is.refused is.idle)
 
@@ -57,7 +58,7 @@ scene_text_shown r w totals is =
     let settled : length r.settled.items ≡ length w.settled = sym (length-map r.settled.items settlement_seen) ∙ ap length is.settled.seen in
     totals_where totals _ _ _ _
     (ap settlement_lines is.settled.seen)
-    (six totals_text r.counts.sent r.counts.executed r.counts.made (length r.settled.items) r.counts.refused_sends r.counts.idle_events (length w.sent) (length w.executed)
+    (equal_by_six totals_text r.counts.sent r.counts.executed r.counts.made (length r.settled.items) r.counts.refused_sends r.counts.idle_events (length w.sent) (length w.executed)
     (length w.made) (length w.settled) w.refused w.idle
     is.counts.sent is.counts.executed is.counts.made settled is.counts.refused is.counts.idle)
 

@@ -11,8 +11,8 @@ use Rattle.gc_engines.specs.declared.timed_line.TimedLine.{TimedLine}
 use Rattle.gc_engines.specs.declared.timed_line.TimedLine.TheVariants as says
 
 -- a line that has none of the four forms is no line of a scene for `serve`
-pub no_timed : (line : List ℕ) → ((rule : RuleLine) → IsRuleLine line rule → ⊥) → ((d : Delay) → IsDelayLine line d → ⊥) → (line ≡ codes "busy queue" → ⊥)
-    → (line ≡ codes "busy drop" → ⊥) → (says : TimedLine) → IsTimedLine line says → ⊥
+pub no_timed : (line : List ℕ) → (no_rule : (rule : RuleLine) → IsRuleLine line rule → ⊥) → (no_delay : (d : Delay) → IsDelayLine line d → ⊥)
+    → (no_queue : line ≡ codes "busy queue" → ⊥) → (no_drop : line ≡ codes "busy drop" → ⊥) → (says : TimedLine) → IsTimedLine line says → ⊥
 no_timed line r d q b (says.Rule rule) h = r rule h
 no_timed line r d q b (says.Delay x) h = d x h
 no_timed line r d q b says.Queues h = q h

@@ -34,7 +34,7 @@ pub record ChecksPart (given : List ℕ) (old new : Option (List ℕ)) (count by
   pub took : Appends old new (all_of whole ++ take bytes line)
 
 -- how much of the verdicts on the frames of these bytes went out, by the result: all of them, or at a failed write the front of them
-abbrev pub Checks : List ℕ → Option (List ℕ) → Option (List ℕ) → Result Served ServeFault → Type 0
+abbrev pub Checks : List ℕ → (old new : Option (List ℕ)) → Result Served ServeFault → Type 0
 Checks given old new (Ok served) = ChecksAll given old new served.replies
 Checks given old new (Err (Read count)) = ChecksAll given old new count
 Checks given old new (Err (Write count bytes)) = ChecksPart given old new count bytes
@@ -50,6 +50,6 @@ pub record IsChecking (old new : Ports) (most : ℕ) (result : Result Served Ser
 
 -- one step of the judge: of a frame it writes the line of its verdict, numbered by a count that grows as far as 64 bits go; of
 -- a frame that no line feed has ended it writes nothing. It serves the proofs of a check, and no promise speaks of it
-abbrev pub JudgesFrame : Judge → Frame → Judge → Option (List ℕ) → Type 0
+abbrev pub JudgesFrame : (before : Judge) → Frame → (after : Judge) → Option (List ℕ) → Type 0
 JudgesFrame before More after text = (after ≡ before) × (text ≡ None)
 JudgesFrame before frame after text = (v : Verdict) × IsVerdict frame v × (after.frames ≡ min (before.frames + 1) (2 ^ 64 - 1)) × (text ≡ Some (verdict_line after.frames v))

@@ -31,13 +31,13 @@ abbrev pub drill_text : ℕ → List Event → Bool → List ℕ
 drill_text width events totals = drill_text_on simulator_opening width events totals
 
 -- a sink took the first n bytes of this text, maybe none, but not all of it
-abbrev pub TookPart : Option (List ℕ) → Option (List ℕ) → List ℕ → Type 0
+abbrev pub TookPart : (old new : Option (List ℕ)) → List ℕ → Type 0
 TookPart old new text = (n : ℕ) × (n < length text) × Appends old new (take n text)
 
 -- these bytes were given as a schedule, to be played: why that ended, and what a sink took, by the result. `text_of` gives what
 -- is written of events that are played; `totals` says whether the line of totals is asked for; `old` and `new` are what the sink
 -- had taken before and has taken after
-abbrev pub DrillsAs : (List Event → Bool → List ℕ) → List ℕ → Bool → Option (List ℕ) → Option (List ℕ) → Result (Unit {0}) RunFault → Type 0
+abbrev pub DrillsAs : (List Event → Bool → List ℕ) → List ℕ → Bool → (old new : Option (List ℕ)) → Result (Unit {0}) RunFault → Type 0
 DrillsAs text_of given totals old new (Ok _) = (length given ≤ TEXT_LIMIT) × ((events : List Event) × IsSchedule given events × Appends old new (text_of events totals))
 DrillsAs text_of given totals old new (Err Read) = (length given ≤ TEXT_LIMIT) × (new ≡ old)
 DrillsAs text_of given totals old new (Err InputTooLong) = (length given ≡ TEXT_LIMIT + 1) × (new ≡ old)
@@ -48,11 +48,11 @@ DrillsAs text_of given totals old new (Err Output) = (length given ≤ TEXT_LIMI
 DrillsAs text_of given totals old new (Err _) = ⊥
 
 -- what a drill on an instrument with this opening state, with a window of this width, did with the bytes given as a schedule
-abbrev pub DrillsOn : State → ℕ → List ℕ → Bool → Option (List ℕ) → Option (List ℕ) → Result (Unit {0}) RunFault → Type 0
+abbrev pub DrillsOn : State → ℕ → List ℕ → Bool → (old new : Option (List ℕ)) → Result (Unit {0}) RunFault → Type 0
 DrillsOn opening width given totals old new result = DrillsAs (drill_text_on opening width) given totals old new result
 
 -- what a drill on the simulator did with the bytes given as a schedule
-abbrev pub Drills : ℕ → List ℕ → Bool → Option (List ℕ) → Option (List ℕ) → Result (Unit {0}) RunFault → Type 0
+abbrev pub Drills : ℕ → List ℕ → Bool → (old new : Option (List ℕ)) → Result (Unit {0}) RunFault → Type 0
 Drills width given totals old new result = DrillsOn simulator_opening width given totals old new result
 
 -- whether a drill with this result has read its source to the end: it has where the schedule was played, or has a faulty line

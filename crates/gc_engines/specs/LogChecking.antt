@@ -30,7 +30,7 @@ abbrev pub part_verdict : List ℕ → List ℕ
 part_verdict bytes = if ends_cleared bytes then verdict_text verdict.Cleared else codes "part"
 
 -- the text is the verdict that the bytes of a log line get by its mark; the words of a line on the connection are repeated as in the log
-abbrev pub IsMarkedVerdict : LogMark → List ℕ → List ℕ → Type 0
+abbrev pub IsMarkedVerdict : LogMark → (bytes text : List ℕ) → Type 0
 IsMarkedVerdict mark.Went bytes text = IsWholeVerdict bytes text
 IsMarkedVerdict mark.WentPart bytes text = text ≡ part_verdict bytes
 IsMarkedVerdict mark.Came bytes text = IsWholeVerdict bytes text
@@ -38,7 +38,8 @@ IsMarkedVerdict mark.CamePart bytes text = text ≡ part_verdict bytes
 IsMarkedVerdict mark.Link bytes text = text ≡ escaped bytes
 
 -- the text is what is written of a line of the checked log. If the line reads as a log line: its moment and its mark as they are, and
--- the verdict on its bytes. If it doesn't: that it is no log line
+-- the verdict on its bytes. If it doesn't: that it is no log line. A line of more than 2100 bytes, or whose escapes stand for more than
+-- 514, doesn't read
 pub data IsLogVerdict (line text : List ℕ) : Type 0 where
   reads : (moment words bytes : List ℕ) (mark : LogMark) → length line ≤ 2100 → length bytes ≤ 514 → IsLogLine line moment mark bytes → IsMarkedVerdict mark bytes words
       → text ≡ moment ++ 32 ∷ (mark_text mark ++ 32 ∷ (words ++ 10 ∷ [])) → IsLogVerdict line text
@@ -91,7 +92,7 @@ TakesPieceInPart kept piece old new before count bytes = (rest : List ℕ) → K
 
 -- how much of the verdicts on the lines of a log went out, by the result: all of them, or at a failed write the front of them. Bytes
 -- behind the last line feed are no line
-abbrev pub ChecksLog : List ℕ → Option (List ℕ) → Option (List ℕ) → Result Served ServeFault → Type 0
+abbrev pub ChecksLog : List ℕ → (old new : Option (List ℕ)) → Result Served ServeFault → Type 0
 ChecksLog given old new (Ok served) = WritesVerdicts [] given old new 0 served.replies
 ChecksLog given old new (Err (Read count)) = WritesVerdicts [] given old new 0 count
 ChecksLog given old new (Err (Write count bytes)) = WritesVerdictsInPart [] given old new 0 count bytes

@@ -1,5 +1,5 @@
 -- A scene's text with rules, and the instrument that it sets up: this project's own.
-use Rattle.std.specs.Prelude.{◌≡◌, ◌⊎◌, ℕ, ℤ, suc, ◌==◌, ◌<◌, ◌≤◌, Bool, true, false, List, [], ◌∷◌, length, Option, Some, None, if◌then◌else◌, codes}
+use Rattle.std.specs.Prelude.{◌≡◌, ◌⊎◌, ℕ, ℤ, suc, ◌==◌, ◌<◌, ◌≤◌, Bool, true, false, List, [], ◌∷◌, length, Option, Some, None, if◌then◌else◌, codes, MatchOption}
 use Rattle.gc_catalogue.specs.RawTexts.{raw_bytes}
 use Rattle.gc_catalogue.specs.declared.raw.RawCall.{RawCall}
 use Rattle.gc_instrument.specs.State.{opening, simulator_opening}
@@ -33,7 +33,7 @@ abbrev pub no_end : ℕ
 no_end = 4294967295
 
 -- the first word of `words`, up to its first space, is `word`
-abbrev pub Begins : List ℕ → List ℕ → Type 0
+abbrev pub Begins : (word words : List ℕ) → Type 0
 Begins word words = before 32 words ≡ word
 
 -- how many requests a fault meets: the words are empty, and it meets requests without end; or they are `for COUNT`
@@ -55,6 +55,12 @@ pub record IsFault (line : List ℕ) (f : Fault) : Type 0 where
   pub span : IsSpan (behind 32 (behind 32 (behind 32 line))) (record { after = f.after; times = f.times })
   pub met : f.met ≡ 0
 
+-- the reply to this procedure with this return code and these parameters; `None` if no such reply can be made
+abbrev pub Scripts : (rpc rc : ℕ) → List ℕ → Option Scripted → Type 0
+Scripts rpc rc params reply =
+    MatchOption reply ((a : Scripted) (call : RawCall) → a.rpc ≡ rpc → a.with ≡ Some call → call.rpc ≡ rpc → raw_bytes call.params ≡ params → ⊥)
+    (λ a. (a.rpc ≡ rpc) × (a.rc ≡ rc) × ((call : RawCall) × (a.with ≡ Some call) × (call.rpc ≡ rpc) × (raw_bytes call.params ≡ params)))
+
 -- the line is `answer RPC RC[,PARAMS]`: a procedure that isn't in the table, and its reply
 pub record IsAnswer (line : List ℕ) (a : Scripted) : Type 0 where
   pub word : Begins (codes "answer") line
@@ -65,26 +71,26 @@ pub record IsAnswer (line : List ℕ) (a : Scripted) : Type 0 where
   pub number : call.rpc ≡ a.rpc
   pub params : raw_bytes call.params ≡ behind 44 (behind 32 (behind 32 line))
 
--- the line is `blocked TARGET FROM TO`: a target is hidden in these looks, counted from 1
+-- the line is `blocked TARGET FROM TO`: a target is hidden from the first of these looks to the second, counted from 1
 pub record IsBlocked (line : List ℕ) (b : Blocked) : Type 0 where
   pub word : Begins (codes "blocked") line
   pub target : IsNumber (before 32 (behind 32 line)) b.target 32
   pub from : IsNumber (before 32 (behind 32 (behind 32 line))) b.from 4294967295
   pub to : IsNumber (behind 32 (behind 32 (behind 32 line))) b.to 4294967295
 
--- the words are `HZ V D`: two angles and a distance, as decimals
+-- the words are `HZ V D`: two angles in radians and a distance in metres, as decimals
 pub record IsOffset (words : List ℕ) (o : Offset) : Type 0 where
   pub hz : IsDouble (before 32 words) o.hz
   pub v : IsDouble (before 32 (behind 32 words)) o.v
   pub distance : IsDouble (behind 32 (behind 32 words)) o.distance
 
--- the line is `drift TARGET HZ V D`: a target moves by an offset with each measurement
+-- the line is `drift TARGET HZ V D`: a target moves by an offset with each measurement of it
 pub record IsDrift (line : List ℕ) (d : Drift) : Type 0 where
   pub word : Begins (codes "drift") line
   pub target : IsNumber (before 32 (behind 32 line)) d.target 32
   pub by : IsOffset (behind 32 (behind 32 line)) d.by
 
--- the line is `noise HZ V D SEED`: how large the noise of the measurements is, and the seed that it is drawn from
+-- the line is `noise HZ V D SEED`: the most by which measurements deviate, in radians and metres, and the seed of the deviations
 pub record IsNoise (line : List ℕ) (n : Noise) : Type 0 where
   pub word : Begins (codes "noise") line
   pub hz : IsDouble (before 32 (behind 32 line)) n.hz
@@ -114,13 +120,13 @@ IsRuleLine line (says.Noise n) = IsNoise line n
 IsRuleLine line (says.Behave w) = line ≡ way_line w
 IsRuleLine line says.NoRepeats = line ≡ codes "repeats no"
 
--- the line asks for a clock that runs
-abbrev pub WantsClock : List ℕ → Type 0
-WantsClock line = (line ≡ codes "behave clock") ⊎ (line ≡ codes "behave real")
+-- the line gives the instrument a clock that runs
+abbrev pub GivesClock : List ℕ → Type 0
+GivesClock line = (line ≡ codes "behave clock") ⊎ (line ≡ codes "behave real")
 
--- the line is written in the form of this item of a scene with rules, and doesn't ask for a clock
+-- the line is written in the form of this item of a scene with rules, and doesn't give the instrument a clock
 abbrev pub IsStillLine : List ℕ → RuleLine → Type 0
-IsStillLine line rule = IsRuleLine line rule × (WantsClock line → ⊥)
+IsStillLine line rule = IsRuleLine line rule × (GivesClock line → ⊥)
 
 -- What lines say together.
 
@@ -240,6 +246,6 @@ SceneFaultOf form text fault = TextFault form text fault
 abbrev pub IsRuleScene : List ℕ → SceneState → Type 0
 IsRuleScene text state = IsSceneOf IsRuleLine text state
 
--- the text is a scene with rules in which no line asks for a clock, and this is the opening state of its instrument
+-- the text is a scene with rules in which no line gives the instrument a clock, and this is the opening state of its instrument
 abbrev pub IsStillScene : List ℕ → SceneState → Type 0
 IsStillScene text state = IsSceneOf IsStillLine text state

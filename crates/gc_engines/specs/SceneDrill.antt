@@ -13,5 +13,5 @@ scene_drill_text opening width events totals = wire_text (scene_played width ope
 
 -- what a drill on a scene's instrument with this opening state, with a window of this width, did with the bytes given as a
 -- schedule
-abbrev pub DrillsScene : SceneState → ℕ → List ℕ → Bool → Option (List ℕ) → Option (List ℕ) → Result (Unit {0}) RunFault → Type 0
+abbrev pub DrillsScene : SceneState → ℕ → List ℕ → Bool → (old new : Option (List ℕ)) → Result (Unit {0}) RunFault → Type 0
 DrillsScene opening width given totals old new result = DrillsAs (scene_drill_text opening width) given totals old new result

@@ -11,7 +11,7 @@ use Rattle.gc_texts.specs.Cuts.{before, behind}
 use Rattle.gc_texts.specs.Nears.{IsDouble}
 use Rattle.gc_texts.specs.Procedures.{IsNumber}
 use Rattle.gc_texts.specs.Words.{first_word, second_word, third_word, after_two_words, after_three_words}
-use Rattle.gc_engines.specs.RuleScenes.{WantsClock}
+use Rattle.gc_engines.specs.RuleScenes.{GivesClock}
 use Rattle.gc_engines.specs.declared.scene_trouble.SceneTrouble.{SceneTrouble}
 use Rattle.gc_engines.specs.declared.scene_trouble.SceneTrouble.TheVariants as trouble
 use Rattle.gc_engines.specs.declared.scene_trouble.SceneWord.{SceneWord}
@@ -51,11 +51,11 @@ form_text word.Busy = codes "busy queue or busy drop"
 abbrev pub BeginsWith : SceneWord → List ℕ → Type 0
 BeginsWith w line = first_word line ≡ word_text w
 
--- the line asks for a clock, or begins with a word that does
+-- the line needs a clock, which `serve` alone has: it gives the instrument one, or it begins with `delay` or `busy`
 abbrev pub NeedsClock : List ℕ → Type 0
-NeedsClock line = WantsClock line ⊎ (BeginsWith word.Delay line ⊎ BeginsWith word.Busy line)
+NeedsClock line = GivesClock line ⊎ (BeginsWith word.Delay line ⊎ BeginsWith word.Busy line)
 
--- the text is no decimal number of at most `max`
+-- the text isn't a whole number of at most `max`, written in digits alone
 unfoldable pub NotNumber : List ℕ → ℕ → Type 0
 NotNumber text max = (n : ℕ) → IsNumber text n max → ⊥
 
@@ -63,8 +63,8 @@ NotNumber text max = (n : ℕ) → IsNumber text n max → ⊥
 unfoldable pub NoDecimal : List ℕ → Type 0
 NoDecimal text = (d : Decimal) → IsDouble text d → ⊥
 
--- what is at fault in a reply to the procedure with this number, with these parameters: the procedure is in the table; or the
--- parameters can't be those of a reply; or neither (`Form`)
+-- what may be at fault in a reply to the procedure with this number, with these parameters. `InTable`: the procedure is in the table.
+-- `Params`: for this reason or another, no request can have them, and so no reply. `Form`: nothing is said of the parameters
 abbrev pub IsReplyTrouble : ℕ → List ℕ → SceneTrouble → Type 0
 IsReplyTrouble rpc params (trouble.InTable n) = (n ≡ rpc) × IsRawRefusal rpc params InTable
 IsReplyTrouble rpc params trouble.Params = (fault : RawFault) × IsRawRefusal rpc params fault

@@ -26,7 +26,7 @@ pub record IsName (line bytes : List ℕ) : Type 0 where
   pub text : text.IsText bytes
 
 -- the words are `HZ V DISTANCE`: three decimals, with one space between two of them
-pub record IsPrism (words : List ℕ) (target : Target) : Type 0 where
+pub record IsTargetWords (words : List ℕ) (target : Target) : Type 0 where
   pub hz_text : List ℕ
   pub v_text : List ℕ
   pub distance_text : List ℕ
@@ -41,7 +41,7 @@ pub record IsPrism (words : List ℕ) (target : Target) : Type 0 where
 pub record IsTarget (line : List ℕ) (target : Target) : Type 0 where
   pub words : List ℕ
   pub line_is : line ≡ codes "target " ++ words
-  pub prism : IsPrism words target
+  pub words_say : IsTargetWords words target
 
 -- the line is written in the form of this item of a scene: a serial number, a name or a target
 abbrev pub IsSceneLine : List ℕ → SceneLine → Type 0

@@ -76,14 +76,14 @@ pub record IsOverfullTimed (text : List ℕ) : Type 0 where
   pub are : IsText IsTimedLine text lines
   pub many : OverfillATimedInstrument lines
 
--- each line that isn't skipped has a form, and at least one is a line of a scene with rules: so memory is needed for a list of those
+-- each line that isn't skipped has a form, and at least one is a line of a scene with rules: so memory is needed for a list of such lines
 pub record GathersRules (text : List ℕ) : Type 0 where
   pub lines : List TimedLine
   pub are : IsText IsTimedLine text lines
   pub some : rules_of lines ≡ [] → ⊥
 
 -- why a text sets up no instrument: it is a scene of more than an instrument has room for; or memory was refused, at a line that has a
--- form or for the list of the lines with rules; or the text is too long, or one of its lines has no form
+-- form or for a list of those that a scene with rules has, too (`GathersRules`); or the text is too long, or one of its lines has no form
 abbrev pub TimedFault : List ℕ → RunFault → Type 0
 TimedFault text SceneFull = (length text ≤ TEXT_LIMIT) × IsOverfullTimed text
 TimedFault text Memory = (length text ≤ TEXT_LIMIT) × (ReachesASoundLine IsTimedLine text ⊎ GathersRules text)

@@ -65,15 +65,15 @@ abbrev pub verdict_line : ℕ → Verdict → List ℕ
 verdict_line n v = decimal n ++ codes " " ++ verdict_text v ++ codes "\n"
 
 -- the lines of verdicts, the first of them on frame n
-abbrev pub lines_from : ℕ → List Verdict → List (List ℕ)
-lines_from n [] = []
-lines_from n (v ∷ vs) = verdict_line n v ∷ lines_from (n + 1) vs
+abbrev pub verdict_lines_from : ℕ → List Verdict → List (List ℕ)
+verdict_lines_from n [] = []
+verdict_lines_from n (v ∷ vs) = verdict_line n v ∷ verdict_lines_from (n + 1) vs
 
 -- the lines of the verdicts on frames, counted from 1
 pub record AreLinesOf (seen : List Frame) (lines : List (List ℕ)) : Type 0 where
   pub verdicts : List Verdict
   pub are : AreVerdicts seen verdicts
-  pub numbered : lines ≡ lines_from 1 verdicts
+  pub numbered : lines ≡ verdict_lines_from 1 verdicts
 
 -- the lines of the verdicts on a whole stream
 abbrev pub AreVerdictLines : List ℕ → List (List ℕ) → Type 0

@@ -46,13 +46,13 @@ impl Answers for Judge {
 /// | another line that begins with `%R1P,` | `fault F`, F being its fault as a reply, 2 to 5 |
 /// | any other line | `fault F`, F being its fault as a request, 1 to 4 |
 ///
-/// Bytes behind the last line feed get no line. `replies` in an answer counts the lines that went out whole. The lines of one
-/// read go out together, before the next read. It takes no memory. N can't pass 2^40, because each frame has at least one byte
+/// Bytes behind the last line feed get no line. `replies` in the result, also in a fault, counts the lines that went out whole. The lines
+/// of one read go out together, before the next read. It takes no memory. N can't pass 2^40, because each frame has at least one byte
 /// and there are fewer than 2^32 reads.
 ///
 /// It returns [`Served`] exactly where the last read was the end. Over ports that hadn't failed before, it fails with `Read` (42)
 /// exactly where the source failed, with `Write` (43) exactly where the sink did, and with `TooManyReads` (44) exactly where all
-/// reads were answered and none was the end.
+/// reads were answered, none was the end, and no port failed. `Write` also says how many bytes of the next line went out.
 pub fn run_check<S: Source, K: Sink>(
     source: &mut S,
     sink: &mut K,

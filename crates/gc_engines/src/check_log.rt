@@ -58,12 +58,13 @@ impl PartialLine {
 /// | `>\|`, `<\|` | `cleared` where the bytes end in a line feed without a CR before it, else `part` |
 /// | `-` | the words as they are in the log |
 ///
-/// For a line that has no form of a log's lines it writes `no log line`. Bytes behind the last line feed get no line. `replies`
-/// in an answer counts the lines that went out whole. It takes no memory.
+/// For a line that has no form of a log's lines, or more than 2100 bytes, or more than 514 bytes of the connection, it writes `no log
+/// line`. Bytes behind the last line feed get no line. `replies` in the result, also in a fault, counts the lines that went out whole. It
+/// takes no memory.
 ///
 /// It returns [`Served`] exactly where the last read was the end. Over ports that hadn't failed before, it fails with `Read` (42)
 /// exactly where the source failed, with `Write` (43) exactly where the sink did, and with `TooManyReads` (44) exactly where all
-/// reads were answered and none was the end.
+/// reads were answered, none was the end, and no port failed. `Write` also says how many bytes of the next line went out.
 pub fn run_check_log<S: Source, K: Sink>(
     source: &mut S,
     sink: &mut K,
@@ -91,8 +92,8 @@ pub fn run_check_log<S: Source, K: Sink>(
     Err(ServeFault::TooManyReads { replies })
 }
 
-// Checks the lines that end in a piece, and adds to `replies` how many verdicts went out whole. `Err(n)`: the sink took the
-// first n bytes of one more verdict's line, which aren't all, and failed.
+// Checks the lines of a log that end in a piece, and adds to `replies` how many verdicts went out whole. What is behind the last line feed
+// stays in `kept`. `Err(n)`: the sink took the first n bytes of one more verdict's line, which aren't all, and failed.
 fn check_piece<K: Sink>(
     kept: &mut PartialLine,
     replies: &mut u64,
@@ -113,8 +114,8 @@ fn check_piece<K: Sink>(
     Ok(())
 }
 
-// Takes one more byte of a log. If it is a line feed, which ends a line of the log, the line with that line's verdict is written.
-// `Err(n)`: the sink took the first n bytes of the line to be written, which aren't all, and failed.
+// Takes one more byte of a log. A line feed ends a line of the log: that line's verdict is written and counted in `replies`, and the next
+// line begins. Any other byte is kept. `Err(n)`: the sink took the first n bytes of the verdict's line, which aren't all, and failed.
 fn check_byte<K: Sink>(
     kept: &mut PartialLine,
     replies: &mut u64,
@@ -140,8 +141,8 @@ fn check_byte<K: Sink>(
     Ok(())
 }
 
-// The line to be written of a complete line of the log, whose bytes are `kept`: its verdict, or that it is no log line. It ends in
-// a line feed.
+// What is written of a complete line of the log, whose bytes are `kept`: its moment, mark and verdict, or `no log line`, as of each line
+// of more than 2100 bytes. It ends in a line feed.
 fn log_verdict_of(kept: &PartialLine) -> Outgoing
     ensures { (rest : List ℕ) → KeepsLine kept.now rest → IsLogVerdict rest result.items }
 {
@@ -154,7 +155,7 @@ fn log_verdict_of(kept: &PartialLine) -> Outgoing
     }
 }
 
-// The line to be written of a line that isn't in the form of a log's lines.
+// What is written of a line that isn't in the form of a log's lines: `no log line`, and a line feed.
 fn no_log_line() -> Outgoing
     ensures { result.items ≡ codes "no log line\n" }
 {
@@ -163,7 +164,7 @@ fn no_log_line() -> Outgoing
     text
 }
 
-// The line to be written of a log line: its moment and mark, the verdict on its bytes, and a line feed.
+// What is written of a log line: its moment and mark, the verdict on its bytes, and a line feed.
 fn log_line_verdict(line: &LogLine<'_>) -> Outgoing
     requires { length line.now.moment.now ≤ 2100 }
     ensures room { length line.now.bytes.items ≤ 514 }
@@ -180,7 +181,8 @@ fn log_line_verdict(line: &LogLine<'_>) -> Outgoing
     text
 }
 
-// Appends the verdict that the bytes of a log line get by its mark. There is room for it.
+// Appends what is written of a log line's bytes, by its mark: the verdict on a whole line or on a part of one, or the words about the
+// connection as they are in the log. There is room for it.
 fn push_marked_verdict(text: &mut Outgoing, mark: LogMark, bytes: &[u8])
     requires few { length bytes.now ≤ 514 }
     requires room { length text.old.items + 2100 ≤ 8192 }
@@ -194,7 +196,7 @@ fn push_marked_verdict(text: &mut Outgoing, mark: LogMark, bytes: &[u8])
     }
 }
 
-// Appends the verdict on a line that went or came whole.
+// Appends the verdict on a line that went or came whole: `overlong` if it has more than 512 bytes, else that of `check`.
 fn push_whole(text: &mut Outgoing, bytes: &[u8])
     requires { length text.old.items + 100 ≤ 8192 }
     ensures items { (words : List ℕ) × IsWholeVerdict bytes.now words × (text.new.items ≡ text.old.items ++ words) }
@@ -207,7 +209,7 @@ fn push_whole(text: &mut Outgoing, bytes: &[u8])
     }
 }
 
-// Appends the verdict on bytes that are no whole line: `cleared` or `part`.
+// Appends the verdict on bytes that are no whole line: `cleared` if they end in a line feed without a CR before it, else `part`.
 fn push_part(text: &mut Outgoing, bytes: &[u8])
     requires { length text.old.items + 100 ≤ 8192 }
     ensures items { text.new.items ≡ text.old.items ++ part_verdict bytes.now }

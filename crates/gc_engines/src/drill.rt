@@ -14,13 +14,13 @@ use gc_texts::{RunFault, read_text};
 use gc_world::{Event, play_width};
 use std::alloc::{AllocError, Global};
 
-/// Plays the schedule that a source gives, on an instrument and with a client that lets `width` requests wait. It writes a
-/// line for each settlement, and with `totals` one more line behind them. Nothing is written before the whole schedule was
-/// read and played, and the whole text made. The lines are this project's own.
+/// Plays the schedule that a source gives, on an instrument and with a client that lets at most `width` requests wait at once. It writes
+/// a line for each settlement, and with `totals` one more line behind them. Nothing is written before the whole schedule was read and
+/// played, and the whole text made. The lines are this project's own.
 ///
 /// `Read`: the source failed. `InputTooLong`: it gave more than 65,536 bytes. `Schedule` names the first line that has the form
 /// of no event, counted from 1. `Memory`: memory was refused. After each of these the sink has taken nothing. `Output`: the sink
-/// failed, and has taken a part of the text.
+/// failed, and has taken at most a part of the text.
 pub fn run_drill_on<S: Source, K: Sink>(
     alloc: Global,
     instrument: Instrument,
@@ -61,7 +61,7 @@ pub fn run_drill_on<S: Source, K: Sink>(
     }
 }
 
-/// Plays a schedule as `run_drill_on` does, on the simulator. The clauses mean what they mean there.
+/// Plays a schedule as `run_drill_on` does, on the simulator. The faults are the same, and the clauses mean what they mean there.
 pub fn run_drill_width<S: Source, K: Sink>(
     alloc: Global,
     source: &mut S,
@@ -82,7 +82,8 @@ pub fn run_drill_width<S: Source, K: Sink>(
     run_drill_on(alloc, Instrument::simulator(), source, sink, totals, width)
 }
 
-/// Plays a schedule as `run_drill_width` does, with a client that lets seven requests wait. The clauses mean what they mean there.
+/// Plays a schedule as `run_drill_width` does, with a client that lets at most seven requests wait at once. The clauses mean what they
+/// mean there.
 pub fn run_drill<S: Source, K: Sink>(
     alloc: Global,
     source: &mut S,

@@ -7,21 +7,16 @@ ghost use Rattle.gc_catalogue.specs.declared.call.Call.{Call};
 ghost use Rattle.gc_world.specs.declared.event.Event.{Event};
 
 use gc_catalogue::Call;
-use gc_texts::{LineForm, TARGET_MAX, cut_at, number_of, read_procedure_into};
+use gc_texts::{LineForm, TARGET_MAX, after_word, cut_at, is_word, number_of, read_procedure_into};
 use gc_world::Event;
 
-// The greatest count that a schedule or a scene may name.
+// The greatest number of 32 bits: the greatest count of bytes and place of a line in flight that a schedule may name, and the greatest
+// count, look and seed of a scene.
 pub(crate) const COUNT_MAX: u64 = 4294967295;
 
-// The rest of a line behind a word at its front. `None`: the line doesn't begin with the word. gc_texts has the same in private.
-pub(crate) fn after_word<'a>(word: &[u8], line: &'a [u8]) -> Option<&'a [u8]>
-    ensures { MatchOption result ((rest : List ℕ) → line.now ≡ word.now ++ rest → ⊥) (λ rest. line.now ≡ word.now ++ rest.now) }
-{
-    line.strip_prefix(word)
-}
-
-// The number behind a word. `None`: the line isn't that word with a number of at most `max` behind it.
-fn numbered(word: &[u8], line: &[u8], max: u64) -> Option<u64>
+// The number behind a word, which ends in the space before the number. `None`: the line isn't that word with a number of at most `max`
+// behind it.
+fn number_behind(word: &[u8], line: &[u8], max: u64) -> Option<u64>
     ensures { MatchOption result ((n : ℕ) → IsNumbered word.now line.now n max → ⊥) (λ n. IsNumbered word.now line.now n max) }
 {
     match after_word(word, line) {
@@ -31,8 +26,9 @@ fn numbered(word: &[u8], line: &[u8], max: u64) -> Option<u64>
 }
 
 // Reads `T D RPC` or `T D RPC PARAMS` as the send of that call to the target T with the deadline D, into `event`, and returns whether
-// the text has such a form. If it hasn't, `event` may have been overwritten all the same. As an event has 176 bytes, the call isn't
-// returned and moved: `event` is made a send of some call first, and then the call is read into its place there.
+// the text has such a form, with T a number of 32 bits and D one of 64. If it hasn't, `event` may have been overwritten all the same. As an
+// event has 176 bytes, the call isn't returned and moved: `event` is made a send of some call first, and then the call is read into its
+// place there.
 fn read_requested(text: &[u8], event: &mut Event) -> bool
     ensures found { IsTrue result → SendsRequested text.now event.new }
     ensures none { IsFalse result → (t : ℕ) (call : Call) (d : ℕ) → IsRequested text.now t call d → ⊥ }
@@ -69,44 +65,37 @@ fn read_send(line: &[u8], event: &mut Event) -> bool
     }
 }
 
-// Whether the line is these words, and nothing else.
-pub(crate) fn is_exactly(words: &[u8], line: &[u8]) -> bool
-    ensures { IsTrue result ↔ (line.now ≡ words.now) }
-{
-    line == words
-}
-
 // Reads a line that is words and a number, as `up bytes 12`, into `event`, and returns whether the line is such an event. If it isn't,
 // `event` is unchanged.
 fn read_numbered(line: &[u8], event: &mut Event) -> bool
     ensures found { IsTrue result → IsEvent line.now event.new }
     ensures none { IsFalse result → (other : Event) → IsNumberedEvent other → IsEvent line.now other → ⊥ }
 {
-    if let Some(bytes) = numbered(b"up bytes ", line, COUNT_MAX) {
+    if let Some(bytes) = number_behind(b"up bytes ", line, COUNT_MAX) {
         *event = Event::UpBytes(bytes as usize);
         return true;
     }
-    if let Some(place) = numbered(b"up lose ", line, COUNT_MAX) {
+    if let Some(place) = number_behind(b"up lose ", line, COUNT_MAX) {
         *event = Event::UpLose(place as usize);
         return true;
     }
-    if let Some(place) = numbered(b"up repeat ", line, COUNT_MAX) {
+    if let Some(place) = number_behind(b"up repeat ", line, COUNT_MAX) {
         *event = Event::UpRepeat(place as usize);
         return true;
     }
-    if let Some(bytes) = numbered(b"down bytes ", line, COUNT_MAX) {
+    if let Some(bytes) = number_behind(b"down bytes ", line, COUNT_MAX) {
         *event = Event::DownBytes(bytes as usize);
         return true;
     }
-    if let Some(place) = numbered(b"down lose ", line, COUNT_MAX) {
+    if let Some(place) = number_behind(b"down lose ", line, COUNT_MAX) {
         *event = Event::DownLose(place as usize);
         return true;
     }
-    if let Some(place) = numbered(b"down repeat ", line, COUNT_MAX) {
+    if let Some(place) = number_behind(b"down repeat ", line, COUNT_MAX) {
         *event = Event::DownRepeat(place as usize);
         return true;
     }
-    if let Some(moment) = numbered(b"expire ", line, u64::MAX) {
+    if let Some(moment) = number_behind(b"expire ", line, u64::MAX) {
         *event = Event::Expire(moment);
         return true;
     }
@@ -130,19 +119,19 @@ impl LineForm for EventForm {
         if read_send(line, event) {
             return true;
         }
-        if is_exactly(b"up deliver", line) {
+        if is_word(b"up deliver", line) {
             *event = Event::UpDeliver;
             return true;
         }
-        if is_exactly(b"down deliver", line) {
+        if is_word(b"down deliver", line) {
             *event = Event::DownDeliver;
             return true;
         }
-        if is_exactly(b"restart client", line) {
+        if is_word(b"restart client", line) {
             *event = Event::RestartClient;
             return true;
         }
-        if is_exactly(b"restart instrument", line) {
+        if is_word(b"restart instrument", line) {
             *event = Event::RestartInstrument;
             return true;
         }

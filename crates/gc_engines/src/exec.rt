@@ -8,8 +8,10 @@ use gc_instrument::{Instrument, ServeFault, Served, serve};
 use gc_lines::{Sink, Source};
 
 /// Serves the requests of a source with [`Instrument::simulator`] until its end, in at most `max_reads` reads of at most
-/// 256 bytes. The replies go into a sink, each with its CR LF. It is [`serve`] on the simulator: bytes behind the last line
-/// feed are dropped, and a fault says what was written. It takes no memory.
+/// 256 bytes. The replies go into a sink, each with its CR LF. Bytes behind the last line feed are discarded. It takes no memory.
+///
+/// It returns [`Served`] and fails exactly where [`serve`] does: with `Read`, `Write` or `TooManyReads`. Each says how many replies went
+/// out whole, and `Write` also how many bytes of the next.
 pub fn run_exec<S: Source, K: Sink>(
     source: &mut S,
     sink: &mut K,

@@ -1,23 +1,21 @@
-//! The reading of one line of a scene with rules. The words of rules are known here alone.
+//! The reading of one line of a scene with rules. Besides `scene_trouble.rt`, the words of rules are known here alone.
 
-ghost use Rattle.std.specs.Prelude.{◌≡◌, ◌↔◌, ℕ, List, MatchOption, Some, IsTrue};
+ghost use Rattle.std.specs.Prelude.{◌≡◌, ◌↔◌, ℕ, MatchOption, IsTrue};
 ghost use Rattle.gc_texts.specs.Cuts.{before, behind};
 ghost use Rattle.gc_texts.specs.Procedures.{IsNumber};
-ghost use Rattle.gc_catalogue.specs.declared.raw.RawCall.{RawCall};
-ghost use Rattle.gc_catalogue.specs.RawTexts.{raw_bytes};
 ghost use Rattle.gc_scenes.specs.declared.rules.Fault.{Fault};
 ghost use Rattle.gc_scenes.specs.declared.rules.Scripted.{Scripted};
 ghost use Rattle.gc_scenes.specs.declared.rules.Offset.{Offset};
 ghost use Rattle.gc_scenes.specs.declared.rules.Noise.{Noise};
 ghost use Rattle.gc_scenes.specs.declared.ways.Way.{Way};
-ghost use Rattle.gc_engines.specs.RuleScenes.{IsRuleLine, IsFault, IsAnswer, IsBlocked, IsOffset, IsDrift, IsNoise, IsSpan, IsTimes, IsStillLine, WantsClock, way_line};
+ghost use Rattle.gc_engines.specs.RuleScenes.{IsRuleLine, IsFault, IsAnswer, IsBlocked, IsOffset, IsDrift, IsNoise, IsSpan, IsTimes, IsStillLine, Scripts, GivesClock, way_line};
 
-use crate::event::{COUNT_MAX, is_exactly};
+use crate::event::COUNT_MAX;
 use crate::scene_line::{read_name, read_serial, read_target};
-use gc_catalogue::{RawCall, raw_call};
+use gc_catalogue::raw_call;
 use gc_instrument::Target;
 use gc_scenes::{Fault, Noise, Offset, Scripted, Way};
-use gc_texts::{LineForm, before, behind, number_of, read_double};
+use gc_texts::{LineForm, before, behind, is_word, number_of, read_double};
 use gc_values::Text;
 
 // The count that stands for "without end".
@@ -29,7 +27,8 @@ pub(crate) const CODE_MAX: u64 = 65535;
 // The greatest number of a target: an instrument has at most 32 targets.
 pub(crate) const SCENE_TARGET_MAX: u64 = 32;
 
-/// A line `blocked`: the target with this number is hidden in the looks `from` to `to`, counted from 1.
+/// A line `blocked`: the target with this number is hidden in the looks from number `from` to number `to`. A look is a measurement or a
+/// search of the instrument, of whichever target; looks are counted from 1, and so are targets.
 #[derive(Clone, Copy, Debug, PartialEq, Eq)]
 pub struct Blocked {
     pub target: u32,
@@ -37,14 +36,15 @@ pub struct Blocked {
     pub to: u32,
 }
 
-/// A line `drift`: the target with this number moves by an offset with each measurement of it.
+/// A line `drift`: the target with this number, counted from 1, moves by an offset with each measurement of it.
 #[derive(Clone, Copy, Debug, PartialEq, Eq)]
 pub struct Drift {
     pub target: u32,
     pub by: Offset,
 }
 
-/// Which requests a fault meets: those that come after the first `after`, and `times` of these; 4294967295 times means without end.
+/// Which requests of its procedure a fault meets: not the first `after`, but the next `times` behind them. The greatest count, 4294967295
+/// times, stands for "without end".
 #[derive(Clone, Copy, Debug, PartialEq, Eq)]
 pub struct Span {
     pub after: u32,
@@ -64,11 +64,11 @@ pub enum RuleLine {
     Fault(Fault),
     /// The reply to a procedure that isn't in the table.
     Answer(Scripted),
-    /// A target that can't be seen.
+    /// A target that is hidden in some looks.
     Blocked(Blocked),
     /// A target that moves.
     Drift(Drift),
-    /// What is added to measurements.
+    /// The most by which measurements deviate.
     Noise(Noise),
     /// The instrument has a way of real instruments, or all of them.
     Behave(Way),
@@ -112,7 +112,7 @@ impl LineForm for StillForm {
     }
 
     fn read(line: &[u8], says: &mut RuleLine) -> bool {
-        if wants_clock(line) {
+        if gives_clock(line) {
             return false;
         }
         match read_rule_line(line) {
@@ -125,11 +125,11 @@ impl LineForm for StillForm {
     }
 }
 
-// Whether the line asks for a clock that runs.
-pub(crate) fn wants_clock(line: &[u8]) -> bool
-    ensures { IsTrue result ↔ WantsClock line.now }
+// Whether the line gives the instrument a clock that runs: `behave clock` or `behave real`.
+pub(crate) fn gives_clock(line: &[u8]) -> bool
+    ensures { IsTrue result ↔ GivesClock line.now }
 {
-    is_exactly(b"behave clock", line) || is_exactly(b"behave real", line)
+    is_word(b"behave clock", line) || is_word(b"behave real", line)
 }
 
 // Reads one line of a scene with rules. `None`: it has the form of no such line.
@@ -163,20 +163,20 @@ pub(crate) fn read_rule_line(line: &[u8]) -> Option<RuleLine>
     if let Some(way) = read_way(line) {
         return Some(RuleLine::Behave(way));
     }
-    if is_exactly(b"repeats no", line) {
+    if is_word(b"repeats no", line) {
         return Some(RuleLine::NoRepeats);
     }
     None
 }
 
-// Reads `for COUNT`, or nothing, which means without end. `None`: the words have no such form.
+// How many requests a fault meets: reads `for COUNT`, or nothing, which means without end. `None`: the words have no such form.
 fn read_times(words: &[u8]) -> Option<u32>
     ensures { MatchOption result ((n : ℕ) → IsTimes words.now n → ⊥) (λ n. IsTimes words.now n) }
 {
     if words.is_empty() {
         return Some(NO_END);
     }
-    if !is_exactly(b"for", before(b' ', words)) {
+    if !is_word(b"for", before(b' ', words)) {
         return None;
     }
     match number_of(behind(b' ', words), COUNT_MAX) {
@@ -206,7 +206,7 @@ fn read_after(words: &[u8]) -> Option<Span>
 fn read_span(words: &[u8]) -> Option<Span>
     ensures { MatchOption result ((span : Span) → IsSpan words.now span → ⊥) (λ span. IsSpan words.now span) }
 {
-    if is_exactly(b"after", before(b' ', words)) {
+    if is_word(b"after", before(b' ', words)) {
         return read_after(behind(b' ', words));
     }
     match read_times(words) {
@@ -220,7 +220,7 @@ fn read_span(words: &[u8]) -> Option<Span>
 fn read_fault(line: &[u8]) -> Option<Fault>
     ensures { MatchOption result ((f : Fault) → IsFault line.now f → ⊥) (λ f. IsFault line.now f) }
 {
-    if !is_exactly(b"fault", before(b' ', line)) {
+    if !is_word(b"fault", before(b' ', line)) {
         return None;
     }
     let rest = behind(b' ', line);
@@ -237,7 +237,7 @@ fn read_fault(line: &[u8]) -> Option<Fault>
     }
 }
 
-// The number of a procedure or the return code that the digits write. `None`: they write none.
+// The number of a procedure or the return code that the digits write. `None`: they write no number up to 65535.
 fn code_of(digits: &[u8]) -> Option<u16>
     ensures { MatchOption result ((n : ℕ) → IsNumber digits.now n 65535 → ⊥) (λ n. IsNumber digits.now n 65535) }
 {
@@ -247,11 +247,10 @@ fn code_of(digits: &[u8]) -> Option<u16>
     }
 }
 
-// The reply with this code to a procedure that isn't in the table. `None`: the procedure is in the table, or the parameters can't
-// stand in a reply.
+// The reply with this code and these parameters to a procedure that isn't in the table. `None`: the procedure is in the table, or the
+// parameters can't be those of a request (`raw_call`), or have more than the 490 bytes that a reply has room for.
 fn scripted(rpc: u16, rc: u16, params: &[u8]) -> Option<Scripted>
-    ensures { MatchOption result ((a : Scripted) (call : RawCall) → a.rpc ≡ rpc → a.with ≡ Some call → call.rpc ≡ rpc → raw_bytes call.params ≡ params.now → ⊥)
-        (λ a. (a.rpc ≡ rpc) × (a.rc ≡ rc) × ((call : RawCall) × (a.with ≡ Some call) × (call.rpc ≡ rpc) × (raw_bytes call.params ≡ params.now))) }
+    ensures { Scripts rpc rc params.now result }
 {
     match raw_call(rpc, params) {
         Ok(call) => Scripted::new(call, rc),
@@ -259,11 +258,12 @@ fn scripted(rpc: u16, rc: u16, params: &[u8]) -> Option<Scripted>
     }
 }
 
-// Reads `answer RPC RC[,PARAMS]`: a procedure that isn't in the table, and its reply. `None`: the line has no such form.
+// Reads `answer RPC RC[,PARAMS]`: a procedure that isn't in the table, and its reply. `None`: the line has no such form, or no such reply
+// can be made (`scripted`).
 fn read_answer(line: &[u8]) -> Option<Scripted>
     ensures { MatchOption result ((a : Scripted) → IsAnswer line.now a → ⊥) (λ a. IsAnswer line.now a) }
 {
-    if !is_exactly(b"answer", before(b' ', line)) {
+    if !is_word(b"answer", before(b' ', line)) {
         return None;
     }
     let rest = behind(b' ', line);
@@ -281,7 +281,7 @@ fn read_answer(line: &[u8]) -> Option<Scripted>
 fn read_blocked(line: &[u8]) -> Option<Blocked>
     ensures { MatchOption result ((b : Blocked) → IsBlocked line.now b → ⊥) (λ b. IsBlocked line.now b) }
 {
-    if !is_exactly(b"blocked", before(b' ', line)) {
+    if !is_word(b"blocked", before(b' ', line)) {
         return None;
     }
     let rest = behind(b' ', line);
@@ -302,7 +302,7 @@ fn read_blocked(line: &[u8]) -> Option<Blocked>
     }
 }
 
-// Reads `HZ V D`: two angles and a distance. `None`: the words have no such form.
+// Reads `HZ V D`: two angles in radians and a distance in metres. `None`: the words have no such form.
 fn read_offset(words: &[u8]) -> Option<Offset>
     ensures { MatchOption result ((o : Offset) → IsOffset words.now o → ⊥) (λ o. IsOffset words.now o) }
 {
@@ -319,11 +319,12 @@ fn read_offset(words: &[u8]) -> Option<Offset>
     }
 }
 
-// Reads `drift TARGET HZ V D`: a target, and the offset by which it moves with each measurement. `None`: the line has no such form.
+// Reads `drift TARGET HZ V D`: a target, and the offset by which it moves with each measurement of it, in radians and metres. `None`: the
+// line has no such form.
 fn read_drift(line: &[u8]) -> Option<Drift>
     ensures { MatchOption result ((d : Drift) → IsDrift line.now d → ⊥) (λ d. IsDrift line.now d) }
 {
-    if !is_exactly(b"drift", before(b' ', line)) {
+    if !is_word(b"drift", before(b' ', line)) {
         return None;
     }
     let rest = behind(b' ', line);
@@ -339,11 +340,12 @@ fn read_drift(line: &[u8]) -> Option<Drift>
     }
 }
 
-// Reads `noise HZ V D SEED`: how large the noise of the measurements is, and its seed. `None`: the line has no such form.
+// Reads `noise HZ V D SEED`: the most by which measurements deviate, in radians and metres, and the seed. `None`: the line has no such
+// form.
 fn read_noise(line: &[u8]) -> Option<Noise>
     ensures { MatchOption result ((n : Noise) → IsNoise line.now n → ⊥) (λ n. IsNoise line.now n) }
 {
-    if !is_exactly(b"noise", before(b' ', line)) {
+    if !is_word(b"noise", before(b' ', line)) {
         return None;
     }
     let rest = behind(b' ', line);
@@ -373,22 +375,22 @@ fn read_noise(line: &[u8]) -> Option<Noise>
 fn read_way(line: &[u8]) -> Option<Way>
     ensures { MatchOption result ((w : Way) → line.now ≡ way_line w → ⊥) (λ w. line.now ≡ way_line w) }
 {
-    if is_exactly(b"behave faces", line) {
+    if is_word(b"behave faces", line) {
         return Some(Way::Faces);
     }
-    if is_exactly(b"behave aims", line) {
+    if is_word(b"behave aims", line) {
         return Some(Way::Aims);
     }
-    if is_exactly(b"behave takes", line) {
+    if is_word(b"behave takes", line) {
         return Some(Way::Takes);
     }
-    if is_exactly(b"behave values", line) {
+    if is_word(b"behave values", line) {
         return Some(Way::Values);
     }
-    if is_exactly(b"behave clock", line) {
+    if is_word(b"behave clock", line) {
         return Some(Way::Clock);
     }
-    if is_exactly(b"behave real", line) {
+    if is_word(b"behave real", line) {
         return Some(Way::Real);
     }
     None

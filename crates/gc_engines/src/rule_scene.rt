@@ -17,12 +17,13 @@ use gc_texts::{RunFault, read_items};
 use gc_values::Text;
 use std::alloc::Global;
 
-/// Reads the text of a scene with rules, and gives the instrument that it sets up, in its opening state.
+/// Reads the text of a scene with rules, and returns the instrument that it sets up, in its opening state.
 ///
 /// A line is one of a scene, or a rule: `fault RPC RC [after COUNT] [for COUNT]`, `answer RPC RC[,PARAMS]`,
 /// `blocked TARGET FROM TO`, `drift TARGET HZ V D`, `noise HZ V D SEED`, `repeats no`, or `behave` with one of the words `faces`,
-/// `aims`, `takes`, `values`, `clock` and `real`, which is all of them. Of several lines `blocked` or `drift` of one
-/// target, or `noise`, the last one counts.
+/// `aims`, `takes`, `values`, `clock` and `real`, which is all of them. Of several lines `blocked` or `drift` of one target, or `noise`,
+/// the last one counts; of several lines `answer` of one procedure the first; and of several lines `fault` of one procedure the first that
+/// meets the request. A line `blocked` or `drift` of a target that the scene doesn't have changes nothing.
 ///
 /// `InputTooLong` refuses a text of more than 65,536 bytes, before any line is read. `Schedule` names the first line that has no form,
 /// counted from 1. `SceneFull` refuses more than 32 targets, 32 faults or 16 replies, if each line has a form. `Memory` comes only
@@ -63,7 +64,7 @@ pub fn read_still_scene(alloc: Global, text: &[u8]) -> Result<SceneInstrument, R
     }
 }
 
-// The instrument that these lines set up. `None`: they have too many targets, faults or replies.
+// The instrument that these lines set up. `None`: they have more than 32 targets, 32 faults or 16 replies.
 pub(crate) fn set_up(lines: &[RuleLine]) -> Option<SceneInstrument>
     ensures { MatchOption result (OverfillAnInstrument lines.now) (λ instrument. (instrument ≡ rules_opening lines.now) × FitAnInstrument lines.now) }
 {
@@ -116,7 +117,7 @@ fn name_of(lines: &[RuleLine]) -> Text
     name
 }
 
-// The targets of these lines, in order. `None`: they are more than an instrument has.
+// The targets of these lines, in order. `None`: they are more than 32.
 fn targets_of(lines: &[RuleLine]) -> Option<ArrayVec<Target, 32>>
     ensures { MatchOption result (32 < length (rules_targets lines.now)) (λ targets. targets.items ≡ rules_targets lines.now) }
 {
@@ -132,7 +133,7 @@ fn targets_of(lines: &[RuleLine]) -> Option<ArrayVec<Target, 32>>
     Some(targets)
 }
 
-// The faults of these lines, in order. `None`: they are more than an instrument has.
+// The faults of these lines, in order. `None`: they are more than 32.
 fn faults_of(lines: &[RuleLine]) -> Option<ArrayVec<Fault, 32>>
     ensures { MatchOption result (32 < length (rules_faults lines.now)) (λ faults. faults.items ≡ rules_faults lines.now) }
 {
@@ -148,7 +149,7 @@ fn faults_of(lines: &[RuleLine]) -> Option<ArrayVec<Fault, 32>>
     Some(faults)
 }
 
-// The replies of the lines `answer`, in order. `None`: they are more than an instrument has.
+// The replies of the lines `answer`, in order. `None`: they are more than 16.
 fn answers_of(lines: &[RuleLine]) -> Option<ArrayVec<Scripted, 16>>
     ensures { MatchOption result (16 < length (rules_answers lines.now)) (λ answers. answers.items ≡ rules_answers lines.now) }
 {
@@ -164,7 +165,7 @@ fn answers_of(lines: &[RuleLine]) -> Option<ArrayVec<Scripted, 16>>
     Some(answers)
 }
 
-// The noise of the last line `noise`. `None`: there is no such line.
+// The noise of the last line `noise`. `None`: there is no such line, and nothing is added to measurements.
 fn noise_of(lines: &[RuleLine]) -> Option<Noise>
     ensures { result ≡ rules_noise None lines.now }
 {
@@ -228,7 +229,8 @@ fn ruled(number: u32, line: &RuleLine, prism: &Prism) -> Prism
     }
 }
 
-// The target with this number, as all lines change it. At first it is never hidden and doesn't move.
+// The target with this number, as all lines change it, one after the other. A target that no line changes is never hidden and doesn't
+// move.
 fn prism_of(number: u32, lines: &[RuleLine], target: Target) -> Prism
     ensures { result ≡ rules_prism number lines.now (still target) }
 {

@@ -19,13 +19,13 @@ const MOST_TARGETS: usize = 32;
 
 /// Reads the text of a scene, and returns the instrument that it sets up, in its opening state.
 ///
-/// A line is `serial N`, `name TEXT` or `target HZ V DISTANCE`, with angles in radians and the slope distance in metres. Of
-/// several serial numbers, or names, the last one counts. If there is none, the instrument has the simulator's. The targets are those
-/// of the text alone, in its order.
+/// A line is `serial N`, `name TEXT` or `target HZ V DISTANCE`, with angles in radians and the slope distance in metres. Empty lines and
+/// those that begin with `#` are skipped. Of several serial numbers, or names, the last one counts. If there is none, the instrument has
+/// the simulator's. The targets are those of the text alone, in its order.
 ///
-/// `InputTooLong` refuses a text of more than 65,536 bytes, before any line is looked at. `Schedule` names the first line that
-/// has no form, counted from 1. `SceneFull` refuses more than 32 targets, where each line has a form. `Memory` comes only where
-/// the list of lines couldn't grow, at a line that has a form.
+/// `InputTooLong` refuses a text of more than 65,536 bytes, before any line is looked at. `Schedule` names the first line that has none of
+/// these forms, counted from 1. `SceneFull` refuses more than 32 targets, where each line has a form. `Memory` comes only where the list
+/// of lines couldn't grow, at a line that has a form.
 pub fn read_scene(alloc: Global, text: &[u8]) -> Result<Instrument, RunFault>
     ensures found { IfOk result (λ instrument. IsScene text.now instrument) }
     ensures fits { IfOk result (λ instrument. IsFittingState instrument) }
@@ -93,7 +93,7 @@ pub(crate) fn simulator_name() -> Text
     }
 }
 
-// The targets of these lines, in order. `None`: they are more than an instrument has.
+// The targets of these lines, in order. `None`: they are more than `MOST_TARGETS`.
 fn targets_of(lines: &[SceneLine]) -> Option<ArrayVec<Target, MOST_TARGETS>>
     ensures { MatchOption result (32 < length (targets_of lines.now)) (λ targets. targets.items ≡ targets_of lines.now) }
 {

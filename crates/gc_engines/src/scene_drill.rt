@@ -17,7 +17,7 @@ use gc_world::Event;
 use std::alloc::{AllocError, Global};
 
 /// Plays the schedule that a source gives, as [`run_drill_on`](crate::run_drill_on) does, but on the instrument of a scene with rules.
-/// The lines that it writes and its faults are the same.
+/// The lines that it writes, its faults and the meaning of its clauses are the same.
 ///
 /// What a run on that instrument promises is less than what one on the simulator does: [`play_scene`] says which parts.
 pub fn run_drill_scene<S: Source, K: Sink>(
@@ -30,22 +30,11 @@ pub fn run_drill_scene<S: Source, K: Sink>(
 ) -> Result<(), RunFault>
     requires least { 1 ≤ width }
     requires most { width ≤ WINDOW }
-
-    // Which bytes the source gave, and how much of their schedule's output the sink took. Each read gave at least one byte,
-    // except a last one that was the end. After the end nothing was read.
     ensures drills { Gave (input_of S.Source source.old) (input_of S.Source source.new) (λ given.
         DrillsScene instrument width given totals (K.taken sink.old) (K.taken sink.new) result) }
-
-    // At most 65,537 reads were answered.
     ensures bounded { S.reads source.new ≤ S.reads source.old + (TEXT_LIMIT + 1) }
-
-    // A schedule is played, or found faulty, only where the last read was the end, and the source has no byte left.
     ensures whole { HasEndedIfWhole (input_of S.Source source.old) (input_of S.Source source.new) result }
-
-    // `Memory` comes only after a read that was answered.
     ensures memory { HasReadIfMemory (input_of S.Source source.old) (input_of S.Source source.new) result }
-
-    // `Read` exactly where the source failed, and `Output` exactly where the sink did.
     ensures source { S.failed source.new ≡ source_failed result (S.failed source.old) }
     ensures sink { K.failed sink.new ≡ sink_failed result (K.failed sink.old) }
 {

@@ -1,14 +1,13 @@
-//! The reading of one line of a scene. The words of a scene are known here alone.
+//! The reading of one line of a scene. Besides `scene_trouble.rt`, the words of a scene are known here alone.
 
 ghost use Rattle.std.specs.Prelude.{◌≡◌, ℕ, ℤ, List, MatchOption};
 ghost use Rattle.gc_values.specs.Text.{IsText};
 ghost use Rattle.gc_values.specs.Whole.{NamesWhole, FitsLong};
 ghost use Rattle.gc_instrument.specs.declared.target.Target.{Target};
-ghost use Rattle.gc_engines.specs.Scenes.{IsSerial, IsName, IsPrism, IsTarget, IsSceneLine};
+ghost use Rattle.gc_engines.specs.Scenes.{IsSerial, IsName, IsTargetWords, IsTarget, IsSceneLine};
 
-use crate::event::after_word;
 use gc_instrument::Target;
-use gc_texts::{LineForm, cut_at, read_double};
+use gc_texts::{LineForm, after_word, cut_at, read_double};
 use gc_values::{Text, read_long};
 
 /// What a line of a scene says of the instrument.
@@ -61,7 +60,7 @@ fn read_scene_line(line: &[u8]) -> Option<SceneLine>
     }
 }
 
-// Reads `serial N`: a serial number. `None`: the line has no such form.
+// Reads `serial N`: a serial number, a whole number of 32 bits that may have a sign. `None`: the line has no such form.
 pub(crate) fn read_serial(line: &[u8]) -> Option<i32>
     ensures { MatchOption result ((n : ℤ) → IsSerial line.now n → ⊥) (λ n. IsSerial line.now n) }
 {
@@ -71,7 +70,7 @@ pub(crate) fn read_serial(line: &[u8]) -> Option<i32>
     }
 }
 
-// Reads a whole number of 32 bits. `None`: the digits write none.
+// Reads a Long: a whole number of 32 bits, with or without a sign. `None`: the text writes none.
 fn long_of(digits: &[u8]) -> Option<i32>
     ensures { MatchOption result ((n : ℤ) → NamesWhole digits.now n → FitsLong n → ⊥) (λ n. NamesWhole digits.now n × FitsLong n) }
 {
@@ -81,18 +80,18 @@ fn long_of(digits: &[u8]) -> Option<i32>
     }
 }
 
-// Reads `name TEXT`: an instrument's name. `None`: the line has no such form.
+// Reads `name TEXT`: an instrument's name, as `name_from` takes it. `None`: the line has no such form.
 pub(crate) fn read_name(line: &[u8]) -> Option<Text>
     ensures { MatchOption result ((bytes : List ℕ) → IsName line.now bytes → ⊥) (λ bytes. IsName line.now bytes) }
 {
     match after_word(b"name ", line) {
-        Some(bytes) => text_of(bytes),
+        Some(bytes) => name_from(bytes),
         None => None,
     }
 }
 
-// The text that these bytes are. `None`: they are more than 64 bytes, or one of them may not stand in a text.
-fn text_of(bytes: &[u8]) -> Option<Text>
+// The name that these bytes are. `None`: they are more than 64, or one of them is a double quote, a carriage return or a line feed.
+fn name_from(bytes: &[u8]) -> Option<Text>
     ensures { MatchOption result (IsText bytes.now → ⊥) (λ name. (name ≡ bytes.now) × IsText bytes.now) }
 {
     match Text::new(bytes) {
@@ -106,15 +105,15 @@ pub(crate) fn read_target(line: &[u8]) -> Option<Target>
     ensures { MatchOption result ((target : Target) → IsTarget line.now target → ⊥) (λ target. IsTarget line.now target) }
 {
     match after_word(b"target ", line) {
-        Some(words) => read_prism(words),
+        Some(words) => read_target_words(words),
         None => None,
     }
 }
 
 // Reads `HZ V DISTANCE`: where a target stands, by its angles in radians and its slope distance in metres. `None`: the words have
 // no such form.
-fn read_prism(words: &[u8]) -> Option<Target>
-    ensures { MatchOption result ((target : Target) → IsPrism words.now target → ⊥) (λ target. IsPrism words.now target) }
+fn read_target_words(words: &[u8]) -> Option<Target>
+    ensures { MatchOption result ((target : Target) → IsTargetWords words.now target → ⊥) (λ target. IsTargetWords words.now target) }
 {
     let (hz, rest) = cut_at(b' ', words);
     let Some(rest) = rest else { return None };

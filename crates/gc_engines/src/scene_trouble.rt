@@ -5,11 +5,11 @@ ghost use Rattle.std.specs.Io.KnownBytes.{Appends};
 ghost use Rattle.gc_texts.specs.Words.{first_word};
 ghost use Rattle.gc_engines.specs.SceneTroubles.{IsReplyTrouble, IsSceneTrouble, NeedsClock, NoDecimal, NotNumber, form_text, scene_trouble_text, scene_trouble_line, word_text};
 
-use crate::event::{COUNT_MAX, is_exactly};
-use crate::rule_line::{CODE_MAX, SCENE_TARGET_MAX, wants_clock};
+use crate::event::COUNT_MAX;
+use crate::rule_line::{CODE_MAX, SCENE_TARGET_MAX, gives_clock};
 use crate::timed_line::DELAY_MAX;
 use gc_catalogue::{RawFault, raw_call};
-use gc_texts::{before, behind, number_of, read_double};
+use gc_texts::{before, behind, is_word, number_of, read_double};
 use gc_values::{Text, read_long};
 use std::io::{self, Write};
 
@@ -35,9 +35,10 @@ pub enum SceneWord {
 pub enum SceneTrouble {
     /// No line of a scene begins with the line's first word.
     NoWord,
-    /// The line asks for a clock, which `serve` alone has.
+    /// The line needs a clock, which `serve` alone has.
     Clock,
-    /// The line begins with this word, and hasn't its form otherwise: it has too few fields, or too many, or another word.
+    /// The line begins with this word, but hasn't its form, and no single field is named: it has too few fields or too many, or what is
+    /// behind the fields doesn't read.
     Form(SceneWord),
     /// The serial number is no whole number of 32 bits.
     Serial,
@@ -65,7 +66,7 @@ pub enum SceneTrouble {
     Ms,
     /// The procedure of a line `answer` is in the table, which has its replies.
     InTable(u16),
-    /// The parameters of a line `answer` can't be those of a reply.
+    /// The parameters of a line `answer` can't be those of any request, and so not of a reply.
     Params,
 }
 
@@ -93,6 +94,7 @@ impl SceneWord {
 
 impl SceneTrouble {
     /// Writes the trouble of the scene's line with this number, counted from 1: the program's name, the number, and what is at fault.
+    /// `Err`: it couldn't be written whole.
     pub fn tell<E: Write>(self, line: u32, messages: &mut E) -> io::Result<()>
         ensures { OnOk result (Appends (E.contents messages.old) (E.contents messages.new) (scene_trouble_line line self)) }
     {
@@ -139,18 +141,19 @@ impl SceneTrouble {
     }
 }
 
-// Writes which form a line with its first word has, and a line feed.
+// Writes that the line should have this form, and a line feed.
 fn tell_form<E: Write>(form: &str, messages: &mut E) -> io::Result<()>
     ensures { OnOk result (Appends (E.contents messages.old) (E.contents messages.new) (codes "the form is " ++ form.now ++ codes "\n")) }
 {
     writeln!(messages, "the form is {form}")
 }
 
-/// What is at fault in a faulty line of a scene. `has_clock`: the scene is read for `serve`, which has a clock. For a line that isn't
-/// faulty the result is `Form` of its first word.
+/// What is at fault in a faulty line of a scene. `has_clock`: the scene is read for `serve`, which has a clock. Of a line that isn't faulty
+/// the result says nothing.
 ///
-/// The first thing that is amiss is at fault: the first word, then how many fields there are, and then the first field that doesn't
-/// read.
+/// It is the first of these that holds: the line needs a clock, and `has_clock` isn't set; no line begins with the first word; there are
+/// too few fields or too many (`Form`), which isn't asked of `name` and `answer`; a field doesn't read, of which the first is named; and
+/// else `Form` again. The clause says only that the result fits the line, and not that nothing comes before it.
 pub fn scene_trouble_of(line: &[u8], has_clock: bool) -> SceneTrouble
     ensures { IsSceneTrouble line.now result }
 {
@@ -165,58 +168,59 @@ pub fn scene_trouble_of(line: &[u8], has_clock: bool) -> SceneTrouble
     }
 }
 
-// Whether a line asks for a clock, or begins with a word that does.
+// Whether a line needs a clock, which `serve` alone has: it gives the instrument one, or it begins with `delay` or `busy`.
 fn needs_clock(line: &[u8]) -> bool
     ensures { IsTrue result → NeedsClock line.now }
 {
     let first = before(b' ', line);
-    wants_clock(line) || is_exactly(b"delay", first) || is_exactly(b"busy", first)
+    gives_clock(line) || is_word(b"delay", first) || is_word(b"busy", first)
 }
 
 // The word of a scene that these bytes spell. `None`: no line of a scene begins with them.
 fn word_of(first: &[u8]) -> Option<SceneWord>
     ensures { MatchOption result ((word : SceneWord) → first.now ≡ word_text word → ⊥) (λ word. first.now ≡ word_text word) }
 {
-    if is_exactly(b"serial", first) {
+    if is_word(b"serial", first) {
         return Some(SceneWord::Serial);
     }
-    if is_exactly(b"name", first) {
+    if is_word(b"name", first) {
         return Some(SceneWord::Name);
     }
-    if is_exactly(b"target", first) {
+    if is_word(b"target", first) {
         return Some(SceneWord::Target);
     }
-    if is_exactly(b"fault", first) {
+    if is_word(b"fault", first) {
         return Some(SceneWord::Fault);
     }
-    if is_exactly(b"answer", first) {
+    if is_word(b"answer", first) {
         return Some(SceneWord::Answer);
     }
-    if is_exactly(b"blocked", first) {
+    if is_word(b"blocked", first) {
         return Some(SceneWord::Blocked);
     }
-    if is_exactly(b"drift", first) {
+    if is_word(b"drift", first) {
         return Some(SceneWord::Drift);
     }
-    if is_exactly(b"noise", first) {
+    if is_word(b"noise", first) {
         return Some(SceneWord::Noise);
     }
-    if is_exactly(b"repeats", first) {
+    if is_word(b"repeats", first) {
         return Some(SceneWord::Repeats);
     }
-    if is_exactly(b"behave", first) {
+    if is_word(b"behave", first) {
         return Some(SceneWord::Behave);
     }
-    if is_exactly(b"delay", first) {
+    if is_word(b"delay", first) {
         return Some(SceneWord::Delay);
     }
-    if is_exactly(b"busy", first) {
+    if is_word(b"busy", first) {
         return Some(SceneWord::Busy);
     }
     None
 }
 
-// What is at fault in a line that begins with this word.
+// What is at fault in a line that begins with this word. A line `repeats`, `behave` or `busy` has no fields that could be named, so it has
+// `Form`.
 fn trouble_behind(word: SceneWord, line: &[u8]) -> SceneTrouble
     requires { first_word line.now ≡ word_text word }
     ensures { IsSceneTrouble line.now result }
@@ -235,7 +239,7 @@ fn trouble_behind(word: SceneWord, line: &[u8]) -> SceneTrouble
     }
 }
 
-// Whether these bytes are no decimal.
+// Whether these bytes are no decimal, as a scene writes angles and distances.
 #[tactic(auto, unfolding(crate::specs::SceneTroubles::NoDecimal))]
 fn is_no_double(text: &[u8]) -> bool
     ensures { IsTrue result → NoDecimal text.now }
@@ -246,7 +250,7 @@ fn is_no_double(text: &[u8]) -> bool
     }
 }
 
-// Whether these bytes are no decimal number of at most `max`.
+// Whether these bytes are no whole number of at most `max`, written in digits alone.
 #[tactic(auto, unfolding(crate::specs::SceneTroubles::NotNumber))]
 fn is_no_number(text: &[u8], max: u64) -> bool
     ensures { IsTrue result → NotNumber text.now max }
@@ -345,7 +349,7 @@ fn answer_trouble(line: &[u8]) -> SceneTrouble
 }
 
 // What is at fault in the parameters of a reply to the procedure with this number: `InTable` if the procedure is in the table, `Params` if
-// no reply can have these parameters, or else `Form`.
+// not even a request of it can have these parameters, or else `Form`, also where they are too long for a reply alone.
 fn reply_trouble(rpc: u16, params: &[u8]) -> SceneTrouble
     ensures { IsReplyTrouble rpc params.now result }
 {

@@ -10,7 +10,7 @@ use gc_texts::{RunFault, read_items};
 use gc_world::Event;
 use std::alloc::Global;
 
-/// Reads the text of a schedule: its events, in order.
+/// Reads the text of a schedule: its events, in order. Empty lines and those that begin with `#` are skipped.
 ///
 /// `InputTooLong` refuses a text of more than 65,536 bytes, before any line is looked at. `Schedule` names the first line that
 /// has the form of no event, counted from 1. `Memory` comes only where the list of events couldn't grow, at a line that is an

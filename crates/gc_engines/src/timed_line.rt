@@ -1,14 +1,13 @@
-//! The reading of one line of a scene that `serve` takes: a line of a scene with rules, or one that wants a clock. The words that want
-//! one are known here alone.
+//! The reading of one line of a scene that `serve` takes: a line of a scene with rules, or one with the word `delay` or `busy`. Besides
+//! `scene_trouble.rt`, these two words are known here alone.
 
 ghost use Rattle.std.specs.Prelude.{◌≡◌, MatchOption};
 ghost use Rattle.gc_scenes.specs.declared.delay.Delay.{Delay};
 ghost use Rattle.gc_engines.specs.TimedScenes.{IsTimedLine, IsDelayLine};
 
-use crate::event::is_exactly;
 use crate::rule_line::{CODE_MAX, RuleLine, read_rule_line};
 use gc_scenes::Delay;
-use gc_texts::{LineForm, before, behind, number_of};
+use gc_texts::{LineForm, before, behind, is_word, number_of};
 
 // The longest delay in milliseconds: an hour.
 pub(crate) const DELAY_MAX: u64 = 3_600_000;
@@ -18,7 +17,7 @@ pub(crate) const DELAY_MAX: u64 = 3_600_000;
 pub enum TimedLine {
     /// A line of a scene with rules.
     Rule(RuleLine),
-    /// The reply to a procedure goes out later.
+    /// The reply to a procedure goes out later, by a number of milliseconds.
     Delay(Delay),
     /// What comes while a reply is awaited waits in order.
     Queues,
@@ -59,10 +58,10 @@ fn read_timed_line(line: &[u8]) -> Option<TimedLine>
     if let Some(delay) = read_delay(line) {
         return Some(TimedLine::Delay(delay));
     }
-    if is_exactly(b"busy queue", line) {
+    if is_word(b"busy queue", line) {
         return Some(TimedLine::Queues);
     }
-    if is_exactly(b"busy drop", line) {
+    if is_word(b"busy drop", line) {
         return Some(TimedLine::Drops);
     }
     None
@@ -72,7 +71,7 @@ fn read_timed_line(line: &[u8]) -> Option<TimedLine>
 fn read_delay(line: &[u8]) -> Option<Delay>
     ensures { MatchOption result ((d : Delay) → IsDelayLine line.now d → ⊥) (λ d. IsDelayLine line.now d) }
 {
-    if !is_exactly(b"delay", before(b' ', line)) {
+    if !is_word(b"delay", before(b' ', line)) {
         return None;
     }
     let rest = behind(b' ', line);

@@ -17,8 +17,8 @@ use std::alloc::{AllocError, Global};
 /// Returns the instrument that the text sets up, in its opening state. Of several delays of one procedure, and of several lines
 /// `busy`, the last one counts.
 ///
-/// The faults are those of `read_rule_scene`. `SceneFull` also refuses more than 32 delays, and `Memory` also comes when all lines
-/// were read, and the list of those with rules couldn't grow.
+/// The faults are those of `read_rule_scene`. `SceneFull` also refuses more than 32 delays. `Memory` also comes where all lines were read,
+/// and the list of those that `read_rule_scene` takes, too, couldn't grow.
 pub fn read_timed_scene(alloc: Global, text: &[u8]) -> Result<SlowInstrument, RunFault>
     ensures found { IfOk result (λ slow. IsTimedScene text.now slow) }
     ensures too_long { RefusesLong text.now result }
@@ -58,7 +58,7 @@ fn rules_of(alloc: Global, lines: &[TimedLine]) -> Result<Vec<RuleLine>, AllocEr
     Ok(rules)
 }
 
-// The delays of these lines, in order. `None`: they are more than an instrument has.
+// The delays of these lines, in order. `None`: they are more than 32.
 fn delays_of(lines: &[TimedLine]) -> Option<ArrayVec<Delay, 32>>
     ensures { MatchOption result (32 < length (delays_of lines.now)) (λ delays. delays.items ≡ delays_of lines.now) }
 {

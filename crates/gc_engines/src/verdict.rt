@@ -51,25 +51,26 @@ pub(crate) fn line_verdict(line: &[u8]) -> Verdict
             rc_com: reply.rc_com,
             rc: reply.rc,
         },
-        Err(fault) => faulty_verdict(line, fault),
+        Err(fault) => verdict_on_no_reply(line, fault),
     }
 }
 
-// The verdict on a line that is no reply, but has this fault as one.
+// The verdict on a line that is no reply; `fault` is the first fault that it has as one. If that is its first bytes (`Signature`), the line
+// is judged as a request.
 #[inline]
-fn faulty_verdict(line: &[u8], fault: LineFault) -> Verdict
+fn verdict_on_no_reply(line: &[u8], fault: LineFault) -> Verdict
     requires { FirstBadOfReply line.now fault }
     ensures { IsLineVerdict line.now result }
 {
     match fault {
-        LineFault::Signature => no_reply_verdict(line),
+        LineFault::Signature => verdict_as_request(line),
         _ => Verdict::Fault { fault },
     }
 }
 
-// The verdict on a line that doesn't begin as a reply.
+// The verdict on a line that doesn't begin as a reply: that of the request that it is, or its first fault as a request.
 #[inline]
-fn no_reply_verdict(line: &[u8]) -> Verdict
+fn verdict_as_request(line: &[u8]) -> Verdict
     requires { ¬ BeginsAsReply line.now }
     ensures { IsLineVerdict line.now result }
 {
@@ -93,7 +94,7 @@ fn request_verdict(request: &Request<'_>) -> Verdict
     }
 }
 
-// Appends a verdict in words. There is room for it.
+// Appends a verdict in words, at most 100 bytes, as `check` prints it behind the frame's number. There is room for it.
 #[inline]
 pub(crate) fn push_verdict(text: &mut Outgoing, verdict: Verdict)
     requires { length text.old.items + 100 ≤ 8192 }

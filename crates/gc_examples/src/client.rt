@@ -8,24 +8,24 @@ use gc_lines::{Line, LineFault, append};
 use std::alloc::Global;
 
 /// Makes a ring: `Exact` if it is an empty window, `NoMemory` if memory ran out for it, and else `Other`.
-pub fn ring(alloc: Global) -> Outcome {
+pub fn make_ring(alloc: Global) -> Outcome {
     match Ring::new(alloc) {
         Ok(ring) => Outcome::of_answer(ring.len() == 0),
         Err(_) => Outcome::NoMemory,
     }
 }
 
-/// Calls each method of a client with `Slots`, none of which takes memory: two requests are sent, the first times out, and its
-/// reply is late; then the second is lost with a restart. Returns `Exact` if all came as it should, and else `Other`.
-pub fn client() -> Outcome {
+/// Has a client with `Slots`, which takes no memory, send two requests, of which the first times out and gets its reply late, and the
+/// second is lost with a restart. Returns `Exact` if each call gave what it should, and else `Other`.
+pub fn call_client() -> Outcome {
     let mut client = Client::new(Slots::new());
     Outcome::of_answer(
-        sends_two(&mut client) && hears_replies(&mut client) && restarts(&mut client),
+        send_two(&mut client) && hear_lines(&mut client) && restart_client(&mut client),
     )
 }
 
-// Sends two requests, of which the first times out at the moment 10. Returns whether all came as it should.
-fn sends_two(client: &mut Client<Slots>) -> bool {
+// Sends two requests, of which the first times out at the moment 10, its deadline. Returns whether each call gave what it should.
+fn send_two(client: &mut Client<Slots>) -> bool {
     let mut second = Line::new();
     let Ok(first) = client.send(1, Call::NullProc, 10) else {
         return false;
@@ -39,9 +39,9 @@ fn sends_two(client: &mut Client<Slots>) -> bool {
         && client.expire(10).as_slice() == [1].as_slice()
 }
 
-// Hears the first request's reply, which is late, its repeat, which is a stray, and a line that is no reply. Returns whether all
-// came as it should.
-fn hears_replies(client: &mut Client<Slots>) -> bool {
+// Hears the first request's reply, which is late, its repeat, which is a stray, and a line that is no reply. Returns whether each call
+// gave what it should.
+fn hear_lines(client: &mut Client<Slots>) -> bool {
     let mut reply = Line::new();
     append(&mut reply, b"%R1P,0,0:0");
     let Heard::Settled(late) = client.on_line(&reply) else {
@@ -53,8 +53,8 @@ fn hears_replies(client: &mut Client<Slots>) -> bool {
         && client.hear(b"hello", &mut settled) == Hearing::Unread(LineFault::Signature)
 }
 
-// Restarts the client, which loses the second request. Returns whether all came as it should.
-fn restarts(client: &mut Client<Slots>) -> bool {
+// Restarts the client, which loses the second request. Returns whether each call gave what it should.
+fn restart_client(client: &mut Client<Slots>) -> bool {
     let waiting = (client.waiting(), client.next_id());
     let lost = client.restart();
     waiting == (1, 2)

@@ -14,7 +14,8 @@ pub struct Example {
 }
 
 impl Example {
-    /// Reads the example whose input is the file of this name. `None`: no input has such a name. The error: one of its files can't be read.
+    /// Reads the example whose input is the file of this name. `None`: no input has such a name. `Err`: one of its files can't be read, or
+    /// memory ran out.
     pub fn find(rt: &HostRuntime, name: &str) -> io::Result<Option<Example>> {
         match parts_of(name) {
             Some((engine, stem, ending)) => Ok(Some(read(rt, engine, name, stem, ending)?)),
@@ -22,8 +23,9 @@ impl Example {
         }
     }
 
-    /// In words, in which pieces the input gives another output than the expected one: whole, in single bytes, or cut in two
-    /// somewhere. Empty if it gives the expected output in all of them.
+    /// Gives the input whole, in single bytes, and cut in two at each place, and returns the first of these ways in which the run goes
+    /// wrong, in words that begin with a comma; empty if there is none. Given whole, it has to come to a good end and the expected
+    /// output; given otherwise, to the same as whole.
     pub fn fault(&self, alloc: Global) -> &'static str {
         let whole = self.setup.run(alloc, &[]);
         if !whole.wrote(self.expected.as_slice()) {
@@ -46,7 +48,8 @@ fn parts_of(name: &str) -> Option<(Engine, &str, &'static str)> {
     }
 }
 
-// Reads an example: `input`, the file `STEM` and `ending` with its output, and, if a scene's instrument answers it, the scene `STEM.scene`.
+// Reads an example: the file `input`, its expected output in the file whose name is `stem` and then `ending`, and, if the engine has a
+// scene's instrument, the scene in the file whose name is `stem` and then `.scene`. `Err`: one of these can't be read, or memory ran out.
 fn read(
     rt: &HostRuntime,
     engine: Engine,

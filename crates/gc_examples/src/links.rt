@@ -7,8 +7,9 @@ use gc_probes::{PieceSink, PieceSource, Pipe};
 use gc_texts::RunFault;
 use std::alloc::Global;
 
-/// Asks two commands over a link that gives a stray and then the two answers. Returns `Exact` if both requests
-/// were sent and both answers written, `NoMemory` or `PortLacksMemory` if memory ran out, and else `Other`.
+/// Asks two commands over a link that gives a stray and then the two answers. Returns `Exact` if the run ended well, both requests
+/// were sent and both answers written; `NoMemory` if memory ran out before anything was sent or written; `PortLacksMemory` if it ran out
+/// for what the link or the output was given; and else `Other`.
 pub fn ask(alloc: Global) -> Outcome {
     let sent = b"%R1Q,5003,0:\r\n%R1Q,0,1:\r\n";
     let told = b"0 7 answered %R1P,0,0:0,123456\n1 8 answered %R1P,0,1:0\n";
@@ -32,8 +33,9 @@ pub fn ask(alloc: Global) -> Outcome {
     }
 }
 
-/// Asks three commands of the simulator over two pipes, and returns `Exact` if the three answers were written, `NoMemory` or
-/// `PortLacksMemory` if memory ran out, and else `Other`. With `NoMemory` the pipes are empty, because nothing was sent.
+/// Asks three commands of the simulator over two pipes. Returns `Exact` if the run ended well and the three answers were written;
+/// `NoMemory` if memory ran out, nothing was written and no byte is in a pipe; `PortLacksMemory` if it ran out for what a pipe or the
+/// output was given; and else `Other`.
 pub fn loop_commands(alloc: Global) -> Outcome {
     let told =
         b"0 7 answered %R1P,0,0:0,123456\n1 8 answered %R1P,0,1:0\n2 9 answered %R1P,0,2:0,1\n";
@@ -58,7 +60,7 @@ pub fn loop_commands(alloc: Global) -> Outcome {
     }
 }
 
-// Whether a pipe holds no byte.
+// Whether a pipe holds no byte. If it holds some, the first is taken out of it.
 fn is_empty(pipe: &Pipe) -> bool {
     matches!(pipe.source(u64::MAX).read(&mut [0; 1]), Ok(0))
 }

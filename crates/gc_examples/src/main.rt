@@ -19,7 +19,8 @@ use once::play_once;
 use std::process::ExitCode;
 use std::{env, io};
 
-// Plays each example of the folder whole and in all cuts, prints a line for each, and returns whether each gave what was expected.
+// Plays each example among these files of the folder whole and in all cuts, prints a line for each, and returns whether each gave what was
+// expected. Files that aren't the input of an example are passed over.
 fn play_cuts(rt: &HostRuntime, names: &[String]) -> io::Result<bool> {
     let mut is_right = true;
     for name in names {
@@ -30,8 +31,8 @@ fn play_cuts(rt: &HostRuntime, names: &[String]) -> io::Result<bool> {
     Ok(is_right)
 }
 
-// Prints the line of an example. `fault` is empty if the example gave what was expected in all cuts, and otherwise says in which pieces
-// it didn't. Returns whether `fault` is empty.
+// Prints the line of an example. `fault` is what `Example::fault` says of it: empty if the example gave what was expected in all cuts.
+// Returns whether it is empty.
 fn print_cuts(rt: &HostRuntime, name: &str, fault: &str) -> io::Result<bool> {
     if fault.is_empty() {
         println!(rt; "{name}: as expected, whole and in all cuts")?;
@@ -42,7 +43,8 @@ fn print_cuts(rt: &HostRuntime, name: &str, fault: &str) -> io::Result<bool> {
 }
 
 // Plays the examples, whole, cut and once, and the cases; with the word `once` only the examples, once. The status is 1 if anything
-// gave another output than the expected one.
+// gave another output than the expected one. `Err`: the folder or a file can't be read, a line can't be printed, or memory ran out for
+// one of these.
 fn main(rt: HostRuntime) -> io::Result<ExitCode> {
     let words: Vec<String> = env::args(&rt)?.collect(rt.alloc())?;
     let names = names_of(&rt, ".", "")?;

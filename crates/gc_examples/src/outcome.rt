@@ -31,8 +31,8 @@ impl fmt::Display for Outcome {
 
 impl Outcome {
     /// The outcome of a run that should have written `expected`, by how it ended and what the sink took: `Exact` if it ended well with
-    /// `expected`; `NoMemory` if memory ran out before it wrote; `PortLacksMemory` if memory ran out for the sink, after a first part of
-    /// `expected`; and else `Other`.
+    /// `expected`; `NoMemory` if memory ran out for the run and the sink took nothing; `PortLacksMemory` if memory ran out for the sink,
+    /// which took a first part of `expected`, or nothing; and else `Other`.
     pub fn of(end: Result<(), RunFault>, sink: &PieceSink, expected: &[u8]) -> Outcome {
         match end {
             Ok(()) if sink.taken() == expected => Outcome::Exact,
@@ -40,6 +40,15 @@ impl Outcome {
             Err(RunFault::Output) if sink.lacks_memory() && expected.starts_with(sink.taken()) => {
                 Outcome::PortLacksMemory
             }
+            _ => Outcome::Other,
+        }
+    }
+
+    /// The outcome of an example whose scene or schedule was refused with this fault: `NoMemory` if memory ran out for it, and else
+    /// `Other`.
+    pub fn of_unread(fault: RunFault) -> Outcome {
+        match fault {
+            RunFault::Memory => Outcome::NoMemory,
             _ => Outcome::Other,
         }
     }

@@ -19,17 +19,17 @@ parts_at word whole places n cut is =
     let both = one_cut word is.0 whole is.1 places is.2 cut in
     subst (λ w. IsParts w places n) both.0 (subst (λ p. IsParts is.0 p n) both.1 is.3)
 
--- without a whole number in front of the point a word is no percentage
+-- without a whole number of at most 100 before its point a word is no percentage
 pub no_whole : (whole : List ℕ) (places : Option (List ℕ)) (n : ℕ) → ((m : ℕ) → IsNumber whole m 100 → ⊥) → IsParts whole places n → ⊥
 no_whole whole None n none is = none is.0 is.1
 no_whole whole (Some places) n none is = none is.0 is.2
 
--- without one to three decimals behind its point a word is no percentage
+-- where a word has a point, but not one to three digits after it, the word is no percentage
 pub no_thousandths : (whole : List ℕ) (places : Option (List ℕ)) (digits : List ℕ) (n : ℕ) → places ≡ Some digits → ((m : ℕ) → IsPlaces digits m → ⊥) → IsParts whole places n → ⊥
 no_thousandths whole places digits n cut none is =
     let parts : IsParts whole (Some digits) n = subst (λ p. IsParts whole p n) cut is in none parts.1 parts.3
 
--- digits are one number of thousandths at most, by how many they are and the number that they write
+-- how many digits there are, and the number that they write, determine the number of thousandths
 one_count : (count m x y : ℕ) → AreThousandths count m x → AreThousandths count m y → x ≡ y
 one_count count m x y (inl a) (inl b) = omega (arith, a.0, a.1, b.0, b.1)
 one_count count m x y (inl a) (inr (inl b)) = omega (arith, a.0, b.0)
@@ -41,15 +41,15 @@ one_count count m x y (inr (inr a)) (inl b) = omega (arith, a.0, b.0)
 one_count count m x y (inr (inr a)) (inr (inl b)) = omega (arith, a.0, b.0)
 one_count count m x y (inr (inr a)) (inr (inr b)) = omega (arith, a.1, b.1)
 
--- digits after a point are one number of thousandths at most
+-- the digits after a point determine the number of thousandths
 one_places : (digits : List ℕ) (m n : ℕ) → IsPlaces digits m → IsPlaces digits n → m ≡ n
 one_places digits m n x y =
     let same : x.0 ≡ y.0 = one_number digits x.0 y.0 999 x.1 y.1 in
     one_count (length digits) y.0 m n (subst (λ k. AreThousandths (length digits) k m) same x.2) y.2
 
 -- where the number before the point and the thousandths after it are together more than 100 percent, the word is no percentage
-pub too_much : (whole : List ℕ) (places : Option (List ℕ)) (digits : List ℕ) (w t n : ℕ) → places ≡ Some digits → IsNumber whole w 100
-    → IsPlaces digits t → 100000 < w * 1000 + t → IsParts whole places n → ⊥
+pub too_much : (whole : List ℕ) (places : Option (List ℕ)) (digits : List ℕ) (w t n : ℕ) → (cut : places ≡ Some digits) → (number : IsNumber whole w 100)
+    → (are : IsPlaces digits t) → (above : 100000 < w * 1000 + t) → (is : IsParts whole places n) → ⊥
 too_much whole places digits w t n cut number are above is =
     let parts : IsParts whole (Some digits) n = subst (λ p. IsParts whole p n) cut is in
     let same : parts.0 ≡ w = one_number whole parts.0 w 100 parts.2 number in

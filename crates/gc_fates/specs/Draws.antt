@@ -2,43 +2,43 @@
 -- nothing but the seed, the direction and the line's number. This project's own.
 use Rattle.std.specs.Prelude.{◌≡◌, ℕ, ◌+◌, ◌*◌, ◌-◌, ◌/◌, ◌%◌, ◌^◌, ◌<◌, Bool, nat_lt}
 use Rattle.rand_xoshiro.specs.SplitMix64.{mix_u64}
-use Rattle.gc_fates.specs.declared.draw.Way.{Way}
-use Rattle.gc_fates.specs.declared.draw.Way.TheVariants.{Up, Down}
+use Rattle.gc_fates.specs.declared.draw.Direction.{Direction}
+use Rattle.gc_fates.specs.declared.draw.Direction.TheVariants.{Up, Down}
 
 -- what splitmix64 adds to its state at each step
 abbrev pub golden : ℕ
 golden = 0x9e3779b97f4a7c15
 
 -- the next output of splitmix64 in this state
-abbrev pub word_at : ℕ → ℕ
-word_at state = (mix_u64 state).0
+abbrev pub output_at : ℕ → ℕ
+output_at state = (mix_u64 state).0
 
 -- the state of splitmix64 this many steps after `state`
-abbrev pub steps_on : ℕ → ℕ → ℕ
+abbrev pub steps_on : (state steps : ℕ) → ℕ
 steps_on state steps = (state + golden * steps % 2 ^ 64) % 2 ^ 64
 
 -- the state from which a seed's lines in one direction draw: the seed's first output for lines up, and its second for lines down
-abbrev pub start_of : ℕ → Way → ℕ
-start_of seed Up = word_at seed
-start_of seed Down = word_at ((seed + golden) % 2 ^ 64)
+abbrev pub start_of : ℕ → Direction → ℕ
+start_of seed Up = output_at seed
+start_of seed Down = output_at ((seed + golden) % 2 ^ 64)
 
 -- the state from which kills of the station are drawn: the seed's third output
 abbrev pub start_of_kills : ℕ → ℕ
-start_of_kills seed = word_at ((seed + golden * 2 % 2 ^ 64) % 2 ^ 64)
+start_of_kills seed = output_at ((seed + golden * 2 % 2 ^ 64) % 2 ^ 64)
 
 -- how many draws are before draw k of line n, both counted from 1: sixteen for each earlier line, and the earlier ones of the same
 -- line
-abbrev pub draws_before : ℕ → ℕ → ℕ
+abbrev pub draws_before : (n k : ℕ) → ℕ
 draws_before n k = (16 * (n - 1) % 2 ^ 64 + (k - 1)) % 2 ^ 64
 
 -- draw k of line n, where the draws begin at the state `start`
-abbrev pub draw_at : ℕ → ℕ → ℕ → ℕ
-draw_at start n k = word_at (steps_on start (draws_before n k))
+abbrev pub draw_at : (start n k : ℕ) → ℕ
+draw_at start n k = output_at (steps_on start (draws_before n k))
 
 -- whether something that happens to `share` of 100,000 lines happens by this draw, whose upper 32 bits decide
-abbrev pub happens : ℕ → ℕ → Bool
+abbrev pub happens : (draw share : ℕ) → Bool
 happens draw share = nat_lt (draw / 4294967296 * 100000 / 4294967296) share
 
 -- the number from `least` to `most` that a draw gives; its lower 32 bits decide. It is `least` if `most` is below that
-abbrev pub among : ℕ → ℕ → ℕ → ℕ
+abbrev pub among : (draw least most : ℕ) → ℕ
 among draw least most = least + draw % 4294967296 * (most - least + 1) / 4294967296

@@ -18,20 +18,20 @@ drawn None draw = 0
 drawn (Some chance) draw = among draw chance.least chance.most
 
 -- the number that a word draws if what it names happens, else 0
-abbrev pub drawn_if : Bool → Option Chance → ℕ → ℕ
-drawn_if happens chance draw = if happens then drawn chance draw else 0
+abbrev pub drawn_if : (hit : Bool) → Option Chance → (draw : ℕ) → ℕ
+drawn_if hit chance draw = if hit then drawn chance draw else 0
 
 -- whether a line is lost, by its first draw
-abbrev pub loses : Rules → ℕ → ℕ → Bool
+abbrev pub loses : Rules → (start line : ℕ) → Bool
 loses rules start line = hits (chance_of rules Lose) (draw_at start line 1)
 
 -- whether the connection ends in place of a line, by the line's fifth draw; never in place of a lost line
-abbrev pub ends : Rules → ℕ → ℕ → Bool
+abbrev pub ends : Rules → (start line : ℕ) → Bool
 ends rules start line = not (loses rules start line) && hits (chance_of rules Close) (draw_at start line 5)
 
 -- what happens to a line: each word has its own draw. An end is a reset if the lower 32 bits of its draw are in the upper half of their
 -- range
-abbrev pub fate_of : Rules → ℕ → ℕ → Fate
+abbrev pub fate_of : Rules → (start line : ℕ) → Fate
 fate_of rules start line = record {
   wait = drawn (chance_of rules Delay) (draw_at start line 3);
   is_lost = loses rules start line;

@@ -1,7 +1,7 @@
 -- Examples of draws, computed from the definitions.
 use Rattle.std.specs.Prelude.{◌≡◌, ℕ, [], ◌∷◌, map}
 use Rattle.gc_fates.specs.Draws.{start_of, draw_at, among}
-use Rattle.gc_fates.specs.declared.draw.Way.TheVariants.{Up, Down}
+use Rattle.gc_fates.specs.declared.draw.Direction.TheVariants.{Up, Down}
 
 -- with seed 7: the first three draws of line 1 up, the first draw of line 2 down, and the delay that `delay 400 600` draws for line 1 up
 pub record DrawsAsWritten : Type 0 where

@@ -30,12 +30,12 @@ without_comment line = before 35 line
 
 -- a line leads from the rules `old` of the lines before it to the rules `new`: it is blank and `new` are `old`, or it is a rule whose word
 -- no earlier line has, and `new` are `old` with this rule
-abbrev pub Leads : Rules → List ℕ → Rules → Type 0
+abbrev pub Leads : (old : Rules) → List ℕ → (new : Rules) → Type 0
 Leads old line new = (IsBlank (without_comment line) × (new ≡ old))
     ⊎ ((rule : Rule) × IsRule (without_comment line) rule × (chance_of old rule.word ≡ None) × (new ≡ with_rule old rule))
 
 -- these lines lead from the rules `old` to the rules `new`
-abbrev pub LeadAll : Rules → List (List ℕ) → Rules → Type 0
+abbrev pub LeadAll : (old : Rules) → List (List ℕ) → (new : Rules) → Type 0
 LeadAll old [] new = new ≡ old
 LeadAll old (line ∷ lines) new = (between : Rules) × Leads old line between × LeadAll between lines new
 

@@ -5,7 +5,7 @@ use Rattle.gc_texts.specs.Procedures.{IsNumber}
 
 -- `count` digits after a point, which write `number`, are `n` thousandths: one digit is tenths, two are hundredths, and three
 -- thousandths
-abbrev pub AreThousandths : ℕ → ℕ → ℕ → Type 0
+abbrev pub AreThousandths : (count number n : ℕ) → Type 0
 AreThousandths count number n = ((count ≡ 1) × (n ≡ number * 100)) ⊎ (((count ≡ 2) × (n ≡ number * 10)) ⊎ ((count ≡ 3) × (n ≡ number)))
 
 -- one to three digits after a point are this many thousandths

@@ -2,7 +2,7 @@
 //! direction and its number alone, whatever came before it. All arithmetic on seeds is here.
 
 ghost use Rattle.std.specs.Prelude.{◌≡◌, ◌<◌, ◌≤◌, ◌^◌};
-ghost use Rattle.gc_fates.specs.Draws.{word_at, start_of, start_of_kills, draw_at, happens, among};
+ghost use Rattle.gc_fates.specs.Draws.{output_at, start_of, start_of_kills, draw_at, happens, among};
 
 use crate::share::WHOLE;
 use rand_core::{Rng, SeedableRng};
@@ -16,7 +16,7 @@ const DRAWS: u64 = 16;
 
 /// A direction of the line.
 #[derive(Clone, Copy, Debug, PartialEq, Eq)]
-pub enum Way {
+pub enum Direction {
     /// Towards the instrument.
     Up,
     /// Towards the station.
@@ -24,8 +24,8 @@ pub enum Way {
 }
 
 /// The next output of splitmix64 in this state.
-pub fn word_of_state(state: u64) -> u64
-    ensures { result ≡ word_at state }
+pub fn output_of_state(state: u64) -> u64
+    ensures { result ≡ output_at state }
 {
     let mut generator = SplitMix64::seed_from_u64(state);
     generator.next_u64()
@@ -40,35 +40,35 @@ pub struct Draws {
 
 impl Draws {
     /// The draws of this seed for this direction.
-    pub fn new(seed: u64, way: Way) -> Draws
-        ensures { result.start ≡ start_of seed way }
+    pub fn new(seed: u64, direction: Direction) -> Draws
+        ensures { result.start ≡ start_of seed direction }
     {
-        let state = match way {
-            Way::Up => seed,
-            Way::Down => seed.wrapping_add(GOLDEN),
+        let state = match direction {
+            Direction::Up => seed,
+            Direction::Down => seed.wrapping_add(GOLDEN),
         };
         Draws {
-            start: word_of_state(state),
+            start: output_of_state(state),
         }
     }
 
-    /// The draws of this seed for kills of the station.
+    /// The draws of this seed for kills of the station, each of which counts as a line.
     pub fn of_kills(seed: u64) -> Draws
         ensures { result.start ≡ start_of_kills seed }
     {
         Draws {
-            start: word_of_state(seed.wrapping_add(GOLDEN.wrapping_mul(2))),
+            start: output_of_state(seed.wrapping_add(GOLDEN.wrapping_mul(2))),
         }
     }
 
-    /// The draw with number `place`, 1 to 16, of line number `line`, counted from 1.
+    /// The draw with number `place`, 1 to 16, of line number `line`, counted from 1. A 0 counts as 1.
     pub fn draw(self, line: u64, place: u64) -> u64
         ensures { result ≡ draw_at self.start line place }
     {
         let before = DRAWS
             .wrapping_mul(line.saturating_sub(1))
             .wrapping_add(place.saturating_sub(1));
-        word_of_state(self.start.wrapping_add(GOLDEN.wrapping_mul(before)))
+        output_of_state(self.start.wrapping_add(GOLDEN.wrapping_mul(before)))
     }
 }
 

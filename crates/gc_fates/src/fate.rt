@@ -49,11 +49,11 @@ fn drawn(chance: Option<Chance>, draw: u64) -> u64
     }
 }
 
-// The number that a word draws if what it names happens, else 0.
-fn drawn_if(happens: bool, chance: Option<Chance>, draw: u64) -> u64
-    ensures { result ≡ drawn_if happens chance draw }
+// The number that a word draws if what it names happens (`hit`), else 0.
+fn drawn_if(hit: bool, chance: Option<Chance>, draw: u64) -> u64
+    ensures { result ≡ drawn_if hit chance draw }
 {
-    if happens { drawn(chance, draw) } else { 0 }
+    if hit { drawn(chance, draw) } else { 0 }
 }
 
 /// Whether the instrument restarts at a line, counted from 1: the field `restarts` of `fate_of`, without the draws of the others.

@@ -13,7 +13,7 @@ mod share;
 mod spaced;
 
 pub use chance::Chance;
-pub use draw::{Draws, Way, among, word_of_state};
+pub use draw::{Direction, Draws, among, output_of_state};
 pub use fate::{Fate, fate_of, restarts_at};
 pub use reading::{Refusal, read_rules};
 pub use rule::{MILLIS_MAX, RuleFault, Word};

@@ -1,9 +1,9 @@
 -- A synchronization over lines of bytes is one over their ids: any turns of the former are some moves of the latter. `Shows`
 -- says that the state of the one over ids is that of the one over lines.
-use Rattle.std.proofs.Common.{◌≡◌, ℕ, zero, suc, ◌<◌, ◌⊎◌, inl, inr, Bool, true, false, List, [], ◌∷◌, ◌++◌, map, Option, Some, None, refl, sym, ◌∙◌, ap, subst, arith}
+use Rattle.std.proofs.Common.{◌≡◌, ℕ, ◌<◌, ◌⊎◌, inl, inr, Bool, true, false, List, [], ◌∷◌, ◌++◌, map, Option, Some, None, refl, sym, ◌∙◌, ap, subst, arith}
 use mathlib.Core.Path.{ap₂}
 use Rattle.std.specs.List.{filter_map, cons_option}
-use Rattle.std.proofs.lemmas.Bool.{ne_eqb}
+use Rattle.std.proofs.lemmas.Bool.{ne_eqb, true≢false}
 use Rattle.std.proofs.lemmas.List.{map-append}
 use Rattle.gc_catalogue.specs.Asked.{is_of_table}
 use Rattle.gc_catalogue.specs.declared.asked.Asked.{Asked}
@@ -15,7 +15,7 @@ use Rattle.gc_instrument.specs.Replying.{Handed}
 use Rattle.gc_instrument.specs.State.{KeptReply}
 use Rattle.gc_world.specs.Order.{Each}
 use Rattle.gc_field.specs.World.{Ends, Request, without, doubled}
-use Rattle.gc_world.proofs.Options.{some_is, none_is_not}
+use Rattle.std.proofs.lemmas.Option.{same_Some, none-some}
 use Rattle.gc_world.proofs.Rows.{each_append, each_without, each_doubled}
 use Rattle.gc_field.specs.Begin.{InFlight, IsWellFormed, AreTurns, Model, Turn, Asks, Comes, Foreign, Reaches, Up_lose, Up_repeat, Down_lose, Down_repeat, Anew, Changes, UnderWay, begins, leaves, ids_under_way, asks, comes, reaches, turns, turned}
 use Rattle.gc_field.specs.Begun.{HasBegunCleanly, eighth}
@@ -25,28 +25,16 @@ use Rattle.gc_field.proofs.BeginIds.{Sent, Begins, IsClean, aged, begun_anew, id
 use Rattle.gc_field.proofs.BeginKilled.{begins_anew, behind_one, under_way}
 use Rattle.gc_field.proofs.BeginLists.{each_front}
 use Rattle.gc_field.proofs.BeginSound.{the_word_begins_cleanly}
-use Rattle.gc_field.proofs.Once.{true_is_not}
+use Rattle.gc_world.proofs.Queues.{without_map, doubled_map}
 
 -- Lists.
-
--- losing an element, and applying a function to each, come to the same in either order
-map_without : {A B : Type 0} (f : A → B) (k : ℕ) (xs : List A) → without k (map f xs) ≡ map f (without k xs)
-map_without f k [] = refl
-map_without f zero (x ∷ xs) = refl
-map_without f (suc k) (x ∷ xs) = ap (λ l. f x ∷ l) (map_without f k xs)
-
--- repeating an element, and applying a function to each, come to the same in either order
-map_doubled : {A B : Type 0} (f : A → B) (k : ℕ) (xs : List A) → doubled k (map f xs) ≡ map f (doubled k xs)
-map_doubled f k [] = refl
-map_doubled f zero (x ∷ xs) = refl
-map_doubled f (suc k) (x ∷ xs) = ap (λ l. f x ∷ l) (map_doubled f k xs)
 
 -- where P holds of f x for each element x of a list, P holds of each element of the mapped list
 each_to_map : {A B : Type 0} (P : B → Type 0) (f : A → B) (xs : List A) → Each (λ x. P (f x)) xs → Each P (map f xs)
 each_to_map P f [] h = tt
 each_to_map P f (x ∷ xs) h = (h.0, each_to_map P f xs h.1)
 
--- Ids: a line without one has a number that is none.
+-- Ids. For a line without an id there is the number 8, which no line has as its id.
 
 -- this id, or 8 for none, which no request has
 abbrev id_or : Option ℕ → ℕ
@@ -149,8 +137,8 @@ module _ {State : Type 0} (ends : Ends State) (Good : State → Type 0) (kept : 
 
   -- what is retained after a request, its reply or nothing, has the request's id
   kept_behind : (k : Option KeptReply) (id : ℕ) (line : List ℕ) (r : KeptReply) → (k ≡ None) ⊎ (k ≡ Some (record { id = id; line = line })) → k ≡ Some r → Some id ≡ Some r.id
-  kept_behind k id line r (inl none) e = absurd (none_is_not r (sym none ∙ e))
-  kept_behind k id line r (inr some) e = ap (λ (x : KeptReply). Some x.id) (some_is (record { id = id; line = line }) r (sym some ∙ e))
+  kept_behind k id line r (inl none) e = absurd (none-some r (sym none ∙ e))
+  kept_behind k id line r (inr some) e = ap (λ (x : KeptReply). Some x.id) (same_Some (record { id = id; line = line }) r (sym some ∙ e))
 
   -- a request that is no call of the table is old
   old_raw : (x : InFlight Request) → IsKnown x → is_of_table x.line.call ≡ false → x.old ≡ true
@@ -158,7 +146,7 @@ module _ {State : Type 0} (ends : Ends State) (Good : State → Type 0) (kept : 
     -- the lemma above, by whether the request is old (`b`)
     by_case : (b : Bool) → x.old ≡ b → b ≡ true
     by_case true e = refl
-    by_case false e = absurd (true_is_not (sym (ap is_of_table (known.1 e)) ∙ raw))
+    by_case false e = absurd (true≢false (sym (ap is_of_table (known.1 e)) ∙ raw))
 
   -- if a request reaches the instrument, and `p` shows it, the state of the ids that comes of it shows what the instrument
   -- makes of it
@@ -208,7 +196,7 @@ module _ {State : Type 0} (ends : Ends State) (Good : State → Type 0) (kept : 
 
   -- what is retained afterwards, the same as before or nothing, has the id that was noted before
   still_kept : (k after : Option KeptReply) (o : Option ℕ) → (after ≡ None) ⊎ (after ≡ k) → ((r : KeptReply) → k ≡ Some r → o ≡ Some r.id) → (r : KeptReply) → after ≡ Some r → o ≡ Some r.id
-  still_kept k after o (inl none) f r e = absurd (none_is_not r (sym none ∙ e))
+  still_kept k after o (inl none) f r e = absurd (none-some r (sym none ∙ e))
   still_kept k after o (inr same) f r e = f r (sym same ∙ e)
 
   -- `Shows` is preserved if the instrument's state changes, and it then keeps the same or nothing
@@ -239,19 +227,19 @@ module _ {State : Type 0} (ends : Ends State) (Good : State → Type 0) (kept : 
       ]
   shown (Up_lose k ∷ ts) s p h g =
       let r = shown ts (turns ends s (Up_lose k)) (ids.moves p (ids.Up_lose k)) h.1
-      (shows_up s p (without k s.up) (without k p.up) (ap (without k) g.up ∙ map_without mark_up k s.up) (each_without IsKnown k s.up g.known) g) in
+      (shows_up s p (without k s.up) (without k p.up) (ap (without k) g.up ∙ without_map mark_up k s.up) (each_without IsKnown k s.up g.known) g) in
       (ids.Up_lose k ∷ r.0, r.1)
   shown (Up_repeat k ∷ ts) s p h g =
       let r = shown ts (turns ends s (Up_repeat k)) (ids.moves p (ids.Up_repeat k)) h.1
-      (shows_up s p (doubled k s.up) (doubled k p.up) (ap (doubled k) g.up ∙ map_doubled mark_up k s.up) (each_doubled IsKnown k s.up g.known) g) in
+      (shows_up s p (doubled k s.up) (doubled k p.up) (ap (doubled k) g.up ∙ doubled_map mark_up k s.up) (each_doubled IsKnown k s.up g.known) g) in
       (ids.Up_repeat k ∷ r.0, r.1)
   shown (Down_lose k ∷ ts) s p h g =
       let r = shown ts (turns ends s (Down_lose k)) (ids.moves p (ids.Down_lose k)) h.1
-      (shows_down s p (without k s.down) (without k p.down) (ap (without k) g.down ∙ map_without mark_down k s.down) g) in
+      (shows_down s p (without k s.down) (without k p.down) (ap (without k) g.down ∙ without_map mark_down k s.down) g) in
       (ids.Down_lose k ∷ r.0, r.1)
   shown (Down_repeat k ∷ ts) s p h g =
       let r = shown ts (turns ends s (Down_repeat k)) (ids.moves p (ids.Down_repeat k)) h.1
-      (shows_down s p (doubled k s.down) (doubled k p.down) (ap (doubled k) g.down ∙ map_doubled mark_down k s.down) g) in
+      (shows_down s p (doubled k s.down) (doubled k p.down) (ap (doubled k) g.down ∙ doubled_map mark_down k s.down) g) in
       (ids.Down_repeat k ∷ r.0, r.1)
   shown (Anew ∷ ts) s p h g = shown ts (turns ends s Anew) p h.1 (shows_state s p (ends.restarted s.state) (is.starts_good s.state g.good) (is.starts s.state g.good) g)
   shown (Changes state ∷ ts) s p h g = shown ts (turns ends s (Changes state)) p h.1 (shows_state s p state h.0.0 (inr h.0.1) g)
@@ -285,7 +273,7 @@ module _ {State : Type 0} (ends : Ends State) (Good : State → Type 0) (kept : 
   -- requests from before, with ids below 8, are `IsKnown`
   known_old : (xs : List Request) → Each (λ x. x.id < 8) xs → Each IsKnown (map (λ x. record { old = true; line = x }) xs)
   known_old [] h = tt
-  known_old (x ∷ xs) h = ((h.0, (λ o. absurd (true_is_not o))), known_old xs h.1)
+  known_old (x ∷ xs) h = ((h.0, (λ o. absurd (true≢false o))), known_old xs h.1)
 
   -- `Shows` holds at the start of a synchronization
   shows_begins : (u : UnderWay State) → IsWellFormed Good u → Shows (begins u) (begun_anew the_word (marks u))

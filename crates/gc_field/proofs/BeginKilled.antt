@@ -2,16 +2,16 @@
 -- (The word has the ids of a synchronization's null procedures.) `first` has the ids in flight at the start of a
 -- synchronization, and `left` those of the word that aren't answered yet; old lines are from before it, own ones are its own.
 -- `IsTrying` is the invariant.
-use Rattle.std.proofs.Common.{◌≡◌, ℕ, zero, ◌⊎◌, inl, inr, Bool, true, false, List, [], ◌∷◌, ◌++◌, nat_eq, refl, sym, ◌∙◌, ap, subst, append-nil}
-use Rattle.std.proofs.lemmas.Bool.{eqb-true}
+use Rattle.std.proofs.Common.{◌≡◌, ℕ, zero, ◌⊎◌, inl, inr, Bool, true, false, List, [], ◌∷◌, ◌++◌, nat_eq, refl, sym, ◌∙◌, ap, subst, append-nil, append_assoc}
+use Rattle.std.proofs.lemmas.Bool.{eqb-true, false≢true}
 use Rattle.gc_client.specs.Beginning.{left_by_one, IsSubsequence, the_word}
 use Rattle.gc_field.proofs.BeginIds.{Sent, Model, Move, heard, moved, aged, begun_anew, Pairs, AllDiffer, Begins, ids_of}
 use Rattle.gc_world.specs.Order.{Each}
 use Rattle.gc_field.specs.World.{without, doubled}
-use Rattle.gc_field.proofs.BeginLists.{each_both, each_back, pairs_front, pairs_back, goes_over}
-use Rattle.gc_field.proofs.BeginWords.{HasNoMoreWords, subword_front, subword_each, never, word_differs}
+use Rattle.gc_field.proofs.BeginLists.{each_both, each_back, pairs_front, pairs_back}
+use Rattle.gc_field.proofs.BeginWords.{HasNoMoreWords, subword_front, subword_each, word_differs}
 use Rattle.gc_field.proofs.BeginMoves.{Lasts, holds_moved}
-use Rattle.gc_field.proofs.BeginLines.{IsLine, IsOld, IsOwn, IsBefore, HasNone, KeepsTheId, AreOwn, old_if, olds, olds_all, olds_push, has_without, has_doubled, line_without, line_doubled, line_asked, line_came}
+use Rattle.gc_field.proofs.BeginLines.{IsLine, IsOld, IsOwn, KeepsOwn, HasNone, KeepsTheId, OwnIdsFit, old_if, olds, olds_all, olds_push, has_without, has_doubled, line_without, line_doubled, line_asked, line_came}
 use Rattle.gc_field.proofs.BeginSound.{sound_at_start}
 use Rattle.gc_world.proofs.Rows.{each_more, each_append, each_without, each_doubled}
 
@@ -29,12 +29,12 @@ IsAsked i [] = ⊥
 IsAsked i (asked ∷ later) = i ≡ asked
 
 -- this id is `p`, or the first that is left
-abbrev pub IsNear : ℕ → List ℕ → ℕ → Type 0
-IsNear p left i = (i ≡ p) ⊎ IsAsked i left
+abbrev pub IsOneOfTwo : ℕ → List ℕ → ℕ → Type 0
+IsOneOfTwo p left i = (i ≡ p) ⊎ IsAsked i left
 
 -- once an own reply answered: all that is in flight is of this synchronization, and has two ids at most
 abbrev pub IsOver : List ℕ → List Sent → Type 0
-IsOver left line = (p : ℕ) × Each (λ x. IsOwn x × IsNear p left x.id) line
+IsOver left line = (p : ℕ) × Each (λ x. IsOwn x × IsOneOfTwo p left x.id) line
 
 -- the invariant of a synchronization that may be killed: the ids `done` of the word are answered; and either only old replies
 -- have answered yet, or an own one has, and no old line is in flight any more
@@ -55,48 +55,39 @@ hearing_has first done line other has h =
     }
 
 module _ (z : ℕ) (word first : List ℕ) where
-  -- `IsTrying` is preserved if a line is lost
-  trying_lost : (left : List ℕ) (k : ℕ) (line : List Sent) → IsTrying z word first left line → IsTrying z word first left (without k line)
-  trying_lost left k line h =
+  -- `IsTrying` is preserved if the line becomes `other`, of which `IsLine` holds, if the ids of the old lines contain no more words
+  -- then, and what holds of each line in flight once the old ones are over (`IsOver`) still does
+  trying_line : (left : List ℕ) (line other : List Sent) → IsLine z left other → HasNoMoreWords (olds other) (olds line)
+      → ((p : ℕ) → Each (λ x. IsOwn x × IsOneOfTwo p left x.id) line → Each (λ x. IsOwn x × IsOneOfTwo p left x.id) other)
+      → IsTrying z word first left line → IsTrying z word first left other
+  trying_line left line other sound has each h =
       record {
-        sound = line_without z left k line h.sound;
+        sound = sound;
         done = h.done;
         split = h.split;
         phase =
             elim h.phase [
-              | inl g ↦ inl (hearing_has first h.done line (without k line) (has_without k line) g)
-              | inr g ↦ inr (g.0, each_without (λ x. IsOwn x × IsNear g.0 left x.id) k line g.1)
+              | inl g ↦ inl (hearing_has first h.done line other has g)
+              | inr g ↦ inr (g.0, each g.0 g.1)
             ];
       }
+
+  -- `IsTrying` is preserved if a line is lost
+  trying_lost : (left : List ℕ) (k : ℕ) (line : List Sent) → IsTrying z word first left line → IsTrying z word first left (without k line)
+  trying_lost left k line h =
+      trying_line left line (without k line) (line_without z left k line h.sound) (has_without k line) (λ p g. each_without (λ x. IsOwn x × IsOneOfTwo p left x.id) k line g) h
 
   -- `IsTrying` is preserved if a line comes twice
   trying_twice : (left : List ℕ) (k : ℕ) (line : List Sent) → IsTrying z word first left line → IsTrying z word first left (doubled k line)
   trying_twice left k line h =
-      record {
-        sound = line_doubled z left k line h.sound;
-        done = h.done;
-        split = h.split;
-        phase =
-            elim h.phase [
-              | inl g ↦ inl (hearing_has first h.done line (doubled k line) (has_doubled k line) g)
-              | inr g ↦ inr (g.0, each_doubled (λ x. IsOwn x × IsNear g.0 left x.id) k line g.1)
-            ];
-      }
+      trying_line left line (doubled k line) (line_doubled z left k line h.sound) (has_doubled k line) (λ p g. each_doubled (λ x. IsOwn x × IsOneOfTwo p left x.id) k line g) h
 
   -- `IsTrying` is preserved if the client asks
   trying_asked : (id : ℕ) (later : List ℕ) (line : List Sent) → IsTrying z word first (id ∷ later) line → IsTrying z word first (id ∷ later) (line ++ record { id = id; old = false } ∷ [])
   trying_asked id later line h =
       let new : Sent = record { id = id; old = false } in
-      record {
-        sound = line_asked z id later line h.sound;
-        done = h.done;
-        split = h.split;
-        phase =
-            elim h.phase [
-              | inl g ↦ inl (hearing_has first h.done line (line ++ new ∷ []) (λ v d s. subst (λ ids. IsSubsequence v ids) (olds_push id line) s) g)
-              | inr g ↦ inr (g.0, each_append (λ x. IsOwn x × IsNear g.0 (id ∷ later) x.id) line (new ∷ []) g.1 ((refl, inr refl), tt))
-            ];
-      }
+      trying_line (id ∷ later) line (line ++ new ∷ []) (line_asked z id later line h.sound) (λ v d s. subst (λ ids. IsSubsequence v ids) (olds_push id line) s)
+      (λ p g. each_append (λ x. IsOwn x × IsOneOfTwo p (id ∷ later) x.id) line (new ∷ []) g ((refl, inr refl), tt)) h
 
   -- a reply comes, and is the answer
 
@@ -104,28 +95,28 @@ module _ (z : ℕ) (word first : List ℕ) where
   -- lines after it
   old_contains : (b : Bool) (i id : ℕ) (ids v : List ℕ) → b ≡ true → i ≡ id → IsSubsequence v ids → IsSubsequence (id ∷ v) (old_if b i ids)
   old_contains true i id ids v o e s = inl (sym e, s)
-  old_contains false i id ids v o e s = absurd (never o)
+  old_contains false i id ids v o e s = absurd (false≢true o)
 
   -- `IsHearing` is preserved if an old reply answers
   old_answers : (id : ℕ) (done : List ℕ) (x : Sent) (rest : List Sent) → IsOld x → x.id ≡ id → IsHearing first done (x ∷ rest) → IsHearing first (done ++ id ∷ []) rest
   old_answers id done x rest o e h =
       record {
         from = λ v d s. h.from v d (has_without zero (x ∷ rest) v d s);
-        heard = λ v d s. subst (λ l. IsSubsequence l first) (sym (goes_over done id v))
-            (h.heard (id ∷ v) (subst AllDiffer (goes_over done id v) d) (old_contains x.old x.id id (olds rest) v o e s));
+        heard = λ v d s. subst (λ l. IsSubsequence l first) (sym (append_assoc done (id ∷ []) v))
+            (h.heard (id ∷ v) (subst AllDiffer (append_assoc done (id ∷ []) v) d) (old_contains x.old x.id id (olds rest) v o e s));
       }
 
   -- if an own reply answers, the synchronization is `IsOver`
   own_answers : (id : ℕ) (later : List ℕ) (x : Sent) (rest : List Sent) → IsLine z (id ∷ later) (x ∷ rest) → IsOwn x → x.id ≡ id → IsOver later rest
   own_answers id later x rest h o e =
-      (id, each_both (IsBefore x) (KeepsTheId id x) (λ y. IsOwn y × IsNear id later y.id) (λ y f g. (f o, inl (g o e))) rest h.ordered.0 h.own.1.0)
+      (id, each_both (KeepsOwn x) (KeepsTheId id x) (λ y. IsOwn y × IsOneOfTwo id later y.id) (λ y f g. (f o, inl (g o e))) rest h.ordered.0 h.own.1.0)
 
   -- if a reply answers, old or own, still only old replies have answered, or the old lines are over
   phase_answered : (id : ℕ) (later done : List ℕ) (x : Sent) (rest : List Sent) (b : Bool) → x.old ≡ b → IsLine z (id ∷ later) (x ∷ rest) → x.id ≡ id
       → IsHearing first done (x ∷ rest) ⊎ IsOver (id ∷ later) (x ∷ rest) → IsHearing first (done ++ id ∷ []) rest ⊎ IsOver later rest
   phase_answered id later done x rest false o h e p = inr (own_answers id later x rest h o e)
   phase_answered id later done x rest true o h e (inl g) = inl (old_answers id done x rest o e g)
-  phase_answered id later done x rest true o h e (inr g) = absurd (never (sym g.1.0.0 ∙ o))
+  phase_answered id later done x rest true o h e (inr g) = absurd (false≢true (sym g.1.0.0 ∙ o))
 
   -- `IsTrying` is preserved if a reply comes
   trying_came : (left : List ℕ) (x : Sent) (rest : List Sent) → IsTrying z word first left (x ∷ rest) → IsTrying z word first (heard left x.id) rest
@@ -137,7 +128,7 @@ module _ (z : ℕ) (word first : List ℕ) where
         record {
           sound = subst (λ b. IsLine z (left_by_one b id later) rest) e line;
           done = h.done ++ id ∷ [];
-          split = h.split ∙ sym (goes_over h.done id later);
+          split = h.split ∙ sym (append_assoc h.done (id ∷ []) later);
           phase = phase_answered id later h.done x rest x.old refl h.sound (eqb-true x.id id e) h.phase;
         }
     chosen false e line = trying_lost (id ∷ later) zero (x ∷ rest) h
@@ -177,7 +168,7 @@ each_id P [] h = tt
 each_id P (x ∷ xs) h = (h.0, each_id P xs h.1)
 
 -- a word that is in the ids of lines, and whose last id no own line has, is in the ids of the old lines
-in_old : (xs : List Sent) (front : List ℕ) (c : ℕ) → Pairs IsBefore xs → Each (λ x. IsOwn x → c ≡ x.id → ⊥) xs → IsSubsequence (front ++ c ∷ []) (ids_of xs) → IsSubsequence (front ++ c ∷ []) (olds xs)
+in_old : (xs : List Sent) (front : List ℕ) (c : ℕ) → Pairs KeepsOwn xs → Each (λ x. IsOwn x → c ≡ x.id → ⊥) xs → IsSubsequence (front ++ c ∷ []) (ids_of xs) → IsSubsequence (front ++ c ∷ []) (olds xs)
 in_old [] front c before none s = s
 in_old (x ∷ xs) front c before none s = chosen x.old refl (λ f. in_old xs f c before.1 none.1) front s where
   -- the lemma above, by whether the first line is old (`b`)
@@ -191,7 +182,7 @@ in_old (x ∷ xs) front c before none s = chosen x.old refl (λ f. in_old xs f c
       absurd (own_has_no front c (x.id ∷ ids_of xs) (
         none.0 o,
         each_id
-            (λ i. c ≡ i → ⊥) xs (each_both (IsBefore x) (λ y. IsOwn y → c ≡ y.id → ⊥) (λ y. c ≡ y.id → ⊥) (λ y g n. n (g o)) xs before.0 none.1),
+            (λ i. c ≡ i → ⊥) xs (each_both (KeepsOwn x) (λ y. IsOwn y → c ≡ y.id → ⊥) (λ y. c ≡ y.id → ⊥) (λ y g n. n (g o)) xs before.0 none.1),
       ) s)
 
 -- only one id is the first that is left
@@ -199,8 +190,8 @@ same_asked : (left : List ℕ) (i j : ℕ) → IsAsked i left → IsAsked j left
 same_asked [] i j a b = absurd a
 same_asked (asked ∷ later) i j a b = a ∙ sym b
 
--- three ids that differ aren't all `IsNear`
-not_three : (p : ℕ) (left : List ℕ) (a b c : ℕ) → (a ≡ b → ⊥) → (a ≡ c → ⊥) → (b ≡ c → ⊥) → IsNear p left a → IsNear p left b → IsNear p left c → ⊥
+-- three ids that differ aren't all `IsOneOfTwo`
+not_three : (p : ℕ) (left : List ℕ) (a b c : ℕ) → (a ≡ b → ⊥) → (a ≡ c → ⊥) → (b ≡ c → ⊥) → IsOneOfTwo p left a → IsOneOfTwo p left b → IsOneOfTwo p left c → ⊥
 not_three p left a b c ab ac bc (inl x) (inl y) z = ab (x ∙ sym y)
 not_three p left a b c ab ac bc (inr x) (inr y) z = ab (same_asked left a b x y)
 not_three p left a b c ab ac bc (inl x) (inr y) (inl z) = ac (x ∙ sym z)
@@ -208,12 +199,13 @@ not_three p left a b c ab ac bc (inl x) (inr y) (inr z) = bc (same_asked left b 
 not_three p left a b c ab ac bc (inr x) (inl y) (inl z) = bc (y ∙ sym z)
 not_three p left a b c ab ac bc (inr x) (inl y) (inr z) = ac (same_asked left a c x z)
 
--- if a synchronization is done, no three ids that differ are in flight
+-- where each line in flight is own and has an id that is `IsOneOfTwo`, the ids in flight don't contain a word of three or more ids
+-- that differ
 over_short : (p : ℕ) (left word : List ℕ) (line : List Sent) (a b c : ℕ) → AllDiffer (a ∷ b ∷ c ∷ word)
-    → Each (λ x. IsOwn x × IsNear p left x.id) line → IsSubsequence (a ∷ b ∷ c ∷ word) (ids_of line) → ⊥
+    → Each (λ x. IsOwn x × IsOneOfTwo p left x.id) line → IsSubsequence (a ∷ b ∷ c ∷ word) (ids_of line) → ⊥
 over_short p left word line a b c d h s =
-    let near = subword_each (IsNear p left) (a ∷ b ∷ c ∷ word) (ids_of line)
-    (each_id (IsNear p left) line (each_more (λ x. IsOwn x × IsNear p left x.id) (λ x. IsNear p left x.id) (λ x g. g.1) line h)) s in
+    let near = subword_each (IsOneOfTwo p left) (a ∷ b ∷ c ∷ word) (ids_of line)
+    (each_id (IsOneOfTwo p left) line (each_more (λ x. IsOwn x × IsOneOfTwo p left x.id) (λ x. IsOneOfTwo p left x.id) (λ x g. g.1) line h)) s in
     not_three p left a b c d.0.0 d.0.1.0 d.1.0.0 near.0 near.1.0 near.1.1.0
 
 -- if the ids at the start didn't contain the front a, b, `more` of the word, the ids in flight later don't contain that front
@@ -241,16 +233,16 @@ no_longer z word first left line a b more c tail e d none h s =
 
     -- no id is in the front with c twice
     front_differs : AllDiffer (a ∷ b ∷ (more ++ c ∷ []))
-    front_differs = pairs_front (λ i j. i ≡ j → ⊥) (a ∷ b ∷ (more ++ c ∷ [])) tail (subst AllDiffer (e ∙ sym (ap (λ l. a ∷ b ∷ l) (goes_over more c tail))) d)
+    front_differs = pairs_front (λ i j. i ≡ j → ⊥) (a ∷ b ∷ (more ++ c ∷ [])) tail (subst AllDiffer (e ∙ sym (ap (λ l. a ∷ b ∷ l) (append_assoc more (c ∷ []) tail))) d)
 
     -- where c isn't answered yet, and isn't the first id left, no own line has it
     own_none : (asked : ℕ) (between : List ℕ) → left ≡ asked ∷ (between ++ c ∷ tail) → Each (λ x. IsOwn x → c ≡ x.id → ⊥) line
     own_none asked between f =
         each_more (HasNone (between ++ c ∷ tail)) (λ x. IsOwn x → c ≡ x.id → ⊥) (λ x g o. (each_back (λ i. i ≡ x.id → ⊥) between (c ∷ tail) (g o)).0) line
-        (subst (λ l. AreOwn z l line) f h.sound.own).0
+        (subst (λ l. OwnIdsFit z l line) f h.sound.own).0
 
     -- the front with c has a third id, so it isn't in the ids of lines that have two ids at most
-    third : (more : List ℕ) → AllDiffer (a ∷ b ∷ (more ++ c ∷ [])) → IsSubsequence (a ∷ b ∷ (more ++ c ∷ [])) (ids_of line) → (p : ℕ) → Each (λ x. IsOwn x × IsNear p left x.id) line → ⊥
+    third : (more : List ℕ) → AllDiffer (a ∷ b ∷ (more ++ c ∷ [])) → IsSubsequence (a ∷ b ∷ (more ++ c ∷ [])) (ids_of line) → (p : ℕ) → Each (λ x. IsOwn x × IsOneOfTwo p left x.id) line → ⊥
     third [] d s p g = over_short p left [] line a b c d g s
     third (m ∷ more) d s p g = over_short p left (more ++ c ∷ []) line a b m d g s
 

@@ -2,14 +2,13 @@
 -- comes. A line, be it a request or a reply, is old if it is from before this synchronization, and else own. `left` has the ids
 -- of the word that aren't answered yet, and z is the word's last id. `IsLine` is the invariant.
 use Rattle.std.proofs.Common.{◌≡◌, ℕ, zero, suc, inl, Bool, true, false, List, [], ◌∷◌, ◌++◌, nat_eq, refl, sym, ◌∙◌, ap, subst}
-use Rattle.std.proofs.lemmas.Bool.{eqb-true}
+use Rattle.std.proofs.lemmas.Bool.{eqb-true, true≢false, false≢true}
 use Rattle.gc_client.specs.Beginning.{left_by_one, IsSubsequence}
 use Rattle.gc_field.proofs.BeginIds.{Sent, heard, Pairs, AllDiffer, ids_of, last}
 use Rattle.gc_world.specs.Order.{Each}
 use Rattle.gc_field.specs.World.{without, doubled}
 use Rattle.gc_field.proofs.BeginLists.{pairs_without, pairs_doubled, pairs_push, pairs_of_each}
-use Rattle.gc_field.proofs.BeginWords.{HasNoMoreWords, has_behind, has_twice, subword_more, never, cons_not_nil}
-use Rattle.gc_field.proofs.Once.{true_is_not}
+use Rattle.gc_field.proofs.BeginWords.{HasNoMoreWords, has_behind, has_twice, subword_more, cons_not_nil}
 use Rattle.gc_world.proofs.Rows.{each_more, each_append, each_without, each_doubled}
 
 -- The invariant.
@@ -33,8 +32,8 @@ olds [] = []
 olds (x ∷ xs) = old_if x.old x.id (olds xs)
 
 -- if x is own, so is y, which is after it
-abbrev pub IsBefore : Sent → Sent → Type 0
-IsBefore x y = IsOwn x → IsOwn y
+abbrev pub KeepsOwn : Sent → Sent → Type 0
+KeepsOwn x y = IsOwn x → IsOwn y
 
 -- if x is own, it has none of these ids
 abbrev pub HasNone : List ℕ → Sent → Type 0
@@ -46,24 +45,24 @@ KeepsTheId asked x y = IsOwn x → x.id ≡ asked → y.id ≡ asked
 
 -- what holds of the own lines. If no id is left, each has the last id of the word. Else none has one of the ids `later`, and
 -- after a line with the id `asked` each line has that id
-abbrev pub AreOwn : ℕ → List ℕ → List Sent → Type 0
-AreOwn z [] line = Each (λ x. IsOwn x → x.id ≡ z) line
-AreOwn z (asked ∷ later) line = Each (HasNone later) line × Pairs (KeepsTheId asked) line
+abbrev pub OwnIdsFit : ℕ → List ℕ → List Sent → Type 0
+OwnIdsFit z [] line = Each (λ x. IsOwn x → x.id ≡ z) line
+OwnIdsFit z (asked ∷ later) line = Each (HasNone later) line × Pairs (KeepsTheId asked) line
 
 -- the invariant of all that is in flight, replies first
 pub record IsLine (z : ℕ) (left : List ℕ) (line : List Sent) : Type 0 where
   pub differ : AllDiffer left
   pub ends : last z left ≡ z
-  pub ordered : Pairs IsBefore line
+  pub ordered : Pairs KeepsOwn line
   -- the ids of the old lines contain the ids left only if no id is left, and then there is no old line
   pub clear : IsSubsequence left (olds line) → olds line ≡ []
-  pub own : AreOwn z left line
+  pub own : OwnIdsFit z left line
 
 -- The ids of the old lines.
 
 -- if the front line is own, and those after it have no old ids, there are no old ids
 none_if : (b : Bool) (i : ℕ) (ids : List ℕ) → b ≡ false → ids ≡ [] → old_if b i ids ≡ []
-none_if true i ids e f = absurd (true_is_not e)
+none_if true i ids e f = absurd (true≢false e)
 none_if false i ids e f = f
 
 -- if there are no old ids, the front line is own, and those after it have no old ids
@@ -84,7 +83,7 @@ each_own (x ∷ xs) e = let h = own_if x.old x.id (olds xs) e in (h.0, each_own 
 -- if the front line is old, the old ids are its id and those of the lines after it
 all_if : (b : Bool) (i : ℕ) (ids others : List ℕ) → b ≡ true → ids ≡ others → old_if b i ids ≡ i ∷ others
 all_if true i ids others e f = ap (λ l. i ∷ l) f
-all_if false i ids others e f = absurd (never e)
+all_if false i ids others e f = absurd (false≢true e)
 
 -- if all lines are old, the old ids are those of all lines
 pub olds_all : (xs ys : List Sent) → Each IsOld xs → Each IsOld ys → olds (xs ++ ys) ≡ ids_of xs ++ ids_of ys
@@ -126,13 +125,13 @@ has_doubled (suc k) (x ∷ xs) = has_if x.old x.id (olds (doubled k xs)) (olds x
 
 -- The line loses one, or repeats one.
 
--- `AreOwn` is preserved if a line is lost
-own_without : (z : ℕ) (left : List ℕ) (k : ℕ) (line : List Sent) → AreOwn z left line → AreOwn z left (without k line)
+-- `OwnIdsFit` is preserved if a line is lost
+own_without : (z : ℕ) (left : List ℕ) (k : ℕ) (line : List Sent) → OwnIdsFit z left line → OwnIdsFit z left (without k line)
 own_without z [] k line h = each_without (λ x. IsOwn x → x.id ≡ z) k line h
 own_without z (asked ∷ later) k line h = (each_without (HasNone later) k line h.0, pairs_without (KeepsTheId asked) k line h.1)
 
--- `AreOwn` is preserved if a line comes twice
-own_doubled : (z : ℕ) (left : List ℕ) (k : ℕ) (line : List Sent) → AreOwn z left line → AreOwn z left (doubled k line)
+-- `OwnIdsFit` is preserved if a line comes twice
+own_doubled : (z : ℕ) (left : List ℕ) (k : ℕ) (line : List Sent) → OwnIdsFit z left line → OwnIdsFit z left (doubled k line)
 own_doubled z [] k line h = each_doubled (λ x. IsOwn x → x.id ≡ z) k line h
 own_doubled z (asked ∷ later) k line h = (each_doubled (HasNone later) k line h.0, pairs_doubled (KeepsTheId asked) (λ x o e. e) k line h.1)
 
@@ -142,7 +141,7 @@ line_without z left k line h =
     record {
       differ = h.differ;
       ends = h.ends;
-      ordered = pairs_without IsBefore k line h.ordered;
+      ordered = pairs_without KeepsOwn k line h.ordered;
       clear = λ s. olds_none (without k line) (each_without IsOwn k line (each_own line (h.clear (has_without k line left h.differ s))));
       own = own_without z left k line h.own;
     }
@@ -153,7 +152,7 @@ line_doubled z left k line h =
     record {
       differ = h.differ;
       ends = h.ends;
-      ordered = pairs_doubled IsBefore (λ x o. o) k line h.ordered;
+      ordered = pairs_doubled KeepsOwn (λ x o. o) k line h.ordered;
       clear = λ s. olds_none (doubled k line) (each_doubled IsOwn k line (each_own line (h.clear (has_doubled k line left h.differ s))));
       own = own_doubled z left k line h.own;
     }
@@ -167,7 +166,7 @@ line_asked z asked later line h =
     record {
       differ = h.differ;
       ends = h.ends;
-      ordered = pairs_push IsBefore new (λ x o. refl) line h.ordered;
+      ordered = pairs_push KeepsOwn new (λ x o. refl) line h.ordered;
       clear = λ s. olds_push asked line ∙ h.clear (subst (λ l. IsSubsequence (asked ∷ later) l) (olds_push asked line) s);
       own = (
         each_append (HasNone later) line (new ∷ []) h.own.0 ((λ o. each_more (λ i. asked ≡ i → ⊥) (λ i. i ≡ asked → ⊥) (λ i f e. f (sym e)) later h.differ.0), tt),
@@ -177,11 +176,11 @@ line_asked z asked later line h =
 
 -- The front reply comes.
 
--- where `asked` and then the word aren't in the old ids, the front line isn't old with the id `asked` while the word is in the
--- old ids after it
+-- where the old ids contain `asked` and then the word only if there are no old ids, the front line isn't an old one with the id
+-- `asked` if the old ids after it contain the word
 no_old : (b : Bool) (i asked : ℕ) (ids word : List ℕ) → b ≡ true → i ≡ asked → (IsSubsequence (asked ∷ word) (old_if b i ids) → old_if b i ids ≡ []) → IsSubsequence word ids → ⊥
 no_old true i asked ids word o e f s = cons_not_nil i ids (f (inl (sym e, s)))
-no_old false i asked ids word o e f s = never o
+no_old false i asked ids word o e f s = false≢true o
 
 -- if one id is left, a reply with that id is of this synchronization
 pub is_own : (z asked : ℕ) (x : Sent) (rest : List Sent) → IsLine z (asked ∷ []) (x ∷ rest) → x.id ≡ asked → IsOwn x
@@ -196,8 +195,8 @@ ends_behind : (z asked : ℕ) (later : List ℕ) → last asked later ≡ z → 
 ends_behind z asked [] e = refl
 ends_behind z asked (i ∷ later) e = e
 
--- `AreOwn` is preserved if a reply answers
-own_answered : (z asked : ℕ) (later : List ℕ) (x : Sent) (rest : List Sent) → IsLine z (asked ∷ later) (x ∷ rest) → x.id ≡ asked → AreOwn z later rest
+-- `OwnIdsFit` is preserved if a reply answers
+own_answered : (z asked : ℕ) (later : List ℕ) (x : Sent) (rest : List Sent) → IsLine z (asked ∷ later) (x ∷ rest) → x.id ≡ asked → OwnIdsFit z later rest
 own_answered z asked [] x rest h e =
     each_more (KeepsTheId asked x) (λ y. IsOwn y → y.id ≡ z) (λ y f o. f (is_own z asked x rest h e) e ∙ h.ends) rest h.own.1.0
 own_answered z asked (i ∷ later) x rest h e = (
@@ -211,7 +210,7 @@ clear_answered z asked later x rest h e s = chosen x.old refl where
   -- the lemma above, by whether the reply is old (`b`)
   chosen : (b : Bool) → x.old ≡ b → olds rest ≡ []
   chosen true o = absurd (no_old x.old x.id asked (olds rest) later o e h.clear s)
-  chosen false o = olds_none rest (each_more (IsBefore x) IsOwn (λ y f. f o) rest h.ordered.0)
+  chosen false o = olds_none rest (each_more (KeepsOwn x) IsOwn (λ y f. f o) rest h.ordered.0)
 
 -- `IsLine` is preserved if a reply answers
 line_answered : (z asked : ℕ) (later : List ℕ) (x : Sent) (rest : List Sent) → IsLine z (asked ∷ later) (x ∷ rest) → x.id ≡ asked → IsLine z later rest

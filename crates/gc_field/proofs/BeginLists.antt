@@ -93,8 +93,3 @@ module _ {A : Type 0} where
         | inl e ↦ inl (ap (λ l. x ∷ l) e)
         | inr e ↦ inr (ap (λ l. x ∷ l) e)
       ]
-
-  -- an element that goes from the front of the back queue to the end of the front queue stays at its place in the line
-  pub goes_over : (xs : List A) (y : A) (ys : List A) → (xs ++ y ∷ []) ++ ys ≡ xs ++ y ∷ ys
-  goes_over [] y ys = refl
-  goes_over (x ∷ xs) y ys = ap (λ l. x ∷ l) (goes_over xs y ys)

@@ -3,7 +3,7 @@
 use Rattle.std.proofs.Common.{◌≡◌, ℕ, zero, inl, inr, Bool, true, false, List, [], ◌∷◌, ◌++◌, refl, sym, subst, append_assoc}
 use Rattle.gc_field.proofs.BeginIds.{Sent, Model, Move, Ask, Reach, Pass, Come, Up_lose, Up_repeat, Down_lose, Down_repeat, Anew, heard, asks, reaches, passes, comes, moves, moved}
 use Rattle.gc_field.specs.World.{without, doubled}
-use Rattle.gc_field.proofs.BeginLists.{lost_back, lost_front, twice_back, twice_front, goes_over}
+use Rattle.gc_field.proofs.BeginLists.{lost_back, lost_front, twice_back, twice_front}
 
 -- a fact of the ids that are left, and of the line, is preserved by a loss, a repeat, a request that is sent and a reply that comes
 pub record Lasts (I : List ℕ → List Sent → Type 0) : Type 0 where
@@ -30,7 +30,7 @@ module _ (I : List ℕ → List Sent → Type 0) (lasts : Lasts I) where
   holds_reaches : (s : Model) (replies : Bool) (up : List Sent) → s.up ≡ up → Holds s → Holds (reaches s replies up)
   holds_reaches s replies [] e h = h
   holds_reaches s true (x ∷ rest) e h =
-      subst (λ q. I s.left q) (sym (goes_over s.down x rest)) (subst (λ q. I s.left (s.down ++ q)) e h)
+      subst (λ q. I s.left q) (sym (append_assoc s.down (x ∷ []) rest)) (subst (λ q. I s.left (s.down ++ q)) e h)
   holds_reaches s false (x ∷ rest) e h =
       let lost = lost_back zero s.down (x ∷ rest) in
       subst (λ q. I s.left q) (sym lost.1) (lasts.lost s.left lost.0 (s.down ++ x ∷ rest) (subst (λ q. I s.left (s.down ++ q)) e h))
@@ -38,7 +38,7 @@ module _ (I : List ℕ → List Sent → Type 0) (lasts : Lasts I) where
   -- `Holds` is preserved by `Pass`
   holds_passes : (s : Model) (up : List Sent) → s.up ≡ up → Holds s → Holds (passes s up)
   holds_passes s [] e h = h
-  holds_passes s (x ∷ rest) e h = subst (λ q. I s.left q) (sym (goes_over s.down x rest)) (subst (λ q. I s.left (s.down ++ q)) e h)
+  holds_passes s (x ∷ rest) e h = subst (λ q. I s.left q) (sym (append_assoc s.down (x ∷ []) rest)) (subst (λ q. I s.left (s.down ++ q)) e h)
 
   -- `Holds` is preserved if a reply comes
   holds_comes : (s : Model) (down : List Sent) → s.down ≡ down → Holds s → Holds (comes s down)

@@ -1,15 +1,15 @@
 -- A whole synchronization: the invariant of its line (`IsLine`) holds through each move, and so does what is known of the id of
 -- the reply that the instrument retains (`KeptIdFits`). `IsSound` is both.
 use Rattle.std.proofs.Common.{◌≡◌, ℕ, Bool, true, false, List, [], ◌∷◌, ◌++◌, Option, Some, None, nat_eq, refl, sym, ◌∙◌, subst}
-use Rattle.std.proofs.lemmas.Bool.{eqb-true}
+use Rattle.std.proofs.lemmas.Bool.{eqb-true, false≢true}
 use Rattle.gc_client.specs.Beginning.{left_by_one, IsSubsequence, the_word}
 use Rattle.gc_field.proofs.BeginIds.{Sent, Model, Move, Ask, Reach, Pass, Come, Up_lose, Up_repeat, Down_lose, Down_repeat, Anew, heard, asks, reaches, kept_past, passes, comes, moves, moved, AllDiffer, ids_of, last, Begins, IsClean}
 use Rattle.gc_world.specs.Order.{Each}
 use Rattle.gc_field.specs.World.{without, doubled}
 use Rattle.gc_field.proofs.BeginLists.{each_both, each_front, each_back, pairs_before, pairs_of_each}
 use Rattle.gc_field.proofs.BeginMoves.{Lasts, holds_moves}
-use Rattle.gc_field.proofs.BeginWords.{never, word_differs}
-use Rattle.gc_field.proofs.BeginLines.{IsLine, IsOld, IsOwn, IsBefore, HasNone, KeepsTheId, AreOwn, olds_all, each_own, line_without, line_doubled, line_asked, line_came, is_own}
+use Rattle.gc_field.proofs.BeginWords.{word_differs}
+use Rattle.gc_field.proofs.BeginLines.{IsLine, IsOld, IsOwn, KeepsOwn, HasNone, KeepsTheId, OwnIdsFit, olds_all, each_own, line_without, line_doubled, line_asked, line_came, is_own}
 use Rattle.gc_world.proofs.Rows.{each_more, each_append, each_without, each_doubled}
 
 -- The invariant.
@@ -104,13 +104,13 @@ keeps_reaches z s true (x ∷ rest) e h = keeps_replied z s.left s.down x (keeps
 keeps_reaches z s false (x ∷ rest) e h = keeps_reached z s.left s.down x rest (subst (λ q. IsLine z s.left (s.down ++ q)) e h.line)
 
 -- nothing is both old and own
-both : (x : Sent) → IsOld x → IsOwn x → ⊥
-both x old own = never (sym own ∙ old)
+not_both : (x : Sent) → IsOld x → IsOwn x → ⊥
+not_both x old own = false≢true (sym own ∙ old)
 
 -- `KeptIdFits` is preserved if the reply to an old request is sent, and what is retained stays
 keeps_old : (z : ℕ) (left : List ℕ) (down : List Sent) (x : Sent) (kept : Option ℕ) → IsOld x → KeptIdFits z left down kept → KeptIdFits z left (down ++ x ∷ []) kept
 keeps_old z [] down x kept old h = h
-keeps_old z (asked ∷ later) down x kept old h = each_append (KeepsIf asked kept) down (x ∷ []) h ((λ own e. absurd (both x old own)), tt)
+keeps_old z (asked ∷ later) down x kept old h = each_append (KeepsIf asked kept) down (x ∷ []) h ((λ own e. absurd (not_both x old own)), tt)
 
 -- `KeptIdFits` is preserved by `Pass`
 keeps_passes : (z : ℕ) (s : Model) (up : List Sent) → s.up ≡ up → IsSound z s → KeptIdFits z (passes s up).left (passes s up).down (passes s up).kept
@@ -121,7 +121,7 @@ keeps_passes z s (x ∷ rest) e h = by_case x.old refl where
   by_case true old = keeps_old z s.left s.down x s.kept old h.keeps
   by_case false own = keeps_replied z s.left s.down x (keeps_reached z s.left s.down x rest (subst (λ q. IsLine z s.left (s.down ++ q)) e h.line))
 
--- the same of a whole state: `KeptIdFits` is preserved if a reply comes
+-- `KeptIdFits` of a state is preserved if the front reply comes, if one is in flight
 keeps_comes : (z : ℕ) (s : Model) (down : List Sent) → s.down ≡ down → IsSound z s → KeptIdFits z (comes s down).left (comes s down).down (comes s down).kept
 keeps_comes z s [] e h = h.keeps
 keeps_comes z s (x ∷ rest) e h =
@@ -150,23 +150,23 @@ sound_moved z (m ∷ ms) s h = sound_moved z ms (moves s m) (sound_moves z s m h
 
 -- Its start.
 
--- the last id of a word is the last, whichever id is named for the case that the word is empty
+-- `last` of a word is the same if it is given `last z word` in place of z, which it says of an empty word
 last_of_last : (z : ℕ) (word : List ℕ) → last (last z word) word ≡ last z word
 last_of_last z [] = refl
 last_of_last z (i ∷ word) = refl
 
--- `AreOwn` holds at the start, if all are old
-own_at_start : (z : ℕ) (word : List ℕ) (line : List Sent) → Each IsOld line → AreOwn z word line
-own_at_start z [] line h = each_more IsOld (λ x. IsOwn x → x.id ≡ z) (λ x old own. absurd (both x old own)) line h
+-- `OwnIdsFit` holds at the start, if all are old
+own_at_start : (z : ℕ) (word : List ℕ) (line : List Sent) → Each IsOld line → OwnIdsFit z word line
+own_at_start z [] line h = each_more IsOld (λ x. IsOwn x → x.id ≡ z) (λ x old own. absurd (not_both x old own)) line h
 own_at_start z (asked ∷ later) line h = (
-  each_more IsOld (HasNone later) (λ x old own. absurd (both x old own)) line h,
-  pairs_of_each IsOld (KeepsTheId asked) (λ x y old own e. absurd (both x old own)) line h,
+  each_more IsOld (HasNone later) (λ x old own. absurd (not_both x old own)) line h,
+  pairs_of_each IsOld (KeepsTheId asked) (λ x y old own e. absurd (not_both x old own)) line h,
 )
 
 -- `KeptIdFits` holds at the start, if all are old
 keeps_at_start : (z : ℕ) (word : List ℕ) (down : List Sent) (kept : Option ℕ) → (word ≡ [] → ⊥) → Each IsOld down → KeptIdFits z word down kept
 keeps_at_start z [] down kept some h = absurd (some refl)
-keeps_at_start z (asked ∷ later) down kept some h = each_more IsOld (KeepsIf asked kept) (λ x old own e. absurd (both x old own)) down h
+keeps_at_start z (asked ∷ later) down kept some h = each_more IsOld (KeepsIf asked kept) (λ x old own e. absurd (not_both x old own)) down h
 
 -- `IsSound` holds at the start
 pub sound_at_start : (word : List ℕ) (s : Model) → AllDiffer word → Begins word s → IsSound (last 0 word) s
@@ -178,7 +178,7 @@ sound_at_start word s differ h =
     record {
       differ = differ;
       ends = last_of_last 0 word;
-      ordered = pairs_of_each IsOld IsBefore (λ x y old own. absurd (both x old own)) line old;
+      ordered = pairs_of_each IsOld KeepsOwn (λ x y old own. absurd (not_both x old own)) line old;
       clear = λ stands. absurd (h.absent (subst (λ ids. IsSubsequence word ids) (olds_all s.down s.up h.down h.up) stands));
       own = own_at_start z word line old;
     } in

@@ -45,7 +45,7 @@ some_runs =
     let none : 0 ≤ 5 = omega arith in
     record {
       lines = record { ids = (lit< tt, (lit< tt, tt)); good = fits };
-      row =
+      rising =
           record {
             low = 7;
             numbers = 6 ∷ 7 ∷ 8 ∷ [];

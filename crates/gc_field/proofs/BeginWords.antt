@@ -2,15 +2,11 @@
 -- lost; nor once an id is repeated directly after itself, if no id is in the word twice.
 use Rattle.std.proofs.Common.{◌≡◌, ℕ, zero, suc, ◌+◌, ◌-◌, ◌%◌, ◌<◌, ◌≤◌, inl, inr, Bool, true, false, List, [], ◌∷◌, ◌++◌, nat_eq, cond, refl, sym, ◌∙◌, subst, arith, map}
 use mathlib.Core.Path.{ap₂}
-use Rattle.std.proofs.lemmas.Bool.{eq-eqb, eqb-true, eqb-false}
+use Rattle.std.proofs.lemmas.Bool.{eq-eqb, eqb-true, eqb-false, false≢true}
 use Rattle.gc_client.specs.Beginning.{left_by_one, IsSubsequence, the_word}
 use Rattle.gc_field.proofs.BeginIds.{heard, AllDiffer, upward}
 use Rattle.gc_world.specs.Order.{Each, Rising}
 use Rattle.gc_world.proofs.Rows.{rising_lower}
-
--- false isn't true
-pub never : false ≡ true → ⊥
-never e = cc
 
 -- a list with an element isn't empty
 pub cons_not_nil : {A : Type 0} (x : A) (xs : List A) → x ∷ xs ≡ [] → ⊥
@@ -53,8 +49,7 @@ has_behind i ids others f [] d h = tt
 has_behind i ids others f (w ∷ word) d (inl h) = inl (h.0, f word d.1 h.1)
 has_behind i ids others f (w ∷ word) d (inr h) = inr (f (w ∷ word) d h)
 
--- repeating the first of some ids adds no word without an id twice: `HasNoMoreWords` of the ids with i twice before it and those
--- with i once
+-- ids that begin with i twice contain no more words (`HasNoMoreWords`) than those that begin with i once
 pub has_twice : (i : ℕ) (ids : List ℕ) → HasNoMoreWords (i ∷ i ∷ ids) (i ∷ ids)
 has_twice i ids [] d h = tt
 has_twice i ids (w ∷ []) d (inl h) = inl (h.0, tt)
@@ -80,8 +75,8 @@ are_new (i ∷ ids) = cond (is_new i ids) (are_new ids) false
 -- the step of `is_new` at an id j, where `rest` is its value for the ids after j, and b whether i equals j: if the whole value
 -- is true, i differs from j, and `rest` is true
 new_if : (i j : ℕ) (rest : Bool) (b : Bool) → nat_eq i j ≡ b → cond b false rest ≡ true → (i ≡ j → ⊥) × (rest ≡ true)
-new_if i j rest true t e = absurd (never e)
-new_if i j rest false t e = ((λ same. never (sym t ∙ eq-eqb i j same)), e)
+new_if i j rest true t e = absurd (false≢true e)
+new_if i j rest false t e = ((λ same. false≢true (sym t ∙ eq-eqb i j same)), e)
 
 -- an id that isn't among these ids by `is_new` differs from each of them
 new_differs : (i : ℕ) (ids : List ℕ) → is_new i ids ≡ true → Each (λ j. i ≡ j → ⊥) ids
@@ -91,7 +86,7 @@ new_differs i (j ∷ ids) e = let h = new_if i j (is_new i ids) (nat_eq i j) ref
 -- where `cond a b false`, which is "a and b", is true, a and b are true
 both_if : (a b : Bool) → cond a b false ≡ true → (a ≡ true) × (b ≡ true)
 both_if true b e = (refl, e)
-both_if false b e = absurd (never e)
+both_if false b e = absurd (false≢true e)
 
 -- ids among which `are_new` finds none twice all differ
 pub all_differ : (ids : List ℕ) → are_new ids ≡ true → AllDiffer ids
@@ -115,7 +110,7 @@ hears_next : (i w : ℕ) (ids word : List ℕ) (b : Bool) → nat_eq i w ≡ b �
     → IsSubsequence (w ∷ word) (i ∷ ids) → hears (left_by_one b w word) ids ≡ []
 hears_next i w ids word true e f (inl h) = f word h.1
 hears_next i w ids word true e f (inr h) = f word (subword_tail w word ids h)
-hears_next i w ids word false e f (inl h) = absurd (never (sym e ∙ eq-eqb i w (sym h.0)))
+hears_next i w ids word false e f (inl h) = absurd (false≢true (sym e ∙ eq-eqb i w (sym h.0)))
 hears_next i w ids word false e f (inr h) = f (w ∷ word) h
 
 -- replies with these ids answer all of a word that the ids contain
@@ -155,47 +150,48 @@ each_below a b ns e h = subst (λ c. Each (λ m. m < c) ns) e h
 
 -- each word without an id twice that is in the ids of the numbers `ns`, which never fall from a on and are below a + k, is in
 -- the k ids upward from a
-abbrev InRow : ℕ → ℕ → List ℕ → Type 0
-InRow a k ns = Rising (a + 1) ns → Each (λ m. m < a + k) ns → HasNoMoreWords (ids_at ns) (upward a k)
+abbrev AreUpward : ℕ → ℕ → List ℕ → Type 0
+AreUpward a k ns = Rising (a + 1) ns → Each (λ m. m < a + k) ns → HasNoMoreWords (ids_at ns) (upward a k)
 
--- `InRow` is preserved if one number more, m, is put before it: either m is a (`b`), or all of the numbers are above a
-row_first : (a k m : ℕ) (ns : List ℕ) (b : Bool) → nat_eq m a ≡ b → InRow (a + 1) k (m ∷ ns) → InRow a (suc k) ns → InRow a (suc k) (m ∷ ns)
-row_first a k m ns true e above more h low = λ word d s.
+-- `AreUpward` is preserved if one number more, m, is put before it: either m is a (`b`), or all of the numbers are above a
+upward_first : (a k m : ℕ) (ns : List ℕ) (b : Bool) → nat_eq m a ≡ b → AreUpward (a + 1) k (m ∷ ns) → AreUpward a (suc k) ns → AreUpward a (suc k) (m ∷ ns)
+upward_first a k m ns true e above more h low = λ word d s.
     let same : m ≡ a = eqb-true m a e in
     let rest = more (rising_lower (a + 1) (m + 1) ns (omega (arith, same)) h.1) low.1 in
     has_twice (a % 8) (upward (a + 1) k) word d
     (has_behind (a % 8) (ids_at ns) (upward a (suc k)) rest word d
     (subst (λ i. IsSubsequence word (i % 8 ∷ ids_at ns)) same s))
-row_first a k m ns false e above more h low = λ word d s.
+upward_first a k m ns false e above more h low = λ word d s.
     let other : m ≡ a → ⊥ = eqb-false m a e in
     let over : a + 1 + 1 ≤ m + 1 = omega (arith, h.0, other) in
     subword_more word (upward (a + 1) k) (a % 8) (above (over, h.1) (each_below (a + suc k) (a + 1 + k) (m ∷ ns) (omega arith) low) word d s)
 
--- `InRow` of all numbers from a + 1 on, within k, gives `InRow` of those from a on, within k + 1
-row_more : (a k : ℕ) → ((ns : List ℕ) → InRow (a + 1) k ns) → (ns : List ℕ) → InRow a (suc k) ns
-row_more a k above [] h low = has_nothing (upward a (suc k))
-row_more a k above (m ∷ ns) h low = row_first a k m ns (nat_eq m a) refl (above (m ∷ ns)) (row_more a k above ns) h low
+-- if `AreUpward` holds of any numbers with a + 1 and k, it holds of any with a and k + 1
+upward_more : (a k : ℕ) → ((ns : List ℕ) → AreUpward (a + 1) k ns) → (ns : List ℕ) → AreUpward a (suc k) ns
+upward_more a k above [] h low = has_nothing (upward a (suc k))
+upward_more a k above (m ∷ ns) h low = upward_first a k m ns (nat_eq m a) refl (above (m ∷ ns)) (upward_more a k above ns) h low
 
--- `InRow` holds of any numbers
-in_row : (k a : ℕ) (ns : List ℕ) → InRow a k ns
-in_row zero a [] h low = has_nothing []
-in_row zero a (m ∷ ns) h low = absurd (omega (arith, h.0, low.0))
-in_row (suc k) a ns h low = row_more a k (in_row k (a + 1)) ns h low
+-- `AreUpward` holds of any numbers
+are_upward : (k a : ℕ) (ns : List ℕ) → AreUpward a k ns
+are_upward zero a [] h low = has_nothing []
+are_upward zero a (m ∷ ns) h low = absurd (omega (arith, h.0, low.0))
+are_upward (suc k) a ns h low = upward_more a k (are_upward k (a + 1)) ns h low
 
 -- the ids upward from two numbers that are the same modulo 8 are the same
 upward_round : (n a b : ℕ) → a % 8 ≡ b % 8 → upward a n ≡ upward b n
 upward_round zero a b e = refl
 upward_round (suc n) a b e = ap₂ (λ i ids. i ∷ ids) e (upward_round n (a + 1) (b + 1) (omega (arith, e)))
 
--- numbers that never fall, within seven from `low` on, as a run that measures has in flight: modulo 8 they don't contain 6 5 4
+-- numbers that never fall, of the eight consecutive ones from `low` - 1 on, as a run that measures has in flight: modulo 8 they
+-- don't contain 6 5 4
 pub three_within : (low : ℕ) (ns : List ℕ) → 0 < low → Rising low ns → Each (λ n. n < low + 7) ns → IsSubsequence (6 ∷ 5 ∷ 4 ∷ []) (map (λ n. n % 8) ns) → ⊥
 three_within low ns some h below s =
     let a : ℕ = low - 1 in
     let first : low ≡ a + 1 = omega (arith, some) in
-    let row = in_row 8 a ns (subst (λ l. Rising l ns) first h) (each_below (low + 7) (a + 8) ns (omega (arith, first)) below) (6 ∷ 5 ∷ 4 ∷ []) (all_differ (6 ∷ 5 ∷ 4 ∷ []) refl) s in
-    three_upward (a % 8) (omega arith) (subst (λ ids. IsSubsequence (6 ∷ 5 ∷ 4 ∷ []) ids) (upward_round 8 a (a % 8) (omega arith)) row)
+    let within = are_upward 8 a ns (subst (λ l. Rising l ns) first h) (each_below (low + 7) (a + 8) ns (omega (arith, first)) below) (6 ∷ 5 ∷ 4 ∷ []) (all_differ (6 ∷ 5 ∷ 4 ∷ []) refl) s in
+    three_upward (a % 8) (omega arith) (subst (λ ids. IsSubsequence (6 ∷ 5 ∷ 4 ∷ []) ids) (upward_round 8 a (a % 8) (omega arith)) within)
 
--- numbers that never fall, within seven from `low` on, as a run that measures has in flight: modulo 8 they don't contain the
--- word
+-- numbers that never fall, of the eight consecutive ones from `low` - 1 on, as a run that measures has in flight: modulo 8 they
+-- don't contain the word
 pub none_within : (low : ℕ) (ns : List ℕ) → 0 < low → Rising low ns → Each (λ n. n < low + 7) ns → IsSubsequence the_word (map (λ n. n % 8) ns) → ⊥
 none_within low ns some h below s = three_within low ns some h below (subword_front (6 ∷ 5 ∷ 4 ∷ []) (3 ∷ 2 ∷ 1 ∷ 0 ∷ 7 ∷ []) (map (λ n. n % 8) ns) s)

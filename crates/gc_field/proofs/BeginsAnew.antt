@@ -13,7 +13,7 @@ use Rattle.gc_station.specs.Parts.{Part, parts_of}
 use Rattle.gc_station.specs.Model.{Runs, after_all, opening}
 use Rattle.gc_links.specs.Acts.{Told}
 use Rattle.gc_field.specs.Begin.{begins}
-use Rattle.gc_field.specs.BeginsAnew.{IsAnsweredAnew, acts, acts_anew, answer, commands, first_reply, from, given_up, left, moves, moves_anew, plan, replies, runs, scope, seventh_reply, turns}
+use Rattle.gc_field.specs.BeginsAnew.{IsAnsweredAnew, acts, acts_anew, answer, commands, first_reply, from, given_up, left_by_first, moves, moves_anew, plan, later_replies, runs, scope, seventh_reply, turns}
 use Rattle.gc_field.specs.Begun.{WasMadeOn}
 use Rattle.gc_field.specs.CountingChain.{at_start, null_replies, counting}
 use Rattle.gc_field.specs.Field.{seen}
@@ -25,7 +25,7 @@ use Rattle.gc_field.proofs.Witness.{asked_each, one_part, part_of, run_on, units
 -- what the turns of the second synchronization show to the station
 abbrev all_turns : List part.Turn
 all_turns =
-    part.Asks ∷ part.Hears first_reply ∷ part.Hears seventh_reply ∷ part.Asks ∷ part.Hears seventh_reply ∷ part.Hears (codes "%R1P,0,5:0,38") ∷ asked_each (drop 1 replies)
+    part.Asks ∷ part.Hears first_reply ∷ part.Hears seventh_reply ∷ part.Asks ∷ part.Hears seventh_reply ∷ part.Hears (codes "%R1P,0,5:0,38") ∷ asked_each (drop 1 later_replies)
 
 -- the parts of the run: until the station resynchronizes, from there on, and the empty one after the end
 abbrev parts : List Part
@@ -44,7 +44,7 @@ unfolding is_elsewhere header_at reply_at digits
 shown_are = refl
 
 -- the turns of the second synchronization show this
-shown_anew : shown counting turns (begins left) ≡ all_turns
+shown_anew : shown counting turns (begins left_by_first) ≡ all_turns
 unfolding is_elsewhere header_at reply_at digits
 shown_anew = refl
 

@@ -14,7 +14,7 @@ use Rattle.gc_world.specs.Clients.{ByNumber, by_ids, by_numbers}
 use Rattle.gc_world.specs.Exchange.{IsExchange}
 use Rattle.gc_world.specs.Order.{Each, Rising, numbers}
 use Rattle.gc_world.specs.Record.{IsReplyTo}
-use Rattle.gc_field.specs.World.{Ends, Numbered, Request, Up_deliver, Wire, World, written}
+use Rattle.gc_field.specs.World.{Ends, Numbered, Request, Wire, World, written}
 use Rattle.gc_world.proofs.Booked.{has_at}
 use Rattle.gc_world.proofs.Replay.{IsOf}
 use Rattle.gc_world.proofs.Settled.{of_sent}
@@ -22,12 +22,12 @@ use Rattle.gc_world.proofs.Settled as settled
 use Rattle.gc_world.proofs.Sound.{IsGoing, IsComing, Sound}
 use Rattle.gc_field.specs.Begin.{UnderWay}
 use Rattle.gc_field.specs.Begun.{IsBehindTheTable, IsClean, IsFaithful, IsSafe, WasMadeOn, WentOutBehindTheTable, behind, eighth, ids_begun, numbers_begun, nulls, nulls_settled}
-use Rattle.gc_field.specs.Field.{Move, OnLine, Sends, ArePossible, AsksOnly, moved, seen}
+use Rattle.gc_field.specs.Field.{Move, Sends, ArePossible, AsksOnly, moved, seen}
 use Rattle.gc_field.specs.Instrument.{IsAnInstrument, IsAnInstrumentFor, all_known}
 use Rattle.gc_field.specs.Once.{ActsOnce, IsInOrder}
-use Rattle.gc_field.proofs.Fresh.{AllBut, AnyLine, EachOne, TrueOfNone, asks_all, near_the_table, numbers_append, renewed}
+use Rattle.gc_field.proofs.Fresh.{AllBut, AnyLine, EachOne, AllExcepted, asks_all, near_the_table, numbers_append, renewed}
 use Rattle.gc_field.proofs.Instruments.{alike_is, exchange_of}
-use Rattle.gc_field.proofs.Moving.{Both, both_all, first_reply, IsOwn, IsVouchedFor, AreOn, are_on_later, vouched_for, whole_all}
+use Rattle.gc_field.proofs.Moving.{Both, both_all, first_reply, IsOwnSettlement, IsVouchedFor, AreOn, are_on_later, vouched_for, whole_all, made_here}
 use Rattle.gc_field.proofs.Possible.{possible_behind, possible_front}
 use Rattle.gc_field.proofs.Seen.{same_all}
 use Rattle.gc_field.proofs.KeptReplies.{KeptIs}
@@ -36,50 +36,50 @@ use Rattle.gc_field.proofs.Vouched.{AllVouched, Vouched}
 
 -- The course of a client, after what was sent and settled before.
 
--- course x is course y, with these requests and these settlements before it
-record Behind (before : List (Wanted Asked)) (old : List (Settlement Asked)) (x y : Course Asked) : Type 0 where
+-- course x is course y with the requests `before` and the settlements `old` put before its own
+record IsPrefixed (before : List (Wanted Asked)) (old : List (Settlement Asked)) (x y : Course Asked) : Type 0 where
   sent : x.sent ≡ before ++ y.sent
   settled : x.settlements ≡ old ++ y.settlements
   client : x.client ≡ y.client
 
--- `Behind` is preserved by a send
-behind_send : (before : List (Wanted Asked)) (old : List (Settlement Asked)) (x y : Course Asked) (target : ℕ) (call : Asked) (o : Option (Sending (ById Asked))) → Behind before old x y
-    → Behind before old (sent_on x target call o) (sent_on y target call o)
-behind_send before old x y target call None h = h
-behind_send before old x y target call (Some s) h =
+-- `IsPrefixed` is preserved by a send
+prefixed_send : (before : List (Wanted Asked)) (old : List (Settlement Asked)) (x y : Course Asked) (target : ℕ) (call : Asked) (o : Option (Sending (ById Asked))) → IsPrefixed before old x y
+    → IsPrefixed before old (sent_on x target call o) (sent_on y target call o)
+prefixed_send before old x y target call None h = h
+prefixed_send before old x y target call (Some s) h =
     record { sent = ap (λ l. l ++ record { target = target; call = call } ∷ []) h.sent ∙ append_assoc before y.sent (record { target = target; call = call } ∷ []); settled = h.settled; client = refl }
 
--- `Behind` is preserved by settlements
-behind_settled : (before : List (Wanted Asked)) (old : List (Settlement Asked)) (x y : Course Asked) (s : Settled Asked (ById Asked)) → Behind before old x y
-    → Behind before old (settled_on x s) (settled_on y s)
-behind_settled before old x y s h = record { sent = h.sent; settled = ap (λ l. l ++ s.settlements) h.settled ∙ append_assoc old y.settlements s.settlements; client = refl }
+-- `IsPrefixed` is preserved by settlements
+prefixed_settled : (before : List (Wanted Asked)) (old : List (Settlement Asked)) (x y : Course Asked) (s : Settled Asked (ById Asked)) → IsPrefixed before old x y
+    → IsPrefixed before old (settled_on x s) (settled_on y s)
+prefixed_settled before old x y s h = record { sent = h.sent; settled = ap (λ l. l ++ s.settlements) h.settled ∙ append_assoc old y.settlements s.settlements; client = refl }
 
--- `Behind` is preserved by a step
-behind_step : (width : ℕ) (before : List (Wanted Asked)) (old : List (Settlement Asked)) (x y : Course Asked) (step : Step Asked) → Behind before old x y
-    → Behind before old (course_after width x step) (course_after width y step)
-behind_step width before old x y (Send target call deadline) h =
-    subst (λ c. Behind before old (sent_on x target call (sends width c target call deadline)) (sent_on y target call (sends width y.client target call deadline))) (sym h.client)
-    (behind_send before old x y target call (sends width y.client target call deadline) h)
-behind_step width before old x y (Hear line) h =
-    subst (λ c. Behind before old (settled_on x (hears c line (heard line))) (settled_on y (hears y.client line (heard line)))) (sym h.client)
-    (behind_settled before old x y (hears y.client line (heard line)) h)
-behind_step width before old x y (Expire now) h = record { sent = h.sent; settled = h.settled; client = ap (λ c. expires c now) h.client }
-behind_step width before old x y Restart h =
-    subst (λ c. Behind before old (settled_on x (restarts c)) (settled_on y (restarts y.client))) (sym h.client) (behind_settled before old x y (restarts y.client) h)
+-- `IsPrefixed` is preserved by a step
+prefixed_step : (width : ℕ) (before : List (Wanted Asked)) (old : List (Settlement Asked)) (x y : Course Asked) (step : Step Asked) → IsPrefixed before old x y
+    → IsPrefixed before old (course_after width x step) (course_after width y step)
+prefixed_step width before old x y (Send target call deadline) h =
+    subst (λ c. IsPrefixed before old (sent_on x target call (sends width c target call deadline)) (sent_on y target call (sends width y.client target call deadline))) (sym h.client)
+    (prefixed_send before old x y target call (sends width y.client target call deadline) h)
+prefixed_step width before old x y (Hear line) h =
+    subst (λ c. IsPrefixed before old (settled_on x (hears c line (heard line))) (settled_on y (hears y.client line (heard line)))) (sym h.client)
+    (prefixed_settled before old x y (hears y.client line (heard line)) h)
+prefixed_step width before old x y (Expire now) h = record { sent = h.sent; settled = h.settled; client = ap (λ c. expires c now) h.client }
+prefixed_step width before old x y Restart h =
+    subst (λ c. IsPrefixed before old (settled_on x (restarts c)) (settled_on y (restarts y.client))) (sym h.client) (prefixed_settled before old x y (restarts y.client) h)
 
--- `Behind` is preserved by steps
-behind_all : (width : ℕ) (before : List (Wanted Asked)) (old : List (Settlement Asked)) (steps : List (Step Asked)) (x y : Course Asked) → Behind before old x y
-    → Behind before old (course width x steps) (course width y steps)
-behind_all width before old [] x y h = h
-behind_all width before old (step ∷ steps) x y h = behind_all width before old steps _ _ (behind_step width before old x y step h)
+-- `IsPrefixed` is preserved by steps
+prefixed_all : (width : ℕ) (before : List (Wanted Asked)) (old : List (Settlement Asked)) (steps : List (Step Asked)) (x y : Course Asked) → IsPrefixed before old x y
+    → IsPrefixed before old (course width x steps) (course width y steps)
+prefixed_all width before old [] x y h = h
+prefixed_all width before old (step ∷ steps) x y h = prefixed_all width before old steps _ _ (prefixed_step width before old x y step h)
 
 -- a course in which the eight null procedures were sent and settled, and whose client is new
 abbrev course_after_nulls : Course Asked
 course_after_nulls = record { sent = map of_sent nulls; settlements = nulls_settled; client = fresh }
 
 -- `course_after_nulls` is the course `begun` of a new client, with the null procedures before it
-begun_behind : Behind (map of_sent nulls) nulls_settled course_after_nulls begun
-begun_behind = record { sent = refl; settled = refl; client = refl }
+begun_prefixed : IsPrefixed (map of_sent nulls) nulls_settled course_after_nulls begun
+begun_prefixed = record { sent = refl; settled = refl; client = refl }
 
 -- Numbers.
 
@@ -117,7 +117,7 @@ module _ {State : Type 0} (ends : Ends State) (Good : State → Type 0) (kept : 
       → map of_sent (behind width ends u ms).wire.sent ≡ map of_sent nulls ++ (course width begun (seen ms)).sent
   sent_is u ms p =
       let one = same_all width ends keeper.hears Good kept ms course_after_nulls (ids_begun u) p (record { sent = refl; settled = refl; client = refl }) in
-      sym one.sent ∙ (behind_all width (map of_sent nulls) nulls_settled (seen ms) course_after_nulls begun begun_behind).sent
+      sym one.sent ∙ (prefixed_all width (map of_sent nulls) nulls_settled (seen ms) course_after_nulls begun begun_prefixed).sent
 
   module _ (u : UnderWay State) (clean : IsClean Good kept u) where
     -- after a clean synchronization the world of the client that is given numbers is `Sound`
@@ -157,7 +157,7 @@ module _ {State : Type 0} (ends : Ends State) (Good : State → Type 0) (kept : 
       abbrev IsVouchedAtStart : ℕ → List ℕ → Type 0
       IsVouchedAtStart n line = Vouched width narrow knows ends Good kept is 8 E Plain M nulls [] [] 7 n line
 
-      -- each line that replies to the eighth null procedure is `IsVouchedAtStart`: that request is excepted
+      -- any line is `IsVouchedAtStart` as a reply to the eighth null procedure, number 7, because that request is excepted
       last_null_vouched : (line : List ℕ) → IsVouchedAtStart 7 line
       last_null_vouched line = (inl (omega arith), inl (early 7 (omega arith)))
 
@@ -168,8 +168,8 @@ module _ {State : Type 0} (ends : Ends State) (Good : State → Type 0) (kept : 
 
       -- after a clean synchronization the invariant `AllVouched` of `Vouched` holds of the world of the client that is given numbers:
       -- each reply in flight was made for its request
-      true_begun : IsNear knows E Plain nulls 8 7 → AllVouched width narrow knows ends Good kept is 8 E Plain M (numbers_begun u)
-      true_begun near =
+      vouched_begun : IsNear knows E Plain nulls 8 7 → AllVouched width narrow knows ends Good kept is 8 E Plain M (numbers_begun u)
+      vouched_begun near =
           let within : 8 ≤ 8 = omega arith in
           record {
             top = 8;
@@ -193,25 +193,6 @@ module _ {State : Type 0} (ends : Ends State) (Good : State → Type 0) (kept : 
             };
           }
 
-    -- the reply to each request that is executed at one of these moves was made on executing it, by `WasMadeOn`
-    made_here : (ms : List (Move State)) → ArePossible ends Good kept (by_ids width ends) ms (ids_begun u)
-        → AreOn width ends (λ n call line. WasMadeOn width ends u ms n call line) ms (numbers_begun u)
-    made_here ms p front later e x rest q exe =
-        let p' = possible_front width ends Good kept front (OnLine Up_deliver ∷ later) (ids_begun u) (subst (λ l. ArePossible ends Good kept (by_ids width ends) l (ids_begun u)) e p) in
-        let same : (behind width ends u front).wire ≡ (moved ends (by_numbers width) front (numbers_begun u)).wire =
-        (both_all width narrow ends Good ex kept front (ids_begun u) (numbers_begun u) p' both_begun).agree.wire in
-        let stands : (behind width ends u front).wire.state ≡ (moved ends (by_numbers width) front (numbers_begun u)).wire.state = ap (λ (w : Wire State). w.state) same in
-        record {
-          front = front;
-          later = later;
-          split = e;
-          id = x.line.id;
-          rest = rest;
-          reaches = ap (λ (w : Wire State). w.up) same ∙ q;
-          executed = ap (λ t. (ends.handed t x.line.id x.line.call).executed) stands ∙ exe;
-          reply = ap (λ t. (ends.handed t x.line.id x.line.call).reply) (sym stands);
-        }
-
     -- `AreOn` holds of any moves with `AnyLine`, which every line meets
     any_on : (ms : List (Move State)) (b : World (ByNumber Asked) State) → AreOn width ends AnyLine ms b
     any_on ms b front later e x rest q exe = tt
@@ -223,16 +204,17 @@ module _ {State : Type 0} (ends : Ends State) (Good : State → Type 0) (kept : 
     own_if_all_known knows is null ms p asks =
         let M : ℕ → Asked → List ℕ → Type 0 = λ n call line. WasMadeOn width ends u ms n call line in
         let E : ℕ → Type 0 = λ n. n < 8 in
-        let start = true_begun knows is E (λ n l. l) (Unit {0}) M (inl (tt, omega arith, (null, (null, (null, (null, (null, (null, (null, (null, tt)))))))))) in
+        let on = made_here width narrow ends Good ex kept (ids_begun u) (numbers_begun u) both_begun ms p in
+        let start = vouched_begun knows is E (λ n l. l) (Unit {0}) M (inl (tt, omega arith, (null, (null, (null, (null, (null, (null, (null, (null, tt)))))))))) in
         vouched_for width narrow knows ends Good ex kept is 8 E (Unit {0}) M (moved ends (by_numbers width) ms (numbers_begun u))
-        (whole_all width narrow knows ends Good ex kept is 8 E (Unit {0}) M ms (ids_begun u) (numbers_begun u) both_begun p (λ all. asks) (made_here ms p) start)
+        (whole_all width narrow knows ends Good ex kept is 8 E (Unit {0}) M ms (ids_begun u) (numbers_begun u) both_begun p (λ all. asks) on start)
 
-    -- the world of numbers that moves leave is `TrueOfNone`
-    true_of_none : (ms : List (Move State)) → ArePossible ends Good kept (by_ids width ends) ms (ids_begun u)
-        → TrueOfNone width narrow ends Good kept keeper 8 (moved ends (by_numbers width) ms (numbers_begun u))
-    true_of_none ms p =
+    -- the world of numbers that moves leave is `AllExcepted`
+    all_excepted : (ms : List (Move State)) → ArePossible ends Good kept (by_ids width ends) ms (ids_begun u)
+        → AllExcepted width narrow ends Good kept keeper 8 (moved ends (by_numbers width) ms (numbers_begun u))
+    all_excepted ms p =
         whole_all width narrow is_of_table ends Good ex kept keeper 8 EachOne ⊥ AnyLine ms (ids_begun u) (numbers_begun u) both_begun p (λ never. absurd never) (any_on ms (numbers_begun u))
-        (true_begun is_of_table keeper EachOne (λ n l. tt) ⊥ AnyLine (inr (λ n. inl tt)))
+        (vouched_begun is_of_table keeper EachOne (λ n l. tt) ⊥ AnyLine (inr (λ n. inl tt)))
 
     -- the settlement of a request that was sent after the table is its own
     behind_own : (ms : List (Move State)) → ArePossible ends Good kept (by_ids width ends) ms (ids_begun u) → (m : ℕ) → WentOutBehindTheTable width ends u ms m
@@ -247,10 +229,11 @@ module _ {State : Type 0} (ends : Ends State) (Good : State → Type 0) (kept : 
         let both = both_all width narrow ends Good ex kept h.front (ids_begun u) (numbers_begun u) before both_begun in
         let same : a.wire ≡ b.wire = both.agree.wire in
         let size : length b.wire.sent ≡ m = sym (ap (λ (w : Wire State). length w.sent) same) ∙ h.number in
-        let none = true_of_none h.front before in
+        let none = all_excepted h.front before in
         let near = near_the_table width narrow ends Good kept keeper 8 m b none (omega arith) size (subst (λ (w : Wire State). IsBehindTheTable w) same h.behind_table) in
         let one = renewed width narrow ends Good kept keeper 8 M m b both.sound none size near in
-        let on = are_on_later width ends M h.front rest (numbers_begun u) (subst (λ l. AreOn width ends M l (numbers_begun u)) h.split (made_here ms p)) in
+        let made = made_here width narrow ends Good ex kept (ids_begun u) (numbers_begun u) both_begun ms p in
+        let on = are_on_later width ends M h.front rest (numbers_begun u) (subst (λ l. AreOn width ends M l (numbers_begun u)) h.split made) in
         let last = whole_all width narrow is_of_table ends Good ex kept keeper 8 (AllBut m) ⊥ M rest a b both
         (possible_behind width ends Good kept h.front rest (ids_begun u) whole) (λ never. absurd never) on one in
         let there : moved ends (by_numbers width) ms (numbers_begun u) ≡ moved ends (by_numbers width) rest b =
@@ -261,7 +244,7 @@ module _ {State : Type 0} (ends : Ends State) (Good : State → Type 0) (kept : 
     -- the settlement of a request that is `IsSafe` is its own
     safe_own : (ms : List (Move State)) → ArePossible ends Good kept (by_ids width ends) ms (ids_begun u) → (m : ℕ) (s : Settlement Asked) → 8 ≤ m → IsSafe width ends u Good kept ms m
         → slice_get (moved ends (by_numbers width) ms (numbers_begun u)).wire.settled m ≡ Some s
-        → IsOwn ends Good (λ n call line. WasMadeOn width ends u ms n call line) (moved ends (by_numbers width) ms (numbers_begun u)).wire m s
+        → IsOwnSettlement ends Good (λ n call line. WasMadeOn width ends u ms n call line) (moved ends (by_numbers width) ms (numbers_begun u)).wire m s
     safe_own ms p m s ge (inl table) e = (own_if_all_known is_of_table keeper refl ms p table).own m s (λ l. omega (arith, l, ge)) e
     safe_own ms p m s ge (inr (inl alike)) e = (own_if_all_known all_known (alike_is ends Good kept keeper alike) refl ms p (asks_all ms)).own m s (λ l. omega (arith, l, ge)) e
     safe_own ms p m s ge (inr (inr went)) e = (behind_own ms p m went).own m s (λ other. other refl) e
@@ -276,7 +259,7 @@ module _ {State : Type 0} (ends : Ends State) (Good : State → Type 0) (kept : 
         let one = same_all width ends keeper.hears Good kept ms course_after_nulls (ids_begun u) p (record { sent = refl; settled = refl; client = refl }) in
         let x = course width course_after_nulls (seen ms) in
         let y = course width begun (seen ms) in
-        let from = behind_all width (map of_sent nulls) nulls_settled (seen ms) course_after_nulls begun begun_behind in
+        let from = prefixed_all width (map of_sent nulls) nulls_settled (seen ms) course_after_nulls begun begun_prefixed in
         let settlements : a.wire.settled ≡ nulls_settled ++ y.settlements = sym one.settled ∙ from.settled in
         let stands : y.client ≡ a.client = sym from.client ∙ one.client in
         let parts : map of_settled a.wire.settled ++ map of_pending a.client.waiting ≡ map of_sent a.wire.sent =
@@ -285,9 +268,9 @@ module _ {State : Type 0} (ends : Ends State) (Good : State → Type 0) (kept : 
         ∙ ap (λ l. map of_sent nulls ++ l) (one_for_one width (seen ms)) ∙ sym from.sent ∙ one.sent in
         let pairs = settled.one_for_one a.wire.settled a.client.waiting a.wire.sent parts in
         let M : ℕ → Asked → List ℕ → Type 0 = λ n call line. WasMadeOn width ends u ms n call line in
-        let all = vouched_for width narrow is_of_table ends Good ex kept keeper 8 EachOne ⊥ AnyLine b (true_of_none ms p) in
-        let own : (m : ℕ) (s : Settlement Asked) → 8 ≤ m → IsSafe width ends u Good kept ms m → slice_get a.wire.settled m ≡ Some s → IsOwn ends Good M a.wire m s =
-        λ m s ge safe e. subst (λ (w : Wire State). IsOwn ends Good M w m s) (sym same)
+        let all = vouched_for width narrow is_of_table ends Good ex kept keeper 8 EachOne ⊥ AnyLine b (all_excepted ms p) in
+        let own : (m : ℕ) (s : Settlement Asked) → 8 ≤ m → IsSafe width ends u Good kept ms m → slice_get a.wire.settled m ≡ Some s → IsOwnSettlement ends Good M a.wire m s =
+        λ m s ge safe e. subst (λ (w : Wire State). IsOwnSettlement ends Good M w m s) (sym same)
         (safe_own ms p m s ge safe (subst (λ (w : Wire State). slice_get w.settled m ≡ Some s) same e)) in
         record {
           settled = settlements;

@@ -1,20 +1,19 @@
 -- One run after the other: each that is killed while it synchronizes makes the front of the word that may be in flight longer
 -- by one id at most. The *word* is the list of the ids of a synchronization's eight null procedures: 6 down to 0, and then 7.
-use Rattle.std.proofs.Common.{◌≡◌, ℕ, suc, ◌+◌, ◌≤◌, false, List, [], ◌∷◌, ◌++◌, length, map, Option, Some, refl, sym, ◌∙◌, ap, subst, arith}
+use Rattle.std.proofs.Common.{◌≡◌, ℕ, suc, ◌+◌, ◌≤◌, false, List, [], ◌∷◌, ◌++◌, length, map, Option, Some, refl, sym, ◌∙◌, ap, subst, arith, append_assoc}
 use Rattle.gc_client.specs.Beginning.{IsSubsequence, the_word}
 use Rattle.gc_client.specs.Rule.{heard}
 use Rattle.gc_instrument.specs.State.{KeptReply}
 use Rattle.gc_world.specs.Order.{Each}
 use Rattle.gc_field.specs.World.{Ends, Request}
 use Rattle.gc_field.specs.Begin.{InFlight, IsWellFormed, AreTurns, Model, UnderWay, begins, ids_under_way, leaves}
-use Rattle.gc_field.specs.Beginnings.{AreFewKilled, AreOwn, AreRuns, ArePossibleIf, IsOwnIf, IsRow, Run, killed_if, left_by_run, left_if, on_line, after_turns}
+use Rattle.gc_field.specs.Beginnings.{AreFewKilled, AreOwn, AreRuns, ArePossibleIf, IsOwnIf, HasRisingIds, Run, killed_if, left_by_run, left_if, on_line, after_turns}
 use Rattle.gc_field.specs.Begun.{HasBegunCleanly, IsClean, behind, eighth}
 use Rattle.gc_field.specs.Instrument.{IsAnInstrument}
 use Rattle.gc_field.proofs.BeginJoin.{begins_cleanly, left_absent, left_lines}
-use Rattle.gc_field.proofs.BeginLists.{goes_over}
 use Rattle.gc_field.proofs.BeginWords.{subword_front}
 use Rattle.gc_field.proofs.BegunFaithful.{faithful}
-use Rattle.gc_field.proofs.BegunRows.{rows_have_not_three, runs_leave_rows, runs_leave_good}
+use Rattle.gc_field.proofs.BegunRising.{rising_lack_three, runs_leave_rising_ids, runs_leave_good}
 
 -- what is in flight after n runs in a row that were killed while they synchronized: its ids don't contain the first n + 3 ids
 -- of the word, which are 6, 5 and `more`
@@ -25,9 +24,9 @@ pub record IsShort {State : Type 0} (n : ℕ) (u : UnderWay State) : Type 0 wher
   pub few : length tail + n ≡ 5
   pub none : IsSubsequence (6 ∷ 5 ∷ more) (ids_under_way u) → ⊥
 
--- what is an `IsRow` is `IsShort` with no run killed before
-pub short_row : {State : Type 0} (u : UnderWay State) → IsRow u → IsShort 0 u
-short_row u h = record { more = 4 ∷ []; tail = 3 ∷ 2 ∷ 1 ∷ 0 ∷ 7 ∷ []; split = refl; few = refl; none = rows_have_not_three u h }
+-- where `HasRisingIds` holds, `IsShort` holds with no run killed before
+pub short_rising : {State : Type 0} (u : UnderWay State) → HasRisingIds u → IsShort 0 u
+short_rising u h = record { more = 4 ∷ []; tail = 3 ∷ 2 ∷ 1 ∷ 0 ∷ 7 ∷ []; split = refl; few = refl; none = rising_lack_three u h }
 
 -- the ids of what is `IsShort` don't contain the word
 pub short_word : {State : Type 0} (n : ℕ) (u : UnderWay State) → IsShort n u → IsSubsequence the_word (ids_under_way u) → ⊥
@@ -58,7 +57,7 @@ module _ {State : Type 0} (ends : Ends State) (Good : State → Type 0) (kept : 
       record {
         more = h.more ++ c ∷ [];
         tail = tail;
-        split = split ∙ sym (ap (λ l. 6 ∷ 5 ∷ l) (goes_over h.more c tail));
+        split = split ∙ sym (ap (λ l. 6 ∷ 5 ∷ l) (append_assoc h.more (c ∷ []) tail));
         few = (let size = h.few in let one : length h.tail ≡ suc (length tail) = ap length e in omega (arith, size, one));
         none = left_absent ends Good kept is u r.turns 6 5 h.more c tail split lines turns h.none;
       }
@@ -82,7 +81,7 @@ module _ {State : Type 0} (ends : Ends State) (Good : State → Type 0) (kept : 
       record {
         own = (clean, faithful ends Good kept is width narrow (leaves s) (clean_lines s good clean) r.moves p);
         lines = record { ids = after.1; good = after.0 };
-        short = short_row (on_line (behind width ends (leaves s) r.moves).wire) (runs_leave_rows ends Good kept is width narrow (leaves s) (clean_lines s good clean) r.moves p);
+        short = short_rising (on_line (behind width ends (leaves s) r.moves).wire) (runs_leave_rising_ids ends Good kept is width narrow (leaves s) (clean_lines s good clean) r.moves p);
       }
   run_result n u r (asked ∷ rest) e lines short turns p few = record {
     own = tt;
@@ -98,7 +97,8 @@ module _ {State : Type 0} (ends : Ends State) (Good : State → Type 0) (kept : 
       let one = run_result n u r (after_turns ends u r).left refl lines short runs.0.0 runs.0.1 few.0 in
       (one.own, all_own rs (killed_if (after_turns ends u r).left n) (left_by_run width ends u r) one.lines one.short runs.1 few.1)
 
-  -- runs one after the other are their own, after an `IsRow`, as long as few are killed while they synchronize
-  pub runs_are_their_own : (u : UnderWay State) → IsWellFormed Good u → IsRow u → (rs : List (Run State)) → AreRuns width ends Good kept u rs
+  -- runs one after the other are their own, if `HasRisingIds` holds of what is in flight before the first, as long as few in a row
+  -- are killed while they synchronize
+  pub runs_are_their_own : (u : UnderWay State) → IsWellFormed Good u → HasRisingIds u → (rs : List (Run State)) → AreRuns width ends Good kept u rs
       → AreFewKilled width ends 0 u rs → AreOwn width ends Good kept u rs
-  runs_are_their_own u lines row rs runs few = all_own rs 0 u lines (short_row u row) runs few
+  runs_are_their_own u lines row rs runs few = all_own rs 0 u lines (short_rising u row) runs few

@@ -18,7 +18,7 @@ use Rattle.gc_world.proofs.Places.{get_more, get_push}
 use Rattle.gc_world.proofs.Rows.{each_append, each_more, each_without, each_doubled}
 use Rattle.gc_field.specs.Begin.{UnderWay}
 use Rattle.gc_field.specs.Begun.{IsClean, eighth, ids_begun, nulls}
-use Rattle.gc_field.specs.Field.{Move, Sends, Tells, Comes, Foreign, OnLine, Anew, Changes, Joins, IsOfLine, moves, moved, ArePossible}
+use Rattle.gc_field.specs.Field.{Move, Sends, Tells, Comes, Foreign, OnLine, Anew, Changes, Joins, IsLineStep, moves, moved, ArePossible}
 use Rattle.gc_field.specs.Chains.{HasNoStartBetween, IsUndisturbed, HasEffect, AreCalls, executing}
 use Rattle.gc_field.proofs.BegunFaithful.{each_last}
 
@@ -229,7 +229,7 @@ module _ {State : Type 0} (ends : Ends State) where
       }
 
   -- if a step of the line happens, `Goes` holds
-  goes_line : (w : World (ById Asked) State) (quiet still : Type 0) (step : Step) → IsOfLine step → IsConsistent w.wire → Goes w.wire (happens ends (by_ids 7 ends) w step).wire quiet still
+  goes_line : (w : World (ById Asked) State) (quiet still : Type 0) (step : Step) → IsLineStep step → IsConsistent w.wire → Goes w.wire (happens ends (by_ids 7 ends) w step).wire quiet still
   goes_line w quiet still (Send target call deadline) p k = absurd p
   goes_line w quiet still Up_deliver p k = goes_up w.wire quiet still w.wire.up refl k
   goes_line w quiet still (Up_lose i) p k = goes_with_up w.wire quiet still (without i w.wire.up) (ltb i (length w.wire.up)) (each_without _ i w.wire.up k.known) k
@@ -246,7 +246,7 @@ module _ {State : Type 0} (ends : Ends State) where
   goes_then : (u v w : Wire State) (p q r s : Type 0) → (q → p) → (s → r) → Goes u v p r → Goes v w q s → Goes u w q s
   goes_then u v w p q r s f g h i = record { did = did_both u v w q p s r f g h.did i.did; stands = i.stands }
 
-  -- where `Goes` holds over one stretch and over another after it, with the same premises, it holds over both
+  -- where `Goes` holds over one interval and over another after it, with the same premises, it holds over both
   goes_alike : (u v w : Wire State) (q s : Type 0) → Goes u v q s → Goes v w q s → Goes u w q s
   goes_alike u v w q s h i = goes_then u v w q q s s (λ x. x) (λ x. x) h i
 
@@ -266,14 +266,14 @@ module _ {State : Type 0} (ends : Ends State) where
     stands = h.stands;
   }
 
-  -- if the instrument starts, `Goes` holds: the stretch is neither quiet nor still
+  -- if the instrument starts, `Goes` holds: the interval is neither quiet nor still
   goes_anew : (v : Wire State) → IsConsistent v → Goes v (started ends v true) ⊥ ⊥
   goes_anew v k = record {
     did = did_none v (started ends v true) ⊥ ⊥ [] refl (sym (append-nil v.sent)) (λ e. absurd e) (λ e. absurd e);
     stands = record { known = k.known; begun = each_append (λ s. s ≤ length v.executed) v.starts (length v.executed ∷ []) k.begun (omega arith, tt) };
   }
 
-  -- if the instrument's state changes by itself, `Goes` holds: the stretch isn't still
+  -- if the instrument's state changes by itself, `Goes` holds: the interval isn't still
   goes_changed : (v : Wire State) (quiet : Type 0) (state : State) → IsConsistent v → Goes v (record v { state = state }) quiet ⊥
   goes_changed v quiet state k = record {
     did = did_none v (record v { state = state }) quiet ⊥ [] refl (sym (append-nil v.sent)) (λ q. refl) (λ e. absurd e);

@@ -9,7 +9,7 @@ use Rattle.gc_instrument.specs.Replying.{handed}
 use Rattle.gc_texts.specs.Nears.{is_elsewhere}
 use Rattle.gc_texts.specs.declared.tasks.Task.{Task}
 use Rattle.gc_station.specs.Links.{AreChained}
-use Rattle.gc_world.proofs.Options.{some_is}
+use Rattle.std.proofs.lemmas.Option.{same_Some}
 use Rattle.gc_field.specs.Plain.{plain_task}
 use Rattle.gc_field.specs.ChainWitness.{IsPointedInField, acts, at_start, commands, measures, moves, runs, scope}
 use Rattle.gc_field.specs.Pointing.{AreStill, turns_telescope}
@@ -34,7 +34,7 @@ none_turns : AreStill commands 0 2
 none_turns zero task above under e = absurd (omega (arith, above))
 none_turns (suc zero) task above under e =
     let one : Task = plain_task (record { target = 7; call = measures }) 100 true in
-    ap (λ (t : Task). turns_telescope t.command.call) (sym (some_is one task e))
+    ap (λ (t : Task). turns_telescope t.command.call) (sym (same_Some one task e))
 none_turns (suc (suc p)) task above under e = absurd (omega (arith, under))
 
 -- the run's parts: one, with the requests by place and moment

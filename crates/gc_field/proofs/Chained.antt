@@ -2,9 +2,8 @@
 -- whole run's stretch at that place. So when a chained command is sent, the answer of the command before it is settled there. A
 -- *part* is what happens in a run from one synchronization to the next, as the station sees it; a *stretch* is what happens
 -- then on the line. The *marks* of a part say for which command each of its requests is, in order.
-use Rattle.std.proofs.Common.{◌≡◌, ◌⊎◌, inl, inr, ℕ, zero, suc, ◌+◌, ◌-◌, ◌<◌, ◌≤◌, Bool, true, false, drop, length-drop, List, [], ◌∷◌, ◌++◌, length, map, Option, Some, refl, sym, ◌∙◌, ap, subst, arith, ltb}
+use Rattle.std.proofs.Common.{◌≡◌, inl, inr, ℕ, zero, suc, ◌+◌, ◌-◌, ◌<◌, ◌≤◌, drop, length-drop, List, [], ◌∷◌, ◌++◌, length, map, Option, Some, refl, sym, ◌∙◌, ap, subst, arith}
 use Rattle.std.specs.Prelude.{slice_get}
-use Rattle.std.proofs.lemmas.Bool.{ltb-true, ltb-false}
 use Rattle.std.proofs.lemmas.List.{length-map}
 use Rattle.gc_catalogue.specs.declared.asked.Asked.{Asked}
 use Rattle.gc_client.specs.OneForOne as step
@@ -28,12 +27,10 @@ use Rattle.gc_station.proofs.Lists.{all_at, get_more, all_on, cons_head, cons_ta
 use Rattle.gc_station.proofs.OnePart.{runs_front}
 use Rattle.gc_world.specs.Clients.{by_ids}
 use Rattle.gc_field.specs.World.{Ends, Up_deliver}
-use Rattle.gc_world.proofs.Options.{some_is, none_is_not}
-use Rattle.gc_world.proofs.Places.{below}
+use Rattle.std.proofs.lemmas.Option.{same_Some, none-some, slice_get_within}
 use Rattle.gc_field.specs.Begin.{AreTurns, UnderWay, begins, leaves, turned}
-use Rattle.gc_field.specs.Begin.{Model as Begins}
-use Rattle.gc_field.specs.Beginnings.{ArePossibleIf, AreRuns, Run, left_by_run}
-use Rattle.gc_field.specs.Beginnings.{after_turns as stood_by}
+use Rattle.gc_field.specs.Begin.{Model as SyncModel}
+use Rattle.gc_field.specs.Beginnings.{ArePossibleIf, AreRuns, Run, after_turns, left_by_run}
 use Rattle.gc_field.specs.Begun.{IsSafe, WasMadeOn, behind, ids_begun}
 use Rattle.gc_field.specs.Chains.{AreExecutedInChain, IsChainedTo, IsExecutedInChain}
 use Rattle.gc_field.specs.Field.{Move, Sends, Tells, Comes, Foreign, OnLine, Anew, Changes, Joins, ArePossible, seen}
@@ -46,8 +43,10 @@ use Rattle.gc_field.proofs.InTime.{clean_of, front_nil}
 use Rattle.gc_field.proofs.Possible.{possible_front}
 use Rattle.gc_field.proofs.Among.{get_drop}
 use Rattle.gc_field.proofs.Joining.{AllFit, Fits, all_fitting, run_faithful, safe_at, safe_in}
-use Rattle.gc_field.proofs.Ordered.{executed_behind}
-use Rattle.gc_field.proofs.PartFronts.{IsFront, front_parts, front_last, AreWhole, LastIsMarked, last_marked, whole_parts}
+use Rattle.gc_field.proofs.Ordered.{executed_behind, in_front_at}
+use Rattle.gc_station.proofs.PartFronts.{IsFront, front_parts, front_last}
+use Rattle.gc_field.proofs.PartFronts.{AreWhole, LastIsMarked, last_marked, whole_parts}
+use Rattle.std.proofs.lemmas.Bool.{cases_order}
 
 -- The stretches of a front.
 
@@ -98,7 +97,7 @@ record IsCutOf {State : Type 0} (t s : Stretch State) : Type 0 where
 first_cut : {State : Type 0} (s : Stretch State) (ss : List (Stretch State)) (front later : List (Move State)) → s.moves ≡ front ++ later → (i : ℕ) (u v : Stretch State) → i ≡ 0
     → slice_get (record { from = s.from; moves = front } ∷ []) i ≡ Some u → slice_get (s ∷ ss) i ≡ Some v → IsCutOf u v
 first_cut s ss front later order zero u v is a b =
-    subst (λ w. IsCutOf u w) (some_is s v b) (record { front = front; later = later; is = sym (some_is (record { from = s.from; moves = front }) u a); order = order })
+    subst (λ w. IsCutOf u w) (same_Some s v b) (record { front = front; later = later; is = sym (same_Some (record { from = s.from; moves = front }) u a); order = order })
 first_cut s ss front later order (suc i) u v is a b = absurd (omega (arith, is))
 
 module _ {State : Type 0} (ends : Ends State) (Good : State → Type 0) (kept : State → Option KeptReply) where
@@ -107,7 +106,8 @@ module _ {State : Type 0} (ends : Ends State) (Good : State → Type 0) (kept : 
   from_of u r = leaves (turned ends r.turns (begins u))
 
   -- the front of possible moves is possible
-  possible_cut : (left : List ℕ) (s : Begins State) (ms front later : List (Move State)) → ms ≡ front ++ later → ArePossibleIf 7 ends Good kept left s ms → ArePossibleIf 7 ends Good kept left s front
+  possible_cut : (left : List ℕ) (s : SyncModel State) (ms front later : List (Move State)) → ms ≡ front ++ later → ArePossibleIf 7 ends Good kept left s ms
+      → ArePossibleIf 7 ends Good kept left s front
   possible_cut [] s ms front later e p = possible_front 7 ends Good kept front later (ids_begun (leaves s)) (subst (λ l. ArePossible ends Good kept (by_ids 7 ends) l (ids_begun (leaves s))) e p)
   possible_cut (asked ∷ rest) s ms front later e p = front_nil front later (sym p ∙ e)
 
@@ -121,11 +121,11 @@ module _ {State : Type 0} (ends : Ends State) (Good : State → Type 0) (kept : 
 
   -- `Cut` of one part: the first run is cut after the moves that show the part's steps
   cut_one : (p : Part) (u : UnderWay State) (r : Run State) (rs : List (Run State)) → shown ends r.turns (begins u) ≡ p.turns → SplitSeen r.moves p.steps → AreTurns ends Good kept r.turns (begins u)
-      → ArePossibleIf 7 ends Good kept (stood_by ends u r).left (stood_by ends u r) r.moves → Cut (p ∷ []) u (r ∷ rs)
+      → ArePossibleIf 7 ends Good kept (after_turns ends u r).left (after_turns ends u r) r.moves → Cut (p ∷ []) u (r ∷ rs)
   cut_one p u r rs e x turns possible = record {
     runs = record { turns = r.turns; moves = x.front } ∷ [];
     shown = (e, x.steps, tt);
-    possible = ((turns, possible_cut (stood_by ends u r).left (stood_by ends u r) r.moves x.front x.later x.order possible), tt);
+    possible = ((turns, possible_cut (after_turns ends u r).left (after_turns ends u r) r.moves x.front x.later x.order possible), tt);
     last = λ i t v size a b. first_cut (record { from = from_of u r; moves = r.moves }) (stretches ends (left_by_run 7 ends u r) rs) x.front x.later x.order i t v (omega (arith, size)) a b;
   }
 
@@ -148,7 +148,7 @@ module _ {State : Type 0} (ends : Ends State) (Good : State → Type 0) (kept : 
 
   -- `Cut` is preserved if the run of a part is put before it
   cut_more : (p next : Part) (ps : List Part) (u : UnderWay State) (r : Run State) (rs : List (Run State)) → shown ends r.turns (begins u) ≡ p.turns → seen r.moves ≡ p.steps
-      → AreTurns ends Good kept r.turns (begins u) × ArePossibleIf 7 ends Good kept (stood_by ends u r).left (stood_by ends u r) r.moves
+      → AreTurns ends Good kept r.turns (begins u) × ArePossibleIf 7 ends Good kept (after_turns ends u r).left (after_turns ends u r) r.moves
       → Cut (next ∷ ps) (left_by_run 7 ends u r) rs → Cut (p ∷ next ∷ ps) u (r ∷ rs)
   cut_more p next ps u r rs e f good c = record {
     runs = r ∷ c.runs;
@@ -176,29 +176,23 @@ module _ {State : Type 0} (ends : Ends State) (Good : State → Type 0) (kept : 
 
 -- What is at a place.
 
--- an element of two lists in a row, at a place below the length of the first, is at that place of the first
-in_front_at : {A : Type 0} (xs ys : List A) (i : ℕ) (x : A) → i < length xs → slice_get (xs ++ ys) i ≡ Some x → slice_get xs i ≡ Some x
-in_front_at [] ys i x less e = absurd (omega (arith, less))
-in_front_at (y ∷ xs) ys zero x less e = e
-in_front_at (y ∷ xs) ys (suc i) x less e = in_front_at xs ys i x (omega (arith, less)) e
-
 -- where parts and stretches fit, one for one, the part and the stretch at one place fit
 fit_at : {State : Type 0} (ends : Ends State) (Good : State → Type 0) (kept : State → Option KeptReply) (is : IsAnInstrument ends Good kept) (ps : List Part)
     (ss : List (Stretch State)) (i : ℕ) (p : Part) (s : Stretch State) → AllFit ends Good kept is ps ss → slice_get ps i ≡ Some p → slice_get ss i ≡ Some s
     → Fits ends Good kept is p s
-fit_at ends Good kept is [] ss i p s h e f = absurd (none_is_not p e)
+fit_at ends Good kept is [] ss i p s h e f = absurd (none-some p e)
 fit_at ends Good kept is (q ∷ ps) [] i p s h e f = absurd h
-fit_at ends Good kept is (q ∷ ps) (t ∷ ss) zero p s h e f = subst (λ x. Fits ends Good kept is x s) (some_is q p e) (subst (λ x. Fits ends Good kept is q x) (some_is t s f) h.0)
+fit_at ends Good kept is (q ∷ ps) (t ∷ ss) zero p s h e f = subst (λ x. Fits ends Good kept is x s) (same_Some q p e) (subst (λ x. Fits ends Good kept is q x) (same_Some t s f) h.0)
 fit_at ends Good kept is (q ∷ ps) (t ∷ ss) (suc i) p s h e f = fit_at ends Good kept is ps ss i p s h.1 e f
 
 -- the requests of the stretch at a place are those of its part
 pub sent_at : {State : Type 0} (ends : Ends State) (commands : List Task) (ps : List Part) (ss : List (Stretch State)) (i : ℕ) (p : Part) (s : Stretch State)
     → AreSentAs ends commands ps ss → slice_get ps i ≡ Some p → slice_get ss i ≡ Some s → MarksAsk commands p.marks (map asked (own_sent ends s))
-sent_at ends commands [] ss i p s h e f = absurd (none_is_not p e)
+sent_at ends commands [] ss i p s h e f = absurd (none-some p e)
 sent_at ends commands (q ∷ ps) [] i p s h e f = absurd h
 sent_at ends commands (q ∷ ps) (t ∷ ss) zero p s h e f =
-    subst (λ (x : Part). MarksAsk commands x.marks (map asked (own_sent ends s))) (some_is q p e)
-    (subst (λ (x : Stretch _). MarksAsk commands q.marks (map asked (own_sent ends x))) (some_is t s f) h.0)
+    subst (λ (x : Part). MarksAsk commands x.marks (map asked (own_sent ends s))) (same_Some q p e)
+    (subst (λ (x : Stretch _). MarksAsk commands q.marks (map asked (own_sent ends x))) (same_Some t s f) h.0)
 sent_at ends commands (q ∷ ps) (t ∷ ss) (suc i) p s h e f = sent_at ends commands ps ss i p s h.1 e f
 
 -- Pairs of numbers: a cycle and a place in it, or a part of the run and a request in it.
@@ -208,29 +202,20 @@ not_itself : (c p : ℕ) → IsBefore c p c p → ⊥
 not_itself c p (inl l) = omega (arith, l)
 not_itself c p (inr l) = let less : p < p = l.1 in omega (arith, less)
 
--- of two numbers one is smaller, or they are the same
-one_of : (x y : ℕ) → (x < y) ⊎ ((x ≡ y) ⊎ (y < x))
-one_of x y = by_test (ltb x y) (ltb y x) refl refl where
-  -- the lemma above, by whether x is below y (`b`), and y below x (`c`)
-  by_test : (b c : Bool) → ltb x y ≡ b → ltb y x ≡ c → (x < y) ⊎ ((x ≡ y) ⊎ (y < x))
-  by_test true c e f = inl (ltb-true x y e)
-  by_test false true e f = inr (inr (ltb-true y x f))
-  by_test false false e f = let le : y ≤ x = ltb-false x y e in let ge : x ≤ y = ltb-false y x f in inr (inl (omega (arith, le, ge)))
-
 -- if neither of the pairs i, m and j, n comes before the other, they are the same
 same_place : (i j m n : ℕ) → (IsBefore i m j n → ⊥) → (IsBefore j n i m → ⊥) → (i ≡ j) × (m ≡ n)
 same_place i j m n f g =
-    elim (one_of i j) [
-      | inl l ↦ absurd (f (inl l))
-      | inr r ↦ elim r [
-        | inr l ↦ absurd (g (inl l))
-        | inl e ↦ elim (one_of m n) [
+    elim (cases_order i j) [
+      | inl e ↦ elim (cases_order m n) [
+        | inl d ↦ (e, d)
+        | inr s ↦ elim s [
           | inl l ↦ absurd (f (inr (e, l)))
-          | inr s ↦ elim s [
-            | inr l ↦ absurd (g (inr (sym e, l)))
-            | inl d ↦ (e, d)
-          ]
+          | inr l ↦ absurd (g (inr (sym e, l)))
         ]
+      ]
+      | inr r ↦ elim r [
+        | inl l ↦ absurd (f (inl l))
+        | inr l ↦ absurd (g (inl l))
       ]
     ]
 
@@ -331,7 +316,7 @@ module _ {State : Type 0} (ends : Ends State) (Good : State → Type 0) (kept : 
       let more = front_last (parts plan commands scope sent.before) (parts plan commands scope acts) u.k sent.first u.part front sent.last sent.of_parts u.of_parts in
       let mark_a : slice_get u.part.marks back.m ≡ Some (Some (mark_of back.expected back.answer)) =
       ap (λ (p : Part). slice_get p.marks back.m) more.1 ∙ get_more sent.first.marks more.0.marks back.m (Some (mark_of back.expected back.answer)) back.mark in
-      let small : back.m < length sent.first.marks = below sent.first.marks back.m (Some (mark_of back.expected back.answer)) back.mark in
+      let small : back.m < length sent.first.marks = slice_get_within sent.first.marks back.m (Some (mark_of back.expected back.answer)) back.mark in
       let grown = records_stay plan commands scope sent.before sent.rest in
       let same_cycle : back.answer.cycle ≡ b.cycle = back.own_cycle in
       let safe : IsSafe 7 ends u.stretch.from Good kept c.front (8 + back.m) =

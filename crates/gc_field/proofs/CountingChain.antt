@@ -1,6 +1,6 @@
 -- A run of a chain over an instrument that counts, computed.
 use Rattle.std.proofs.Common.{◌≡◌, ℕ, suc, ◌<◌, inl, inr, true, false, cond, List, Option, Some, None, [], ◌∷◌, refl, sym, ◌∙◌, ap, subst}
-use Rattle.std.proofs.lemmas.Bool.{eq-eqb}
+use Rattle.std.proofs.lemmas.Bool.{eq-eqb, true≢false}
 use Rattle.std.specs.Prelude.{take, drop}
 use Rattle.std.specs.Fmt.{digits}
 use Rattle.gc_lines.specs.Readers.{header_at, reply_at}
@@ -11,15 +11,15 @@ use Rattle.gc_client.specs.Rule.{heard}
 use Rattle.gc_instrument.specs.State.{KeptReply}
 use Rattle.gc_texts.specs.Nears.{is_elsewhere}
 use Rattle.gc_texts.specs.declared.tasks.Task.{Task}
-use Rattle.gc_world.proofs.Options.{some_is}
+use Rattle.std.proofs.lemmas.Option.{same_Some}
 use Rattle.gc_field.specs.ChainWitness.{commands, points, reads_all, scope}
 use Rattle.gc_field.specs.Chains.{HasEffect}
 use Rattle.gc_field.specs.CountingChain.{Counter, IsCountedInField, acts, bare, at_start, null_replies, counted_or, counting, counts, first_reply, kept_by, moves, runs, stretch, third_reply}
 use Rattle.gc_field.specs.Instrument.{IsAnInstrument, KeepsItsReply, AnyState, all_known}
 use Rattle.gc_field.specs.Begun.{WasMadeOn}
-use Rattle.gc_field.specs.Needed.{Keeper, held, kept, value}
+use Rattle.gc_field.specs.Needed.{Keeper, held, kept, giving}
 use Rattle.gc_field.proofs.ChainWitness.{all_chained}
-use Rattle.gc_field.proofs.Needed.{kept_own, reads_value}
+use Rattle.gc_field.proofs.Needed.{kept_own, reads_giving}
 use Rattle.gc_station.specs.Parts.{parts_of}
 use Rattle.gc_station.specs.Model.{Runs, opening}
 use Rattle.gc_field.specs.Field.{seen}
@@ -27,17 +27,16 @@ use Rattle.gc_field.specs.Shown.{AreShownAs, shown}
 use Rattle.gc_field.specs.Begin.{begins}
 use Rattle.gc_field.specs.Witness.{begun_with, eight_answered, plan, plan_of}
 use Rattle.gc_field.proofs.Witness.{asked_each, one_part, run_on, units}
-use Rattle.gc_field.proofs.Once.{true_is_not}
 
 -- each reply of the counting instrument has its request's id
 reads : (s : Counter) (id : ℕ) (o : Option ℕ) → id < 8 → heard (counted_or s id o).reply ≡ Some id
-reads s id (Some n) small = reads_value id n small
-reads s id None small = reads_value id (suc s.count) small
+reads s id (Some n) small = reads_giving id n small
+reads s id None small = reads_giving id (suc s.count) small
 
 -- a line that is sent again is the one that is kept
 repeats : (s : Counter) (id : ℕ) (o : Option ℕ) → held s.keeps id ≡ o → (counted_or s id o).executed ≡ false → kept_by s ≡ Some (record { id = id; line = (counted_or s id o).reply })
 repeats s id (Some n) e not = kept_own s.keeps id n e
-repeats s id None e not = absurd (true_is_not not)
+repeats s id None e not = absurd (true≢false not)
 
 -- the reply to a request is kept after it, with the request's id
 reply_is_kept : (s : Counter) (id : ℕ) (o : Option ℕ) → held s.keeps id ≡ o → kept_by (counted_or s id o).state ≡ Some (record { id = id; line = (counted_or s id o).reply })
@@ -52,17 +51,17 @@ none_held x id same e = let e' : Some x.1 ≡ None = sym (ap (λ b. cond b (Some
 held_for : (k : Keeper) (id : ℕ) (o : Option ℕ) (line : List ℕ) → held k id ≡ o → kept k ≡ Some (record { id = id; line = line }) → (s : Counter) → (counted_or s id o).executed ≡ false
 held_for k id (Some n) line h e s = refl
 held_for None id None line h e s = let never : ⊥ = cc in absurd never
-held_for (Some x) id None line h e s = absurd (none_held x id (ap (λ (r : KeptReply). r.id) (some_is (record { id = x.0; line = value x.0 x.1 }) (record { id = id; line = line }) e)) h)
+held_for (Some x) id None line h e s = absurd (none_held x id (ap (λ (r : KeptReply). r.id) (same_Some (record { id = x.0; line = giving x.0 x.1 }) (record { id = id; line = line }) e)) h)
 
 -- an execution makes the count one higher
 executes : (s : Counter) (id : ℕ) (call : Asked) (o : Option ℕ) → (counted_or s id o).executed ≡ true → bare (counted_or s id o).state ≡ bare (counts s call)
-executes s id call (Some n) e = absurd (true_is_not (sym e))
+executes s id call (Some n) e = absurd (true≢false (sym e))
 executes s id call None e = refl
 
 -- a line that is sent again leaves the count
 unchanged : (s : Counter) (id : ℕ) (o : Option ℕ) → (counted_or s id o).executed ≡ false → bare (counted_or s id o).state ≡ bare s
 unchanged s id (Some n) e = refl
-unchanged s id None e = absurd (true_is_not e)
+unchanged s id None e = absurd (true≢false e)
 
 -- `counting` is an instrument
 counting_is : IsAnInstrument counting AnyState kept_by

@@ -1,5 +1,5 @@
 -- A run over an instrument that retains no reply, computed.
-use Rattle.std.proofs.Common.{◌≡◌, true, false, Some, [], ◌∷◌, inl, refl, sym, ap, subst, lit<}
+use Rattle.std.proofs.Common.{◌≡◌, true, false, Some, [], ◌∷◌, refl, sym, ap, subst, lit<, ℕ}
 use Rattle.std.specs.Prelude.{take, drop}
 use Rattle.std.specs.Fmt.{decimal, digits}
 use Rattle.gc_lines.specs.Readers.{header_at, reply_at}
@@ -19,20 +19,14 @@ use Rattle.gc_field.specs.Field.{seen}
 use Rattle.gc_field.specs.Shown.{AreShownAs, shown}
 use Rattle.gc_station.specs.Parts as part
 use Rattle.gc_field.proofs.Witness.{asked_each, one_part, run_on, units}
-use Rattle.gc_field.proofs.Once.{true_is_not}
+use Rattle.gc_field.proofs.Instruments.{keeps_none}
 
 -- `drifting` is an instrument
 drifting_is : IsAnInstrument drifting AnyState nothing
 drifting_is =
-    record {
-      hears = λ line. refl;
-      replies = λ s id call good small. ap id_in (reply_back (record { rc_com = 0; id = Some id; rc = 0; params = decimal s }) (record { rc_com = lit< tt; id = small; rc = lit< tt }));
-      repeats = λ s id call good small not. absurd (true_is_not not);
-      keeps = λ s id call good small. inl (inl refl);
-      starts = λ s good. inl refl;
-      stays_good = λ s id call good small. tt;
-      starts_good = λ s good. tt;
-    }
+    keeps_none ℕ drifting (λ line. refl)
+    (λ s id call small. ap id_in (reply_back (record { rc_com = 0; id = Some id; rc = 0; params = decimal s }) (record { rc_com = lit< tt; id = small; rc = lit< tt })))
+    (λ s id call. refl)
 
 module _ (raw : RawCall) where
   -- the answer was made on executing the second command's request

@@ -1,7 +1,7 @@
--- The law on answers, `IsFaithful`, put together from its parts.
+-- The law on answers, `IsFaithfulUnsynchronized`, put together from its parts.
 use Rattle.std.specs.Prelude.{slice_get}
 use Rattle.gc_catalogue.specs.Asked.{is_of_table}
-use Rattle.std.proofs.Common.{◌≡◌, ℕ, ◌<◌, ◌≤◌, Some, false, List, ◌∷◌, Option, sym, ◌∙◌, ap, subst, arith, map, ◌++◌}
+use Rattle.std.proofs.Common.{◌≡◌, ℕ, ◌<◌, ◌≤◌, Some, false, List, Option, sym, ◌∙◌, ap, subst, arith, map, ◌++◌}
 use Rattle.gc_catalogue.specs.declared.asked.Asked.{Asked}
 use Rattle.gc_client.specs.OneForOne.{begun, course, of_settled, of_pending}
 use Rattle.gc_client.specs.Rule.{Settlement, heard}
@@ -10,17 +10,16 @@ use Rattle.gc_world.specs.Clients.{by_ids, by_numbers, ids_open, numbers_open}
 use Rattle.gc_instrument.specs.State.{KeptReply}
 use Rattle.gc_world.specs.Exchange.{IsExchange}
 use Rattle.gc_world.specs.Record.{IsReplyTo}
-use Rattle.gc_field.specs.World.{Ends, Wire, Up_deliver}
+use Rattle.gc_field.specs.World.{Ends, Wire}
 use Rattle.gc_world.proofs.Booked.{has_at}
 use Rattle.gc_world.proofs.Settled.{of_sent}
 use Rattle.gc_world.proofs.Settled as settled
-use Rattle.gc_field.specs.Field.{Move, OnLine, moved, ArePossible, AsksTheTable, IsFirstAlone, seen}
-use Rattle.gc_field.specs.Laws.{IsFaithful}
+use Rattle.gc_field.specs.Field.{Move, moved, ArePossible, AsksTheTable, IsFirstAlone, seen}
+use Rattle.gc_field.specs.Laws.{IsFaithfulUnsynchronized}
 use Rattle.gc_field.specs.Made.{WasMadeOn}
 use Rattle.gc_field.specs.Instrument.{IsAnInstrument}
-use Rattle.gc_field.proofs.Moving.{both_all, both_open, first_reply, IsOwn, IsVouchedFor, AreOn, vouched_at}
+use Rattle.gc_field.proofs.Moving.{both_all, both_open, first_reply, IsOwnSettlement, IsVouchedFor, vouched_at, made_here}
 use Rattle.gc_field.proofs.Instruments.{exchange_of}
-use Rattle.gc_field.proofs.Possible.{possible_front}
 use Rattle.gc_field.proofs.Seen.{same_all, same_open}
 
 module _ {State : Type 0} (ends : Ends State) (same_heard : (line : List ℕ) → ends.heard line ≡ heard line) (Good : State → Type 0)
@@ -29,28 +28,9 @@ module _ {State : Type 0} (ends : Ends State) (same_heard : (line : List ℕ) �
   abbrev ex : IsExchange ends Good
   ex = exchange_of ends Good kept keeper
 
-  -- the reply to each request that is executed at one of these moves was made on executing it, by `WasMadeOn`
-  made_here : (state : State) → Good state → (ms : List (Move State)) → ArePossible ends Good kept (by_ids width ends) ms (ids_open state)
-      → AreOn width ends (λ n call line. WasMadeOn width ends (ids_open state) ms n call line) ms (numbers_open state)
-  made_here state good ms p front later e x rest q exe =
-      let p' = possible_front width ends Good kept front (OnLine Up_deliver ∷ later) (ids_open state) (subst (λ l. ArePossible ends Good kept (by_ids width ends) l (ids_open state)) e p) in
-      let same : (moved ends (by_ids width ends) front (ids_open state)).wire ≡ (moved ends (by_numbers width) front (numbers_open state)).wire =
-      (both_all width narrow ends Good ex kept front (ids_open state) (numbers_open state) p' (both_open width narrow ends Good ex kept state good)).agree.wire in
-      let stands : (moved ends (by_ids width ends) front (ids_open state)).wire.state ≡ (moved ends (by_numbers width) front (numbers_open state)).wire.state = ap (λ (w : Wire State). w.state) same in
-      record {
-        front = front;
-        later = later;
-        split = e;
-        id = x.line.id;
-        rest = rest;
-        reaches = ap (λ (w : Wire State). w.up) same ∙ q;
-        executed = ap (λ t. (ends.handed t x.line.id x.line.call).executed) stands ∙ exe;
-        reply = ap (λ t. (ends.handed t x.line.id x.line.call).reply) (sym stands);
-      }
-
   -- possible moves whose first request is sent alone are faithful
   pub faithful : (state : State) → Good state → (ms : List (Move State)) → ArePossible ends Good kept (by_ids width ends) ms (ids_open state) → AsksTheTable ms
-      → IsFirstAlone false ms → IsFaithful width ends state ms Good kept
+      → IsFirstAlone false ms → IsFaithfulUnsynchronized width ends state ms Good kept
   faithful state good ms p table l =
       let a = moved ends (by_ids width ends) ms (ids_open state) in
       let b = moved ends (by_numbers width) ms (numbers_open state) in
@@ -65,9 +45,10 @@ module _ {State : Type 0} (ends : Ends State) (same_heard : (line : List ℕ) �
       ∙ one.sent in
       let pairs = settled.one_for_one a.wire.settled a.client.waiting a.wire.sent parts in
       let M : ℕ → Asked → List ℕ → Type 0 = λ n call line. WasMadeOn width ends (ids_open state) ms n call line in
+      let on = made_here width narrow ends Good ex kept (ids_open state) (numbers_open state) (both_open width narrow ends Good ex kept state good) ms p in
       let all = subst (λ (w : Wire State). IsVouchedFor ends Good kept (λ n. n < 1) M w) (sym same)
-      (vouched_at width narrow is_of_table ends Good ex kept keeper (λ n. n < 1) (omega arith) M ms state good p table l (made_here state good ms p)) in
-      let own : (m : ℕ) (s : Settlement Asked) → 0 < m → slice_get a.wire.settled m ≡ Some s → IsOwn ends Good M a.wire m s = λ m s gt e. all.own m s (λ l. omega (arith, l, gt)) e in
+      (vouched_at width narrow is_of_table ends Good ex kept keeper (λ n. n < 1) (omega arith) M ms state good p table l on) in
+      let own : (m : ℕ) (s : Settlement Asked) → 0 < m → slice_get a.wire.settled m ≡ Some s → IsOwnSettlement ends Good M a.wire m s = λ m s gt e. all.own m s (λ l. omega (arith, l, gt)) e in
       record {
         settled = one.settled;
         stands = one.client;

@@ -1,10 +1,10 @@
 -- What holds of one request, m, from the moment at which it is sent after the table: it is near the last call of the table that
 -- the instrument was handed, so the line that answers it was made for it. Of what was sent before nothing need be known.
-use Rattle.std.proofs.Common.{◌≡◌, ℕ, ◌+◌, ◌<◌, ◌≤◌, ◌⊎◌, inl, inr, Bool, true, false, List, [], ◌∷◌, ◌++◌, length, Option, Some, None, refl, subst, arith, ltb}
+use Rattle.std.proofs.Common.{◌≡◌, ℕ, ◌+◌, ◌<◌, ◌≤◌, ◌⊎◌, inl, inr, Bool, true, false, List, [], ◌∷◌, ◌++◌, length, Option, refl, subst, arith, ltb}
 use Rattle.std.proofs.lemmas.Bool.{ltb-true, ltb-false}
 use Rattle.gc_catalogue.specs.Asked.{is_of_table}
 use Rattle.gc_catalogue.specs.declared.asked.Asked.{Asked}
-use Rattle.gc_client.specs.Rule.{Outcome, Settlement, Answered, Late, Lost}
+use Rattle.gc_client.specs.Rule.{Outcome, Answered, Late, Lost}
 use Rattle.gc_instrument.specs.State.{KeptReply}
 use Rattle.gc_world.specs.Clients.{ByNumber, by_numbers}
 use Rattle.gc_field.specs.World.{Ends, Numbered, World}
@@ -12,10 +12,10 @@ use Rattle.gc_world.proofs.Sound.{Sound}
 use Rattle.gc_field.specs.Begun.{IsBehindTheTable, IsByReply}
 use Rattle.gc_field.specs.Field.{Move, Sends, Tells, Comes, Foreign, OnLine, Anew, Changes, Joins, AsksOnly, moves, moved}
 use Rattle.gc_field.specs.Instrument.{IsAnInstrument, all_known}
-use Rattle.gc_field.proofs.Answered.{HoldsOfAll, HoldsOfOutcome, all_so_get}
+use Rattle.gc_field.proofs.Answered.{HoldsOfOutcome, all_so_get, all_so_below}
 use Rattle.gc_field.proofs.BeginLists.{each_both}
 use Rattle.gc_field.proofs.Once.{known_not}
-use Rattle.gc_field.proofs.KeptReplies.{IsDealt, KeptIs}
+use Rattle.gc_field.proofs.KeptReplies.{IsDealt, kept_below}
 use Rattle.gc_field.proofs.Vouched.{AllVouched, Vouched}
 
 -- all moves ask only what is known, if all is
@@ -36,27 +36,6 @@ pub numbers_append : {State : Type 0} (width : ℕ) (ends : Ends State) (front l
 numbers_append width ends [] later b = refl
 numbers_append width ends (m ∷ front) later b = numbers_append width ends front later (moves ends (by_numbers width) b m)
 
--- `HoldsOfOutcome` of one property gives `HoldsOfOutcome` of another, if the one gives the other of this number
-so_at : (P Q : ℕ → List ℕ → Type 0) (n : ℕ) (o : Outcome) → ((line : List ℕ) → P n line → Q n line) → HoldsOfOutcome P n o → HoldsOfOutcome Q n o
-so_at P Q n (Answered line) f h = f line h
-so_at P Q n Late f h = (h.0, f h.0 h.1)
-so_at P Q n Lost f h = tt
-
--- `HoldsOfAll` of one property gives `HoldsOfAll` of another, if the one gives the other for each number below `top`, and all
--- settlements have such numbers
-all_so_below : (P Q : ℕ → List ℕ → Type 0) (top : ℕ) → ((n : ℕ) (line : List ℕ) → n < top → P n line → Q n line) → (n : ℕ) (ss : List (Settlement Asked)) → n + length ss ≤ top
-    → HoldsOfAll P n ss → HoldsOfAll Q n ss
-all_so_below P Q top f n [] low h = tt
-all_so_below P Q top f n (s ∷ ss) low h =
-    (so_at P Q n s.outcome (λ line p. f n line (omega (arith, low)) p) h.0, all_so_below P Q top f (n + 1) ss (omega (arith, low)) h.1)
-
--- `KeptIs` of one property gives `KeptIs` of another, if the one gives the other of each number below `top`
-kept_below : (P Q : ℕ → List ℕ → Type 0) (since top table : ℕ) → ((n : ℕ) (line : List ℕ) → n < top → P n line → Q n line) → (k : Option KeptReply)
-    → KeptIs P since top table k → KeptIs Q since top table k
-kept_below P Q since top table f None h = tt
-kept_below P Q since top table f (Some k) h =
-    record { number = h.number; recent = h.recent; before = h.before; behind = h.behind; id = h.id; line = f h.number k.line h.before h.line }
-
 -- all requests but this one
 abbrev pub AllBut : ℕ → ℕ → Type 0
 AllBut m n = n ≡ m → ⊥
@@ -71,17 +50,17 @@ AnyLine n call line = Unit {0}
 
 module _ {State : Type 0} (width : ℕ) (narrow : width ≤ 7) (ends : Ends State) (Good : State → Type 0) (kept : State → Option KeptReply) (keeper : IsAnInstrument ends Good kept) (low : ℕ) where
   -- `AllVouched`, with all requests excepted
-  abbrev pub TrueOfNone : World (ByNumber Asked) State → Type 0
-  TrueOfNone w = AllVouched width narrow is_of_table ends Good kept keeper low EachOne ⊥ AnyLine w
+  abbrev pub AllExcepted : World (ByNumber Asked) State → Type 0
+  AllExcepted w = AllVouched width narrow is_of_table ends Good kept keeper low EachOne ⊥ AnyLine w
 
   -- `AllVouched`, with all requests excepted but m
-  abbrev pub TrueOfOne : (ℕ → Asked → List ℕ → Type 0) → ℕ → World (ByNumber Asked) State → Type 0
-  TrueOfOne M m w = AllVouched width narrow is_of_table ends Good kept keeper low (AllBut m) ⊥ M w
+  abbrev pub AllExceptedBut : (ℕ → Asked → List ℕ → Type 0) → ℕ → World (ByNumber Asked) State → Type 0
+  AllExceptedBut M m w = AllVouched width narrow is_of_table ends Good kept keeper low (AllBut m) ⊥ M w
 
   -- before request m is sent, nothing is of it: so `AllVouched` holds with all requests excepted but m, if m is near the last
   -- call of the table
-  pub renewed : (M : ℕ → Asked → List ℕ → Type 0) (m : ℕ) (w : World (ByNumber Asked) State) → Sound width ends Good w → (t : TrueOfNone w) → length w.wire.sent ≡ m → m ≤ t.table + 7
-      → TrueOfOne M m w
+  pub renewed : (M : ℕ → Asked → List ℕ → Type 0) (m : ℕ) (w : World (ByNumber Asked) State) → Sound width ends Good w → (t : AllExcepted w) → length w.wire.sent ≡ m → m ≤ t.table + 7
+      → AllExceptedBut M m w
   renewed M m w s t size near =
       let v = w.wire in
       let P : ℕ → List ℕ → Type 0 = λ n line. Vouched width narrow is_of_table ends Good kept keeper low EachOne ⊥ AnyLine v.sent v.executed v.made t.table n line in
@@ -122,7 +101,7 @@ module _ {State : Type 0} (width : ℕ) (narrow : width ≤ 7) (ends : Ends Stat
   dealt_of P D n Lost f by h = absurd by
 
   -- a request that is sent after the table is near the last call of the table that the instrument was handed
-  pub near_the_table : (m : ℕ) (w : World (ByNumber Asked) State) → (t : TrueOfNone w) → 8 ≤ low → length w.wire.sent ≡ m → IsBehindTheTable w.wire → m ≤ t.table + 7
+  pub near_the_table : (m : ℕ) (w : World (ByNumber Asked) State) → (t : AllExcepted w) → 8 ≤ low → length w.wire.sent ≡ m → IsBehindTheTable w.wire → m ≤ t.table + 7
   near_the_table m w t eight size is =
       elim is.3 [
         | inl seven ↦ omega (arith, seven, size, is.2, t.least, eight)

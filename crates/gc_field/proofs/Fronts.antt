@@ -1,9 +1,9 @@
 -- What is left of a request that was cut is no request: each request begins with `%` (37, called the sign here), and all of its
 -- other bytes are above 37.
-use Rattle.std.proofs.Common.{◌≡◌, ◌≢◌, ℕ, zero, suc, ◌+◌, ◌-◌, ◌/◌, ◌%◌, ◌^◌, ◌<◌, ◌≤◌, Bool, true, false, ◌&&◌, ltb, eqb, ℤ, pos, negsuc, unsigned_abs, List, [], ◌∷◌, ◌++◌, length, take, drop, map, Option, Some, None, cond, refl, sym, ◌∙◌, ap, subst, arith, lit<}
+use Rattle.std.proofs.Common.{◌≡◌, ◌≢◌, ℕ, zero, suc, ◌+◌, ◌-◌, ◌/◌, ◌%◌, ◌^◌, ◌<◌, Bool, true, false, ◌&&◌, ltb, eqb, ℤ, pos, negsuc, unsigned_abs, List, [], ◌∷◌, ◌++◌, length, take, drop, map, Option, Some, None, cond, refl, sym, ◌∙◌, ap, subst, arith, lit<, append_assoc}
 use Rattle.std.specs.Prelude.{slice_index}
 use Rattle.std.specs.Fmt.{decimal}
-use Rattle.std.specs.List.{filter_map, AllByRecursion}
+use Rattle.std.specs.List.{AllByRecursion}
 use Rattle.std.specs.Str.Parse.{AllDigits}
 use Rattle.std.proofs.lemmas.Bool.{ne_eqb, ltb-true, agree_below_at}
 use Rattle.std.proofs.lemmas.Fmt.{decimal_is_IsNumeral}
@@ -33,8 +33,12 @@ use Rattle.gc_catalogue.specs.Texts.{request_line}
 use Rattle.gc_catalogue.proofs.Joining.{params_of-cons}
 use Rattle.gc_catalogue.proofs.Table.{number_fits}
 use Rattle.gc_instrument.specs.Laws.{HasNoRequest}
+use Rattle.gc_instrument.proofs.HeardFrames.{lines_of}
 use Rattle.gc_field.specs.Fronts.{request_bytes, IsWholeOrNothing}
 use Rattle.gc_station.proofs.Lists.{all_append, all_drop, all_on}
+use Rattle.std.proofs.Math.Bool.{and-false}
+use Rattle.std.proofs.lemmas.List.{take-append-le}
+use Rattle.std.proofs.Math.Seq.{take-append-add}
 
 -- Bytes above the sign that begins a request.
 
@@ -162,10 +166,6 @@ above_body id call h =
 
 -- Lines of a stream.
 
--- the lines of these frames
-abbrev lines_in : List Frame → List (List ℕ)
-lines_in frames = filter_map line_in frames
-
 -- a frame's line has the frame's bytes before the CR
 frame_line : (bytes line : List ℕ) → line_in (frame_of bytes) ≡ Some line → line ≡ take (length bytes - 1) bytes
 frame_line bytes line e = chosen (ends_in_return bytes) (ltb 512 (length bytes - 1)) e where
@@ -176,7 +176,7 @@ frame_line bytes line e = chosen (ends_in_return bytes) (ltb 512 (length bytes -
   chosen true false e = cc
 
 -- if a frame's line, if it has one, has the property P, and so has each line of the later frames, all of these lines have P
-framed : (P : List ℕ → Type 0) (f : Frame) (fs : List Frame) → ((line : List ℕ) → line_in f ≡ Some line → P line) → AllByRecursion P (lines_in fs) → AllByRecursion P (lines_in (f ∷ fs))
+framed : (P : List ℕ → Type 0) (f : Frame) (fs : List Frame) → ((line : List ℕ) → line_in f ≡ Some line → P line) → AllByRecursion P (lines_of fs) → AllByRecursion P (lines_of (f ∷ fs))
 framed P (Line line) fs h g = (h line.items refl, g)
 framed P Cleared fs h g = g
 framed P Overlong fs h g = g
@@ -191,7 +191,7 @@ unsigned : (line : List ℕ) → AllByRecursion (λ b. b ≢ 37) line → IsNoRe
 unsigned line h q r = (subst (λ l. AllByRecursion (λ b. b ≢ 37) l) r.whole h).0 refl
 
 -- no line of bytes without the sign 37 is a request
-unsigned_lines : (before bytes : List ℕ) → AllByRecursion (λ b. b ≢ 37) before → AllByRecursion (λ b. b ≢ 37) bytes → AllByRecursion IsNoRequest (lines_in (map frame_of (pieces_behind before bytes)))
+unsigned_lines : (before bytes : List ℕ) → AllByRecursion (λ b. b ≢ 37) before → AllByRecursion (λ b. b ≢ 37) bytes → AllByRecursion IsNoRequest (lines_of (map frame_of (pieces_behind before bytes)))
 unsigned_lines before [] h g = tt
 unsigned_lines before (b ∷ bytes) h g =
     chosen (is_line_feed b)
@@ -201,9 +201,9 @@ unsigned_lines before (b ∷ bytes) h g =
     (unsigned_lines (before ++ b ∷ []) bytes (all_append (λ b. b ≢ 37) before (b ∷ []) h (g.0, tt)) g.1)
   where
     -- the lemma above, by whether the next byte ends a frame (`t`)
-    chosen : (t : Bool) → AllByRecursion IsNoRequest (lines_in (map frame_of (before ∷ pieces_behind [] bytes)))
-        → AllByRecursion IsNoRequest (lines_in (map frame_of (pieces_behind (before ++ b ∷ []) bytes)))
-        → AllByRecursion IsNoRequest (lines_in (map frame_of (cond t (before ∷ pieces_behind [] bytes) (pieces_behind (before ++ b ∷ []) bytes))))
+    chosen : (t : Bool) → AllByRecursion IsNoRequest (lines_of (map frame_of (before ∷ pieces_behind [] bytes)))
+        → AllByRecursion IsNoRequest (lines_of (map frame_of (pieces_behind (before ++ b ∷ []) bytes)))
+        → AllByRecursion IsNoRequest (lines_of (map frame_of (cond t (before ∷ pieces_behind [] bytes) (pieces_behind (before ++ b ∷ []) bytes))))
     chosen true here later = here
     chosen false here later = later
 
@@ -214,12 +214,7 @@ no_return (b ∷ bytes) h =
     let last : eqb (slice_index (b ∷ bytes) (length (b ∷ bytes) - 1)) 13 ≡ false =
     ne_eqb (slice_index (b ∷ bytes) (length (b ∷ bytes) - 1)) 13 (All-from_recursion
     (λ b. b ≢ 13) (b ∷ bytes) h (length (b ∷ bytes) - 1) 0 (omega arith)) in
-    ap (λ t. ltb 0 (length (b ∷ bytes)) && t) last ∙ never (ltb 0 (length (b ∷ bytes)))
-  where
-    -- "and false" is false
-    never : (t : Bool) → (t && false) ≡ false
-    never true = refl
-    never false = refl
+    ap (λ t. ltb 0 (length (b ∷ bytes)) && t) last ∙ and-false (ltb 0 (length (b ∷ bytes)))
 
 -- bytes without a CR are no line
 no_line : (bytes : List ℕ) → AllByRecursion (λ b. b ≢ 13) bytes → frame_of bytes ≡ Cleared
@@ -227,48 +222,31 @@ no_line bytes h = ap (λ t. cond t (cond (ltb 512 (length bytes - 1)) Overlong (
 
 -- if the frame that a byte would end is no line, and the later frames have no lines, whether the byte ends a frame (`t`) or
 -- not, there are no lines
-one_by_one : (t : Bool) (before : List ℕ) (here later : List (List ℕ)) → frame_of before ≡ Cleared → lines_in (map frame_of here) ≡ []
-    → lines_in (map frame_of later) ≡ [] → lines_in (map frame_of (cond t (before ∷ here) later)) ≡ []
-one_by_one true before here later none h g = ap (λ f. lines_in (f ∷ map frame_of here)) none ∙ h
+one_by_one : (t : Bool) (before : List ℕ) (here later : List (List ℕ)) → frame_of before ≡ Cleared → lines_of (map frame_of here) ≡ []
+    → lines_of (map frame_of later) ≡ [] → lines_of (map frame_of (cond t (before ∷ here) later)) ≡ []
+one_by_one true before here later none h g = ap (λ f. lines_of (f ∷ map frame_of here)) none ∙ h
 one_by_one false before here later none h g = g
 
 -- no lines are in bytes without a CR
-no_lines : (before bytes : List ℕ) → AllByRecursion (λ b. b ≢ 13) before → AllByRecursion (λ b. b ≢ 13) bytes → lines_in (map frame_of (pieces_behind before bytes)) ≡ []
+no_lines : (before bytes : List ℕ) → AllByRecursion (λ b. b ≢ 13) before → AllByRecursion (λ b. b ≢ 13) bytes → lines_of (map frame_of (pieces_behind before bytes)) ≡ []
 no_lines before [] h g = refl
 no_lines before (b ∷ bytes) h g =
     one_by_one (is_line_feed b) before (pieces_behind [] bytes) (pieces_behind (before ++ b ∷ []) bytes) (no_line before h) (no_lines [] bytes tt g.1)
     (no_lines (before ++ b ∷ []) bytes (all_append (λ b. b ≢ 13) before (b ∷ []) h (g.0, tt)) g.1)
 
--- the first n bytes of a list that has as many don't change if another list follows
-take_front : (xs ys : List ℕ) (n : ℕ) → n ≤ length xs → take n (xs ++ ys) ≡ take n xs
-take_front xs ys zero le = refl
-take_front [] ys (suc n) le = absurd (omega (arith, le))
-take_front (x ∷ xs) ys (suc n) le = ap (λ l. x ∷ l) (take_front xs ys n (omega (arith, le)))
-
--- of `xs`, then y, and then `ys`, the first length xs + 1 bytes are `xs` and y
-take_one_more : (xs ys : List ℕ) (y : ℕ) → take (suc (length xs)) (xs ++ y ∷ ys) ≡ xs ++ y ∷ []
-take_one_more [] ys y = refl
-take_one_more (x ∷ xs) ys y = ap (λ l. x ∷ l) (take_one_more xs ys y)
-
--- to add a at the end, and then b, is to add both at once
-behind_push : (xs : List ℕ) (a b : ℕ) → (xs ++ a ∷ []) ++ b ∷ [] ≡ xs ++ a ∷ b ∷ []
-behind_push [] a b = refl
-behind_push (x ∷ xs) a b = ap (λ l. x ∷ l) (behind_push xs a b)
-
 -- A request.
 
--- a front or a tail of a request is no request
+-- a front or a tail of a request of a call that fits is no request, unless it is the whole one
 pub whole_or_nothing : (id : ℕ) (call : Call) → IsFitting call → IsWholeOrNothing id call
 whole_or_nothing id call fits =
     let line = request_line (Some id) call in
     let above = above_body id call fits in
     record {
-      front = λ count le. ap (λ l. lines (l ++ 10 ∷ [])) (take_front line (13 ∷ 10 ∷ []) count le)
+      front = λ count le. ap (λ l. lines (l ++ 10 ∷ [])) (take-append-le count line (13 ∷ 10 ∷ []) le)
           ∙ no_lines [] (take count line ++ 10 ∷ []) tt
           (all_append (λ b. b ≢ 13) (take count line) (10 ∷ []) (taken (λ b. b ≢ 13) count line
           ((λ e. omega (arith, e)), all_on (λ b. 37 < b) (λ b. b ≢ 13) (body id call) (λ b l e. omega (arith, l, e)) above)) ((λ e. omega (arith, e)), tt));
-      whole = ap (λ n. take n (request_bytes id call) ++ 10 ∷ []) (let next : length line + 1 ≡ suc (length line) = omega arith in next)
-          ∙ ap (λ l. l ++ 10 ∷ []) (take_one_more line (10 ∷ []) 13) ∙ behind_push line 13 10;
+      whole = ap (λ l. l ++ 10 ∷ []) (take-append-add line (13 ∷ 10 ∷ []) 1) ∙ append_assoc line (13 ∷ []) (10 ∷ []);
       tail = λ count some. tail_of above count some;
     }
   where

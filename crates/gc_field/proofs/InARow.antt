@@ -8,12 +8,12 @@ use Rattle.gc_client.specs.Rule.{heard}
 use Rattle.gc_instrument.specs.State.{KeptReply}
 use Rattle.gc_field.specs.World.{Ends, Request}
 use Rattle.gc_field.specs.Begin.{InFlight, IsWellFormed, AreTurns, Turn, UnderWay, begins, ids_under_way, leaves}
-use Rattle.gc_field.specs.Beginnings.{ArePossibleIf, AreRuns, IsRow, Run, left_by_run, after_turns}
+use Rattle.gc_field.specs.Beginnings.{ArePossibleIf, AreRuns, HasRisingIds, Run, left_by_run, after_turns}
 use Rattle.gc_field.specs.Field.{Move}
 use Rattle.gc_field.specs.InARow.{AreFaithful, AreFewKilledWithTurns, AreInARow, Program, killed_by, killed_over, left_over}
 use Rattle.gc_field.specs.Instrument.{IsAnInstrument}
 use Rattle.gc_field.proofs.BeginJoin.{left_lines}
-use Rattle.gc_field.proofs.BegunRuns.{IsShort, run_result, short_row, short_word}
+use Rattle.gc_field.proofs.BegunRuns.{IsShort, run_result, short_rising, short_word}
 use Rattle.gc_field.proofs.Joining.{run_faithful}
 
 -- lines that are marked as old, without the marks, are the same lines
@@ -21,15 +21,15 @@ pub same_lines : {Line : Type 0} (xs : List Line) → map (λ (x : InFlight Line
 same_lines [] = refl
 same_lines (x ∷ xs) = ap (λ l. x ∷ l) (same_lines xs)
 
--- a synchronization in which nothing happened leaves the ids in flight
+-- a synchronization in which nothing happened leaves the ids in flight as they were
 same_ids : {State : Type 0} (u : UnderWay State) → ids_under_way (leaves (begins u)) ≡ ids_under_way u
 same_ids u = ap₂ (λ (d : List (List ℕ)) (q : List Request). filter_map heard d ++ map (λ x. x.id) q) (same_lines u.down) (same_lines u.up)
 
-module _ {State : Type 0} (ends : Ends State) (Good : State → Type 0) (kept : State → Option KeptReply) (is : IsAnInstrument ends Good kept) where
-  -- a run with these turns and moves
-  abbrev run : List (Turn State) → List (Move State) → Run State
-  run ts ms = record { turns = ts; moves = ms }
+-- a run with these turns and moves
+abbrev pub run : {State : Type 0} → List (Turn State) → List (Move State) → Run State
+run ts ms = record { turns = ts; moves = ms }
 
+module _ {State : Type 0} (ends : Ends State) (Good : State → Type 0) (kept : State → Option KeptReply) (is : IsAnInstrument ends Good kept) where
   -- what one run of a station leaves in flight is `IsWellFormed`, and `IsShort` by the number of runs in a row that were killed
   -- while they synchronized
   step : (ts : List (Turn State)) (ms : List (Move State)) (n : ℕ) (u : UnderWay State) → IsWellFormed Good u → IsShort n u → AreTurns ends Good kept ts (begins u)
@@ -62,6 +62,7 @@ module _ {State : Type 0} (ends : Ends State) (Good : State → Type 0) (kept : 
         all xs (killed_over ends n u x.runs) (left_over ends u x.runs) next.0 next.1 h.1,
       )
 
-  -- stations one after the other are faithful after an `IsRow`, as long as few are killed while they synchronize
-  pub in_a_row : (u : UnderWay State) → IsWellFormed Good u → IsRow u → (xs : List (Program State)) → AreInARow ends Good kept 0 u xs → AreFaithful ends Good kept u xs
-  in_a_row u lines row xs h = all xs 0 u lines (short_row u row) h
+  -- stations one after the other are faithful, if `HasRisingIds` holds of what is in flight before the first, as long as few
+  -- in a row are killed while they synchronize
+  pub in_a_row : (u : UnderWay State) → IsWellFormed Good u → HasRisingIds u → (xs : List (Program State)) → AreInARow ends Good kept 0 u xs → AreFaithful ends Good kept u xs
+  in_a_row u lines row xs h = all xs 0 u lines (short_rising u row) h

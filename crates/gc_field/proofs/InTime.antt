@@ -24,12 +24,13 @@ use Rattle.gc_field.specs.Runs.{IsFaithfulThroughout, IsInTime, times_out, world
 use Rattle.gc_field.specs.Shown.{Stretch}
 use Rattle.gc_field.proofs.Instruments.{exchange_of}
 use Rattle.gc_field.proofs.Possible.{moved_append, possible_front, possible_behind}
-use Rattle.gc_field.proofs.Waits.{Waits, after_is, after_moves, get_last, waits_all}
+use Rattle.gc_field.proofs.Waits.{Waits, after_is, after_moves, waits_all}
 use Rattle.gc_field.proofs.Moving.{both_all}
 use Rattle.gc_field.proofs.BegunFaithful.{both_begun, faithful}
 use Rattle.gc_field.proofs.Unbegun.{faithful_none}
-use Rattle.gc_station.proofs.Lists.{get_more}
-use Rattle.gc_world.proofs.Options.{some_is}
+use Rattle.gc_station.proofs.Lists.{get_more, get_behind}
+use Rattle.std.proofs.lemmas.Option.{same_Some}
+use Rattle.gc_field.proofs.BeginWords.{cons_not_nil}
 
 -- the client's steps among two lists of moves are those of the first and then those of the second
 seen_append : {State : Type 0} (front later : List (Move State)) → seen (front ++ later) ≡ seen front ++ seen later
@@ -56,14 +57,10 @@ get_between [] ys zs n k x e got = let same : k ≡ n = omega (arith, e) in subs
 get_between (a ∷ xs) ys zs zero k x e got = absurd (omega (arith, e))
 get_between (a ∷ xs) ys zs (suc n) k x e got = get_between xs ys zs n k x (omega (arith, e)) got
 
--- an empty list isn't one with an element
-cons_not : {A : Type 0} (xs ys : List A) (y : A) → xs ≡ [] → xs ≡ y ∷ ys → ⊥
-cons_not xs ys y e f = cc
-
 -- a list with an element isn't empty
 pub not_nil : {A : Type 0} (xs front later : List A) (x : A) → xs ≡ [] → xs ≡ front ++ x ∷ later → ⊥
-not_nil xs [] later x e f = cons_not xs later x e f
-not_nil xs (y ∷ front) later x e f = cons_not xs (front ++ x ∷ later) y e f
+not_nil xs [] later x e f = cons_not_nil x later (sym f ∙ e)
+not_nil xs (y ∷ front) later x e f = cons_not_nil y (front ++ x ∷ later) (sym f ∙ e)
 
 -- a front of an empty list is empty
 pub front_nil : {A : Type 0} (front later : List A) → [] ≡ front ++ later → front ≡ []
@@ -72,8 +69,8 @@ front_nil (x ∷ front) later e = cc
 
 module _ {State : Type 0} (ends : Ends State) (Good : State → Type 0) (kept : State → Option KeptReply) (is : IsAnInstrument ends Good kept) where
   -- the moves of a clean stretch are faithful
-  pub law : (u : UnderWay State) → IsClean Good kept u → (ms : List (Move State)) → ArePossible ends Good kept (by_ids 7 ends) ms (ids_begun u) → IsFaithful 7 ends u ms Good kept
-  law u clean ms p = faithful ends Good kept is 7 (omega arith) u clean ms p
+  pub clean_faithful : (u : UnderWay State) → IsClean Good kept u → (ms : List (Move State)) → ArePossible ends Good kept (by_ids 7 ends) ms (ids_begun u) → IsFaithful 7 ends u ms Good kept
+  clean_faithful u clean ms p = faithful ends Good kept is 7 (omega arith) u clean ms p
 
   -- the front of possible moves of a stretch is possible
   pub front_of : (u : UnderWay State) (ms front later : List (Move State)) → ms ≡ front ++ later → ArePossible ends Good kept (by_ids 7 ends) ms (ids_begun u)
@@ -81,12 +78,12 @@ module _ {State : Type 0} (ends : Ends State) (Good : State → Type 0) (kept : 
   front_of u ms front later e p = possible_front 7 ends Good kept front later (ids_begun u) (subst (λ xs. ArePossible ends Good kept (by_ids 7 ends) xs (ids_begun u)) e p)
 
   -- a stretch has synchronized cleanly, or nothing happens in it; and its moves are possible
-  pub record Sound (s : Stretch State) : Type 0 where
+  pub record IsSoundStretch (s : Stretch State) : Type 0 where
     pub possible : ArePossible ends Good kept (by_ids 7 ends) s.moves (ids_begun s.from)
     pub clean : IsClean Good kept s.from ⊎ (s.moves ≡ [])
 
   -- a stretch in which something happens has synchronized cleanly
-  pub clean_of : (s : Stretch State) → Sound s → (front later : List (Move State)) (m : Move State) → s.moves ≡ front ++ m ∷ later → IsClean Good kept s.from
+  pub clean_of : (s : Stretch State) → IsSoundStretch s → (front later : List (Move State)) (m : Move State) → s.moves ≡ front ++ m ∷ later → IsClean Good kept s.from
   clean_of s sound front later m e =
       elim sound.clean [
         | inl clean ↦ clean
@@ -94,10 +91,10 @@ module _ {State : Type 0} (ends : Ends State) (Good : State → Type 0) (kept : 
       ]
 
   -- a sound stretch is faithful after any number of its first moves
-  pub throughout : (s : Stretch State) → Sound s → IsFaithfulThroughout ends Good kept s
+  pub throughout : (s : Stretch State) → IsSoundStretch s → IsFaithfulThroughout ends Good kept s
   throughout s sound front later e =
       elim sound.clean [
-        | inl clean ↦ law s.from clean front (front_of s.from s.moves front later e sound.possible)
+        | inl clean ↦ clean_faithful s.from clean front (front_of s.from s.moves front later e sound.possible)
         | inr none ↦ subst (λ ms. IsFaithful 7 ends s.from ms Good kept) (sym (front_nil front later (sym none ∙ e))) (faithful_none ends Good kept s.from)
       ]
 
@@ -105,8 +102,8 @@ module _ {State : Type 0} (ends : Ends State) (Good : State → Type 0) (kept : 
   settled_more : (u : UnderWay State) → IsClean Good kept u → (ms front later : List (Move State)) → ms ≡ front ++ later → ArePossible ends Good kept (by_ids 7 ends) ms (ids_begun u)
       → (more : List (Settlement Asked)) × ((behind 7 ends u ms).wire.settled ≡ (behind 7 ends u front).wire.settled ++ more)
   settled_more u clean ms front later e p =
-      let whole = law u clean ms p in
-      let part = law u clean front (front_of u ms front later e p) in
+      let whole = clean_faithful u clean ms p in
+      let part = clean_faithful u clean front (front_of u ms front later e p) in
       let own = (course 7 begun (seen front)).settlements in
       let more = settled_by (client_after begun.client (seen front)) (seen later) in
       let grown : (course 7 begun (seen ms)).settlements ≡ own ++ more =
@@ -147,7 +144,7 @@ module _ {State : Type 0} (ends : Ends State) (Good : State → Type 0) (kept : 
       let w = behind 7 ends s.from front in
       let k = n - length w.wire.settled in
       let split : s.moves ≡ (front ++ Comes line ∷ []) ++ later = e ∙ sym (append_assoc front (Comes line ∷ []) later) in
-      let f = law s.from clean front (front_of s.from s.moves front (Comes line ∷ later) e possible) in
+      let f = clean_faithful s.from clean front (front_of s.from s.moves front (Comes line ∷ later) e possible) in
       let p = met_at k line w.client.waiting (below_sent s.from clean front (front_of s.from s.moves front (Comes line ∷ later) e possible) line n rest down le) in
       let more = settled_more s.from clean s.moves (front ++ Comes line ∷ []) later split possible in
       let here : (behind 7 ends s.from (front ++ Comes line ∷ [])).wire.settled ≡ w.wire.settled ++ settle k line w.client.waiting =
@@ -172,7 +169,7 @@ module _ {State : Type 0} (ends : Ends State) (Good : State → Type 0) (kept : 
   sent_by_test : (w : World (ById Asked) State) (target : ℕ) (call : Asked) (deadline : ℕ) (b : Bool) → b ≡ false → length w.wire.settled + length w.client.waiting ≡ length w.wire.sent
       → Waits (requested w target call (id_send w.client target call deadline b)) (length w.wire.sent) (pending_of target call deadline)
   sent_by_test w target call deadline true e counts = cc
-  sent_by_test w target call deadline false e counts = λ le. get_last w.client.waiting (length w.wire.sent - length w.wire.settled) (pending_of target call deadline) (omega (arith, counts))
+  sent_by_test w target call deadline false e counts = λ le. get_behind w.client.waiting (pending_of target call deadline ∷ []) (length w.wire.sent - length w.wire.settled) 0 (omega (arith, counts))
 
   -- a request that is sent waits, after the others
   sent_waits : (u : UnderWay State) (before : List (Move State)) (target : ℕ) (call : Asked) (deadline : ℕ) → IsFaithful 7 ends u before Good kept → length (behind 7 ends u before).client.waiting < 7
@@ -188,17 +185,17 @@ module _ {State : Type 0} (ends : Ends State) (Good : State → Type 0) (kept : 
       let w = behind 7 ends s.from before in
       let n = length w.wire.sent in
       let split : s.moves ≡ before ++ (Sends target call deadline ∷ (between ++ Comes line ∷ later)) = e ∙ append_assoc before (Sends target call deadline ∷ between) (Comes line ∷ later) in
-      let f = law s.from clean before (front_of s.from s.moves before (Sends target call deadline ∷ (between ++ Comes line ∷ later)) split all_possible) in
+      let f = clean_faithful s.from clean before (front_of s.from s.moves before (Sends target call deadline ∷ (between ++ Comes line ∷ later)) split all_possible) in
       let m = meets s clean all_possible front later line n rest e down le in
       let possible = possible_behind 7 ends Good kept before (Sends target call deadline ∷ between) (ids_begun s.from) (front_of s.from s.moves front (Comes line ∷ later) e all_possible) in
       let p = pending_of target call deadline in
       let waits : Waits (behind 7 ends s.from front) n (after_moves p between) =
       subst (λ (v : World (ById Asked) State). Waits v n (after_moves p between)) (sym (moved_append 7 ends before (Sends target call deadline ∷ between) (ids_begun s.from)))
       (waits_all ends Good kept between (moves ends (by_ids 7 ends) w (Sends target call deadline)) n p possible.1 (sent_waits s.from before target call deadline f room)) in
-      let same : m.0 ≡ record p { given_up = times_out deadline between } = some_is m.0 (record p { given_up = times_out deadline between }) (sym m.1 ∙ waits le ∙ ap Some (after_is p between)) in
+      let same : m.0 ≡ record p { given_up = times_out deadline between } = same_Some m.0 (record p { given_up = times_out deadline between }) (sym m.1 ∙ waits le ∙ ap Some (after_is p between)) in
       m.2 ∙ ap (λ q. Some (settled_by_line q line)) same
 
   -- a sound stretch is in time
-  pub in_time : (s : Stretch State) → Sound s → IsInTime ends s
+  pub in_time : (s : Stretch State) → IsSoundStretch s → IsInTime ends s
   in_time s sound = λ before between later target call deadline line rest e.
       in_time_clean s (clean_of s sound (before ++ Sends target call deadline ∷ between) later (Comes line) e) sound.possible before between later target call deadline line rest e

@@ -1,7 +1,7 @@
 -- Instruments: each meets what the proofs of the world ask of an instrument; the simulator is one; and so is any that retains
 -- no reply.
-use Rattle.std.proofs.Common.{◌≡◌, ◌⊎◌, ℕ, ◌<◌, inl, inr, Bool, true, false, List, [], Option, Some, None, cond, refl, sym, ◌∙◌, ap, subst, eqb, lit<}
-use Rattle.std.proofs.lemmas.Bool.{eqb-true, eq-eqb}
+use Rattle.std.proofs.Common.{◌≡◌, ◌⊎◌, ℕ, ◌<◌, inl, inr, true, false, List, [], Option, Some, None, cond, refl, sym, ◌∙◌, ap, subst, lit<}
+use Rattle.std.proofs.lemmas.Bool.{eq-eqb, true≢false}
 use Rattle.gc_lines.proofs.Written.{reply_back}
 use Rattle.gc_lines.proofs.Requests.{request_found}
 use Rattle.gc_catalogue.proofs.AskedRules.{asked_again}
@@ -19,11 +19,9 @@ use Rattle.gc_instrument.proofs.Answering.{handed_again, handed_new}
 use Rattle.gc_field.specs.Simulator.{ends, handed}
 use Rattle.gc_world.specs.Exchange.{IsExchange}
 use Rattle.gc_field.specs.World.{Ends}
-use Rattle.gc_world.proofs.Handing.{exchange}
-use Rattle.gc_world.proofs.Options.{some_is}
+use Rattle.gc_world.proofs.Handing.{exchange, kept_own}
 use Rattle.gc_field.specs.Instrument.{IsAnInstrument, IsAnInstrumentFor, KeepingNothingSuffices, KeepsItsOwn, TreatsRawsAlike, all_known}
 use Rattle.gc_field.specs.Laws.{SimulatorIsAnInstrument, kept_of}
-use Rattle.gc_field.proofs.Once.{true_is_not}
 
 -- an instrument meets what the proofs of the world ask of one, `IsExchange`
 pub exchange_of : {State : Type 0} (ends : Ends State) (Good : State → Type 0) (kept : State → Option KeptReply) → IsAnInstrument ends Good kept → IsExchange ends Good
@@ -50,15 +48,6 @@ alike_is e Good kept is alike =
 
 -- The simulator.
 
--- if the kept line for an id is this one (`kept_line`), this line is kept, with that id
-pub kept_own : (k : Option KeptReply) (id : ℕ) (line : List ℕ) → kept_line k (Some id) ≡ Some line → k ≡ Some (record { id = id; line = line })
-kept_own None id line e = let never : ⊥ = cc in absurd never
-kept_own (Some k) id line e = chosen (eqb k.id id) refl e where
-  -- the lemma above, by whether the line is kept with this id (`b`)
-  chosen : (b : Bool) → eqb k.id id ≡ b → cond b (Some k.line) None ≡ Some line → Some k ≡ Some (record { id = id; line = line })
-  chosen true t e = ap (λ i. Some (record { id = i; line = k.line })) (eqb-true k.id id t) ∙ ap (λ l. Some (record { id = id; line = l })) (some_is k.line line e)
-  chosen false t e = let never : ⊥ = cc in absurd never
-
 -- if this line is kept, with this id, it is the kept line for the id (`kept_line`)
 kept_for : (k : Option KeptReply) (id : ℕ) (line : List ℕ) → k ≡ Some (record { id = id; line = line }) → kept_line k (Some id) ≡ Some line
 kept_for k id line e = ap (λ k. kept_line k (Some id)) e ∙ ap (λ b. cond b (Some line) None) (eq-eqb id id refl)
@@ -66,15 +55,15 @@ kept_for k id line e = ap (λ k. kept_line k (Some id)) e ∙ ap (λ b. cond b (
 -- if the simulator doesn't execute a request, its reply is the line that it retains for the request's id
 repeated : (s : State) (id : ℕ) (call : Call) (o : Option (List ℕ)) → kept_line s.kept (Some id) ≡ o → (calls.handed s id call).executed ≡ false
     → s.kept ≡ Some (record { id = id; line = (calls.handed s id call).reply })
-repeated s id call None e not = absurd (true_is_not (sym (ap (λ (h : Handed State). h.executed) (handed_new s id call e)) ∙ not))
+repeated s id call None e not = absurd (true≢false (sym (ap (λ (h : Handed State). h.executed) (handed_new s id call e)) ∙ not))
 repeated s id call (Some line) e not =
     kept_own s.kept id line e ∙ sym (ap (λ (h : Handed State). Some (record { id = id; line = h.reply })) (handed_again s id call line e))
 
 -- after a request the simulator retains its reply to that request
-behind : (s : State) (id : ℕ) (call : Call) (o : Option (List ℕ)) → kept_line s.kept (Some id) ≡ o
+retains_reply : (s : State) (id : ℕ) (call : Call) (o : Option (List ℕ)) → kept_line s.kept (Some id) ≡ o
     → (calls.handed s id call).state.kept ≡ Some (record { id = id; line = (calls.handed s id call).reply })
-behind s id call None e = subst (λ (x : Handed State). x.state.kept ≡ Some (record { id = id; line = x.reply })) (sym (handed_new s id call e)) refl
-behind s id call (Some line) e =
+retains_reply s id call None e = subst (λ (x : Handed State). x.state.kept ≡ Some (record { id = id; line = x.reply })) (sym (handed_new s id call e)) refl
+retains_reply s id call (Some line) e =
     subst (λ (x : Handed State). x.state.kept ≡ Some (record { id = id; line = x.reply })) (sym (handed_again s id call line e)) (kept_own s.kept id line e)
 
 -- the simulator's reply to a request has its id
@@ -86,11 +75,11 @@ asked_reads s id (Raw raw) good small =
 -- a line that the simulator sends again is the one that it retains
 asked_repeats : (s : State) (id : ℕ) (asked : Asked) → (handed s id asked).executed ≡ false → s.kept ≡ Some (record { id = id; line = (handed s id asked).reply })
 asked_repeats s id (Table call) not = repeated s id call (kept_line s.kept (Some id)) refl not
-asked_repeats s id (Raw raw) not = absurd (true_is_not not)
+asked_repeats s id (Raw raw) not = absurd (true≢false not)
 
 -- after a call of the table the simulator retains its reply, and after another request what it retained
 asked_keeps : (s : State) (id : ℕ) (asked : Asked) → KeepsItsOwn ends IsFittingState kept_of s id asked ⊎ ((is_of_table asked ≡ false) × ((handed s id asked).state.kept ≡ s.kept))
-asked_keeps s id (Table call) = inl (inr (behind s id call (kept_line s.kept (Some id)) refl))
+asked_keeps s id (Table call) = inl (inr (retains_reply s id call (kept_line s.kept (Some id)) refl))
 asked_keeps s id (Raw raw) = inr (refl, refl)
 
 -- the simulator fits after each request
@@ -101,12 +90,12 @@ asked_good s id (Raw raw) good small = good
 -- the simulator doesn't execute a call of the table with the id of the line that it retains
 not_again : (s : State) (id : ℕ) (asked : Asked) (line : List ℕ) → is_of_table asked ≡ true → s.kept ≡ Some (record { id = id; line = line }) → (handed s id asked).executed ≡ false
 not_again s id (Table call) line of e = ap (λ (h : Handed State). h.executed) (handed_again s id call line (kept_for s.kept id line e))
-not_again s id (Raw raw) line of e = absurd (true_is_not (sym of))
+not_again s id (Raw raw) line of e = absurd (true≢false (sym of))
 
 -- after a call of the table the simulator retains its reply
 asked_always : (s : State) (id : ℕ) (asked : Asked) → is_of_table asked ≡ true → (handed s id asked).state.kept ≡ Some (record { id = id; line = (handed s id asked).reply })
-asked_always s id (Table call) of = behind s id call (kept_line s.kept (Some id)) refl
-asked_always s id (Raw raw) of = absurd (true_is_not (sym of))
+asked_always s id (Table call) of = retains_reply s id call (kept_line s.kept (Some id)) refl
+asked_always s id (Raw raw) of = absurd (true≢false (sym of))
 
 -- the simulated instrument refuses the line of a procedure that isn't in the table, and nothing changes
 refused : (s : State) (id : ℕ) (raw : RawCall) → id < 8 → IsReplied s (asked_line (Some id) (Raw raw)) s (Some (refusal_line id Unknown))
@@ -145,7 +134,7 @@ keeps_none State e hears replies anew =
     record {
       hears = hears;
       replies = λ s id call good small. replies s id call small;
-      repeats = λ s id call good small not. absurd (true_is_not (sym (anew s id call) ∙ not));
+      repeats = λ s id call good small not. absurd (true≢false (sym (anew s id call) ∙ not));
       keeps = λ s id call good small. inl (inl refl);
       starts = λ s good. inl refl;
       stays_good = λ s id call good small. tt;

@@ -22,7 +22,8 @@ use Rattle.gc_station.specs.Answers.{answer_of}
 use Rattle.gc_station.specs.Beginnings.{unanswered_after}
 use Rattle.gc_station.specs.Begun.{AreBegun, heard_in}
 use Rattle.gc_station.specs.Marks.{record_of, records_of}
-use Rattle.gc_station.specs.Parts.{Part, joined, MarksAsk, parts_of, went_out, sent_with, sent_of, timeless}
+use Rattle.gc_station.specs.Lists.{with_if}
+use Rattle.gc_station.specs.Parts.{Part, joined, MarksAsk, parts_of, went_out, sent_of, timeless}
 use Rattle.gc_station.specs.Records.{Record}
 use Rattle.gc_station.specs.Runs.{state_after}
 use Rattle.gc_station.specs.Model.{Model, opening}
@@ -32,16 +33,14 @@ use Rattle.gc_station.proofs.Booking.{Books, client_after, settled_by, sent_by, 
 use Rattle.gc_station.proofs.EachRun.{invariant_opening, each_once}
 use Rattle.gc_station.proofs.Following.{BooksInParts, follows}
 use Rattle.gc_station.proofs.Meets.{was_answered, was_late}
-use Rattle.gc_station.proofs.Lists.{all_append}
+use Rattle.gc_station.proofs.Lists.{all_append, all_on}
 use Rattle.gc_station.specs.Scopes.{Scope}
 use Rattle.gc_world.specs.Clients.{by_ids}
 use Rattle.gc_world.specs.Record.{IsReplyTo}
-use Rattle.gc_world.proofs.Options.{none_is_not, some_is}
-use Rattle.gc_world.proofs.Places.{below}
+use Rattle.std.proofs.lemmas.Option.{none-some, same_Some, slice_get_within}
 use Rattle.gc_field.specs.World.{Ends}
 use Rattle.gc_field.specs.Begin.{IsWellFormed, AreTurns, UnderWay, begins, ids_under_way, leaves, turned}
-use Rattle.gc_field.specs.Beginnings.{AreOwn, ArePossibleIf, AreRuns, IsOwnIf, Run, left_by_run, left_if, on_line}
-use Rattle.gc_field.specs.Beginnings.{after_turns as stood_by}
+use Rattle.gc_field.specs.Beginnings.{AreOwn, ArePossibleIf, AreRuns, IsOwnIf, Run, after_turns, left_by_run, left_if, on_line}
 use Rattle.gc_field.specs.Begun.{IsClean, IsFaithful, IsSafe, WasMadeOn, behind, ids_begun}
 use Rattle.gc_field.specs.Field.{ArePossible, seen}
 use Rattle.gc_field.specs.Instrument.{IsAnInstrument}
@@ -50,17 +49,17 @@ use Rattle.gc_field.specs.Runs.{IsInField, IsOwnAnswer, LateHasExecution, IsRunF
 use Rattle.gc_field.specs.Shown.{AreShownAs, Stretch, shown, stretches}
 use Rattle.gc_field.proofs.BeginJoin.{begins_cleanly, left_lines}
 use Rattle.gc_field.proofs.BegunFaithful.{sent_is}
-use Rattle.gc_field.proofs.BegunRows.{rows_have_not, runs_leave_good, runs_leave_rows}
+use Rattle.gc_field.proofs.BegunRising.{rising_lack_the_word, runs_leave_good, runs_leave_rising_ids}
 use Rattle.gc_field.proofs.BegunRuns.{clean_lines}
-use Rattle.gc_field.proofs.InTime.{Sound, in_time, law, throughout}
+use Rattle.gc_field.proofs.InTime.{IsSoundStretch, in_time, clean_faithful, throughout}
 use Rattle.gc_field.proofs.Meant.{are_meant}
 use Rattle.gc_field.proofs.Safe.{goes_out}
 use Rattle.gc_field.proofs.Shown.{left_is}
 use Rattle.gc_field.proofs.Unbegun.{faithful_none}
-use Rattle.gc_field.proofs.Timeless.{all_later, all_timeless, late_all_later, late_timeless}
+use Rattle.gc_field.proofs.Timeless.{IsLasting, all_timeless, late_lasts, own_lasts}
 use Rattle.gc_field.proofs.Among.{among_settled, among_late, asked_at, get_drop}
-use Rattle.gc_field.proofs.Once.{true_is_not}
 use Rattle.std.proofs.lemmas.List.{drop-map}
+use Rattle.std.proofs.lemmas.Bool.{true≢false}
 
 module _ {State : Type 0} (ends : Ends State) (Good : State → Type 0) (kept : State → Option KeptReply) (is : IsAnInstrument ends Good kept) where
   -- One part.
@@ -68,27 +67,27 @@ module _ {State : Type 0} (ends : Ends State) (Good : State → Type 0) (kept : 
   -- what holds of a run, by the ids that are left of its word: if none is, it has synchronized cleanly; and its stretch is sound and
   -- faithful
   record IsSoundRun (u : UnderWay State) (r : Run State) (left : List ℕ) : Type 0 where
-    own : IsOwnIf 7 ends Good kept left (stood_by ends u r) r.moves
-    sound : Sound ends Good kept is (record { from = leaves (turned ends r.turns (begins u)); moves = r.moves })
+    own : IsOwnIf 7 ends Good kept left (after_turns ends u r) r.moves
+    sound : IsSoundStretch ends Good kept is (record { from = leaves (turned ends r.turns (begins u)); moves = r.moves })
     faithful : IsFaithful 7 ends (leaves (turned ends r.turns (begins u))) r.moves Good kept
 
   -- a run that has synchronized over lines without the word in their ids has synchronized cleanly
   begun_clean : (u : UnderWay State) (r : Run State) → IsWellFormed Good u → (IsSubsequence the_word (ids_under_way u) → ⊥)
-      → AreTurns ends Good kept r.turns (begins u) → (stood_by ends u r).left ≡ [] → IsClean Good kept (leaves (stood_by ends u r))
+      → AreTurns ends Good kept r.turns (begins u) → (after_turns ends u r).left ≡ [] → IsClean Good kept (leaves (after_turns ends u r))
   begun_clean u r lines none turns e =
-      clean_lines ends Good kept is 7 (omega arith) (stood_by ends u r) (left_lines ends Good kept is u r.turns lines turns).good (begins_cleanly ends Good kept is u r.turns lines turns none e)
+      clean_lines ends Good kept is 7 (omega arith) (after_turns ends u r) (left_lines ends Good kept is u r.turns lines turns).good (begins_cleanly ends Good kept is u r.turns lines turns none e)
 
   -- each possible run over lines without the word in their ids is `IsSoundRun`
-  sound_run : (u : UnderWay State) (r : Run State) (left : List ℕ) → (stood_by ends u r).left ≡ left → IsWellFormed Good u
+  sound_run : (u : UnderWay State) (r : Run State) (left : List ℕ) → (after_turns ends u r).left ≡ left → IsWellFormed Good u
       → (IsSubsequence the_word (ids_under_way u) → ⊥) → AreTurns ends Good kept r.turns (begins u)
-      → ArePossibleIf 7 ends Good kept left (stood_by ends u r) r.moves → IsSoundRun u r left
+      → ArePossibleIf 7 ends Good kept left (after_turns ends u r) r.moves → IsSoundRun u r left
   sound_run u r [] e lines none turns p =
-      let from = leaves (stood_by ends u r) in
+      let from = leaves (after_turns ends u r) in
       let clean = begun_clean u r lines none turns e in
-      let f = law ends Good kept is from clean r.moves p in
+      let f = clean_faithful ends Good kept is from clean r.moves p in
       record { own = (begins_cleanly ends Good kept is u r.turns lines turns none e, f); sound = record { possible = p; clean = inl clean }; faithful = f }
   sound_run u r (asked ∷ rest) e lines none turns p =
-      let from = leaves (stood_by ends u r) in
+      let from = leaves (after_turns ends u r) in
       record {
         own = tt;
         sound = record { possible = subst (λ ms. ArePossible ends Good kept (by_ids 7 ends) ms (ids_begun from)) (sym p) tt; clean = inr p };
@@ -97,16 +96,16 @@ module _ {State : Type 0} (ends : Ends State) (Good : State → Type 0) (kept : 
 
   -- a run that has synchronized leaves lines without the word in their ids
   leaves_next : (u : UnderWay State) (r : Run State) → IsWellFormed Good u → (IsSubsequence the_word (ids_under_way u) → ⊥)
-      → AreTurns ends Good kept r.turns (begins u) → ArePossibleIf 7 ends Good kept (stood_by ends u r).left (stood_by ends u r) r.moves
-      → (stood_by ends u r).left ≡ [] → IsWellFormed Good (left_by_run 7 ends u r) × (IsSubsequence the_word (ids_under_way (left_by_run 7 ends u r)) → ⊥)
+      → AreTurns ends Good kept r.turns (begins u) → ArePossibleIf 7 ends Good kept (after_turns ends u r).left (after_turns ends u r) r.moves
+      → (after_turns ends u r).left ≡ [] → IsWellFormed Good (left_by_run 7 ends u r) × (IsSubsequence the_word (ids_under_way (left_by_run 7 ends u r)) → ⊥)
   leaves_next u r lines none turns p e =
-      let s = stood_by ends u r in
+      let s = after_turns ends u r in
       let clean = begun_clean u r lines none turns e in
       let possible = subst (λ w. ArePossibleIf 7 ends Good kept w s r.moves) e p in
       let good = runs_leave_good ends Good kept is 7 (omega arith) (leaves s) clean r.moves possible in
-      let row = runs_leave_rows ends Good kept is 7 (omega arith) (leaves s) clean r.moves possible in
+      let row = runs_leave_rising_ids ends Good kept is 7 (omega arith) (leaves s) clean r.moves possible in
       subst (λ w. IsWellFormed Good (left_if 7 ends w s r.moves) × (IsSubsequence the_word (ids_under_way (left_if 7 ends w s r.moves)) → ⊥)) (sym e)
-      (record { ids = good.1; good = good.0 }, rows_have_not (on_line (behind 7 ends (leaves s) r.moves).wire) row)
+      (record { ids = good.1; good = good.0 }, rising_lack_the_word (on_line (behind 7 ends (leaves s) r.moves).wire) row)
 
   -- A stretch with its part.
 
@@ -114,7 +113,7 @@ module _ {State : Type 0} (ends : Ends State) (Good : State → Type 0) (kept : 
   -- and faithful
   pub record Fits (p : Part) (s : Stretch State) : Type 0 where
     pub steps : seen s.moves ≡ p.steps
-    pub sound : Sound ends Good kept is s
+    pub sound : IsSoundStretch ends Good kept is s
     pub faithful : IsFaithful 7 ends s.from s.moves Good kept
 
   -- the parts and the stretches fit, one for one
@@ -124,7 +123,7 @@ module _ {State : Type 0} (ends : Ends State) (Good : State → Type 0) (kept : 
   AllFit _ _ = ⊥
 
   -- the ids that are left of a run's word are those that its part leaves
-  left_so : (u : UnderWay State) (r : Run State) (p : Part) → shown ends r.turns (begins u) ≡ p.turns → (stood_by ends u r).left ≡ unanswered_after the_word (heard_in p.turns)
+  left_so : (u : UnderWay State) (r : Run State) (p : Part) → shown ends r.turns (begins u) ≡ p.turns → (after_turns ends u r).left ≡ unanswered_after the_word (heard_in p.turns)
   left_so u r p e = left_is ends r.turns (begins u) ∙ ap (λ l. unanswered_after the_word (heard_in l)) e
 
   -- the parts of a run in the field fit the stretches
@@ -135,10 +134,10 @@ module _ {State : Type 0} (ends : Ends State) (Good : State → Type 0) (kept : 
   all_fit [] (r ∷ rs) u lines none s p b = absurd s
   all_fit (x ∷ ps) [] u lines none s p b = absurd s
   all_fit (x ∷ []) (r ∷ []) u lines none s p b =
-      let o = sound_run u r (stood_by ends u r).left refl lines none p.0.0 p.0.1 in ((record { steps = s.1; sound = o.sound; faithful = o.faithful }, tt), (o.own, tt))
+      let o = sound_run u r (after_turns ends u r).left refl lines none p.0.0 p.0.1 in ((record { steps = s.1; sound = o.sound; faithful = o.faithful }, tt), (o.own, tt))
   all_fit (x ∷ []) (r ∷ t ∷ rs) u lines none s p b = absurd s.2
   all_fit (x ∷ y ∷ ps) (r ∷ rs) u lines none s p b =
-      let o = sound_run u r (stood_by ends u r).left refl lines none p.0.0 p.0.1 in
+      let o = sound_run u r (after_turns ends u r).left refl lines none p.0.0 p.0.1 in
       let next = leaves_next u r lines none p.0.0 p.0.1 (left_so u r x s.0 ∙ b.0) in
       let others = all_fit (y ∷ ps) rs (left_by_run 7 ends u r) next.0 next.1 s.2 p.1 b.1 in
       ((record { steps = s.1; sound = o.sound; faithful = o.faithful }, others.0), (o.own, others.1))
@@ -155,9 +154,9 @@ module _ {State : Type 0} (ends : Ends State) (Good : State → Type 0) (kept : 
 
   -- if all parts are safe, so is the one at each place
   pub safe_at : (ps : List Part) (ss : List (Stretch State)) (i : ℕ) (p : Part) (s : Stretch State) → AllSafe ps ss → slice_get ps i ≡ Some p → slice_get ss i ≡ Some s → IsSafePart p s
-  safe_at [] ss i p s h e f = absurd (none_is_not p e)
+  safe_at [] ss i p s h e f = absurd (none-some p e)
   safe_at (q ∷ ps) [] i p s h e f = absurd h
-  safe_at (q ∷ ps) (t ∷ ss) zero p s h e f = subst (λ x. IsSafePart x s) (some_is q p e) (subst (λ x. IsSafePart q x) (some_is t s f) h.0)
+  safe_at (q ∷ ps) (t ∷ ss) zero p s h e f = subst (λ x. IsSafePart x s) (same_Some q p e) (subst (λ x. IsSafePart q x) (same_Some t s f) h.0)
   safe_at (q ∷ ps) (t ∷ ss) (suc i) p s h e f = safe_at ps ss i p s h.1 e f
 
   -- what holds of any stretch that fits a part holds of each of these
@@ -200,7 +199,7 @@ module _ {State : Type 0} (ends : Ends State) (Good : State → Type 0) (kept : 
   safe_part commands p s rule f sent n mark at =
       let a = of_at commands p.marks (map asked (own_sent ends s)) n (Some mark) sent at in
       let size : length (course 7 begun p.steps).sent ≡ length (map asked (own_sent ends s)) = ap length (course_sent p.steps begun ∙ fit_sent p s f) in
-      let low : n < length (map asked (own_sent ends s)) = below (map asked (own_sent ends s)) n a.0 a.1 in
+      let low : n < length (map asked (own_sent ends s)) = slice_get_within (map asked (own_sent ends s)) n a.0 a.1 in
       inr (inr (goes_out ends Good kept is s f.sound p.steps f.steps n (omega (arith, size, low))
       (λ front later target call deadline e count. rule front later target call deadline mark e (subst (λ k. slice_get p.marks k ≡ Some (Some mark)) (sym count) at))))
 
@@ -300,21 +299,6 @@ module _ {State : Type 0} (ends : Ends State) (Good : State → Type 0) (kept : 
         made_on = subst (λ call. WasMadeOn 7 ends s.from s.moves (8 + n) call line) right (f.faithful.made_on (8 + n) x line beyond (safe n mark at) there answered);
       })
 
-  -- the answers that the stretches record are their own
-  pub own_all : (reads : Asked → List ℕ → Reading) (commands : List Task) (ps : List Part) (ss : List (Stretch State)) → AllFit ps ss → AllSafe ps ss
-      → AreSentAs ends commands ps ss → AllByRecursion (IsOwnAnswer ends Good kept commands ps ss) (written_over ends reads ps ss)
-  own_all reads commands [] [] f g h = tt
-  own_all reads commands [] (s ∷ ss) f g h = tt
-  own_all reads commands (p ∷ ps) [] f g h = absurd f
-  own_all reads commands (p ∷ []) (s ∷ []) f g h = own_first reads commands p s [] [] [] (own_settled ends s) (sym (append-nil (own_settled ends s))) f.0 g.0 h.0
-  own_all reads commands (p ∷ []) (s ∷ t ∷ ss) f g h = absurd f.1
-  own_all reads commands (p ∷ q ∷ ps) (s ∷ []) f g h = absurd f.1
-  own_all reads commands (p ∷ q ∷ ps) (s ∷ t ∷ ss) f g h =
-      let xs = own_settled ends s ++ map lost (world ends s).client.waiting in
-      all_append (IsOwnAnswer ends Good kept commands (p ∷ q ∷ ps) (s ∷ t ∷ ss)) (records_of reads 0 p.marks xs) (written_over ends reads (q ∷ ps) (t ∷ ss))
-      (own_first reads commands p s (q ∷ ps) (t ∷ ss) (world ends s).client.waiting xs refl f.0 g.0 h.0)
-      (all_later ends Good kept commands p s (q ∷ ps) (t ∷ ss) (written_over ends reads (q ∷ ps) (t ∷ ss)) (own_all reads commands (q ∷ ps) (t ∷ ss) f.1 g.1 h.1))
-
   -- A command that wasn't sent has no answer.
 
   -- a record of a command that wasn't sent is no answer
@@ -329,17 +313,6 @@ module _ {State : Type 0} (ends : Ends State) (Good : State → Type 0) (kept : 
     none end.Lost out answered = cc
     none end.Skipped out answered = cc
     none end.Missed out answered = cc
-
-  -- if the answers of commands that were sent are their own, all are
-  all_sent : (commands : List Task) (ps : List Part) (ss : List (Stretch State)) (rs : List Record)
-      → AllByRecursion (IsOwnAnswer ends Good kept commands ps ss) (sent_of rs) → AllByRecursion (IsOwnAnswer ends Good kept commands ps ss) rs
-  all_sent commands ps ss [] h = tt
-  all_sent commands ps ss (r ∷ rs) h = by_case (went_out r.end) refl (all_sent commands ps ss rs) h where
-    -- the lemma above, by whether the first command was sent (`b`)
-    by_case : (b : Bool) → went_out r.end ≡ b → (AllByRecursion (IsOwnAnswer ends Good kept commands ps ss) (sent_of rs) → AllByRecursion (IsOwnAnswer ends Good kept commands ps ss) rs)
-        → AllByRecursion (IsOwnAnswer ends Good kept commands ps ss) (sent_with b r (sent_of rs)) → AllByRecursion (IsOwnAnswer ends Good kept commands ps ss) (r ∷ rs)
-    by_case true out others g = (g.0, others g.1)
-    by_case false out others g = (unsent_own commands ps ss r out, others g)
 
   -- Executed, though late.
 
@@ -375,32 +348,52 @@ module _ {State : Type 0} (ends : Ends State) (Good : State → Type 0) (kept : 
         made_on = subst (λ call. WasMadeOn 7 ends s.from s.moves (8 + n) call made.0) right made.1;
       })
 
-  -- the commands of all late records that the stretches record were executed
-  pub late_all : (reads : Asked → List ℕ → Reading) (commands : List Task) (ps : List Part) (ss : List (Stretch State)) → AllFit ps ss → AllSafe ps ss
-      → AreSentAs ends commands ps ss → AllByRecursion (LateHasExecution ends Good kept commands ps ss) (written_over ends reads ps ss)
-  late_all reads commands [] [] f g h = tt
-  late_all reads commands [] (s ∷ ss) f g h = tt
-  late_all reads commands (p ∷ ps) [] f g h = absurd f
-  late_all reads commands (p ∷ []) (s ∷ []) f g h = late_first reads commands p s [] [] [] (own_settled ends s) (sym (append-nil (own_settled ends s))) f.0 g.0 h.0
-  late_all reads commands (p ∷ []) (s ∷ t ∷ ss) f g h = absurd f.1
-  late_all reads commands (p ∷ q ∷ ps) (s ∷ []) f g h = absurd f.1
-  late_all reads commands (p ∷ q ∷ ps) (s ∷ t ∷ ss) f g h =
-      let xs = own_settled ends s ++ map lost (world ends s).client.waiting in
-      all_append (LateHasExecution ends Good kept commands (p ∷ q ∷ ps) (s ∷ t ∷ ss)) (records_of reads 0 p.marks xs) (written_over ends reads (q ∷ ps) (t ∷ ss))
-      (late_first reads commands p s (q ∷ ps) (t ∷ ss) (world ends s).client.waiting xs refl f.0 g.0 h.0)
-      (late_all_later ends Good kept commands p s (q ∷ ps) (t ∷ ss) (written_over ends reads (q ∷ ps) (t ∷ ss)) (late_all reads commands (q ∷ ps) (t ∷ ss) f.1 g.1 h.1))
+  -- a record of a command that wasn't sent isn't late
+  unsent_late : (commands : List Task) (ps : List Part) (ss : List (Stretch State)) (r : Record) → went_out r.end ≡ false → LateHasExecution ends Good kept commands ps ss r
+  unsent_late commands ps ss r out late = let never : true ≡ false = sym (ap went_out late) ∙ out in absurd (true≢false never)
 
-  -- if the commands of all late records that were sent were executed, those of all late records were: no other command
-  -- is late
-  late_sent : (commands : List Task) (ps : List Part) (ss : List (Stretch State)) (rs : List Record)
-      → AllByRecursion (LateHasExecution ends Good kept commands ps ss) (sent_of rs) → AllByRecursion (LateHasExecution ends Good kept commands ps ss) rs
-  late_sent commands ps ss [] h = tt
-  late_sent commands ps ss (r ∷ rs) h = by_case (went_out r.end) refl (late_sent commands ps ss rs) h where
+  -- All that is recorded.
+
+  -- `P` holds *at first*: wherever a part and a stretch are the first of a run, and fit, it holds of the records of what the
+  -- stretch settled, and of what was lost then
+  abbrev HoldsAtFirst : (List Part → List (Stretch State) → Record → Type 0) → (Asked → List ℕ → Reading) → List Task → Type 0
+  HoldsAtFirst P reads commands =
+      (p : Part) (s : Stretch State) (ps : List Part) (ss : List (Stretch State)) (waiting : List (Pending Asked)) (xs : List (Settlement Asked))
+      → xs ≡ own_settled ends s ++ map lost waiting → Fits p s → IsSafePart p s → MarksAsk commands p.marks (map asked (own_sent ends s))
+      → AllByRecursion (P (p ∷ ps) (s ∷ ss)) (records_of reads 0 p.marks xs)
+
+  -- what lasts, and holds at first, holds of all that the stretches record
+  all_over : (P : List Part → List (Stretch State) → Record → Type 0) → IsLasting P → (reads : Asked → List ℕ → Reading) (commands : List Task) → HoldsAtFirst P reads commands
+      → (ps : List Part) (ss : List (Stretch State)) → AllFit ps ss → AllSafe ps ss → AreSentAs ends commands ps ss → AllByRecursion (P ps ss) (written_over ends reads ps ss)
+  all_over P lasts reads commands first [] [] f g h = tt
+  all_over P lasts reads commands first [] (s ∷ ss) f g h = tt
+  all_over P lasts reads commands first (p ∷ ps) [] f g h = absurd f
+  all_over P lasts reads commands first (p ∷ []) (s ∷ []) f g h = first p s [] [] [] (own_settled ends s) (sym (append-nil (own_settled ends s))) f.0 g.0 h.0
+  all_over P lasts reads commands first (p ∷ []) (s ∷ t ∷ ss) f g h = absurd f.1
+  all_over P lasts reads commands first (p ∷ q ∷ ps) (s ∷ []) f g h = absurd f.1
+  all_over P lasts reads commands first (p ∷ q ∷ ps) (s ∷ t ∷ ss) f g h =
+      let xs = own_settled ends s ++ map lost (world ends s).client.waiting in
+      all_append (P (p ∷ q ∷ ps) (s ∷ t ∷ ss)) (records_of reads 0 p.marks xs) (written_over ends reads (q ∷ ps) (t ∷ ss))
+      (first p s (q ∷ ps) (t ∷ ss) (world ends s).client.waiting xs refl f.0 g.0 h.0)
+      (all_on (P (q ∷ ps) (t ∷ ss)) (P (p ∷ q ∷ ps) (s ∷ t ∷ ss)) (written_over ends reads (q ∷ ps) (t ∷ ss)) (λ r held. lasts.later p s (q ∷ ps) (t ∷ ss) r held)
+      (all_over P lasts reads commands first (q ∷ ps) (t ∷ ss) f.1 g.1 h.1))
+
+  -- what holds of the records of commands that were sent, and of any record of a command that wasn't, holds of all records
+  all_sent : (P : Record → Type 0) → ((r : Record) → went_out r.end ≡ false → P r) → (rs : List Record) → AllByRecursion P (sent_of rs) → AllByRecursion P rs
+  all_sent P unsent [] h = tt
+  all_sent P unsent (r ∷ rs) h = by_case (went_out r.end) refl (all_sent P unsent rs) h where
     -- the lemma above, by whether the first command was sent (`b`)
-    by_case : (b : Bool) → went_out r.end ≡ b → (AllByRecursion (LateHasExecution ends Good kept commands ps ss) (sent_of rs) → AllByRecursion (LateHasExecution ends Good kept commands ps ss) rs)
-        → AllByRecursion (LateHasExecution ends Good kept commands ps ss) (sent_with b r (sent_of rs)) → AllByRecursion (LateHasExecution ends Good kept commands ps ss) (r ∷ rs)
+    by_case : (b : Bool) → went_out r.end ≡ b → (AllByRecursion P (sent_of rs) → AllByRecursion P rs) → AllByRecursion P (with_if b r (sent_of rs)) → AllByRecursion P (r ∷ rs)
     by_case true out others g = (g.0, others g.1)
-    by_case false out others g = ((λ late. let never : true ≡ false = sym (ap went_out late) ∙ out in absurd (true_is_not never)), others g)
+    by_case false out others g = (unsent r out, others g)
+
+  -- what lasts, holds at first, and holds of any record of a command that wasn't sent, holds of all records of a run
+  all_recorded : (P : List Part → List (Stretch State) → Record → Type 0) → IsLasting P → (reads : Asked → List ℕ → Reading) (commands : List Task)
+      → HoldsAtFirst P reads commands → (ps : List Part) (ss : List (Stretch State)) → ((r : Record) → went_out r.end ≡ false → P ps ss r) → (rs : List Record)
+      → AllFit ps ss → AllSafe ps ss → AreSentAs ends commands ps ss → map timeless (sent_of rs) ≡ written_over ends reads ps ss → AllByRecursion (P ps ss) rs
+  all_recorded P lasts reads commands first ps ss unsent rs fit safe sent written =
+      all_sent (P ps ss) unsent rs
+      (all_timeless P lasts ps ss (sent_of rs) (subst (AllByRecursion (P ps ss)) (sym written) (all_over P lasts reads commands first ps ss fit safe sent)))
 
   -- The whole.
 
@@ -439,10 +432,10 @@ module _ {State : Type 0} (ends : Ends State) (Good : State → Type 0) (kept : 
       record {
         begun = parts_begun plan commands start acts h.runs;
         clean = fit.1;
-        own = all_sent commands ps ss end.records (all_timeless ends Good kept commands ps ss (sent_of end.records)
-            (subst (AllByRecursion (IsOwnAnswer ends Good kept commands ps ss)) (sym written) (own_all scope.reads commands ps ss fit.0 safe sent)));
-        late = late_sent commands ps ss end.records (late_timeless ends Good kept commands ps ss (sent_of end.records)
-            (subst (AllByRecursion (LateHasExecution ends Good kept commands ps ss)) (sym written) (late_all scope.reads commands ps ss fit.0 safe sent)));
+        own = all_recorded (IsOwnAnswer ends Good kept commands) (own_lasts ends Good kept commands) scope.reads commands (own_first scope.reads commands) ps ss
+            (unsent_own commands ps ss) end.records fit.0 safe sent written;
+        late = all_recorded (LateHasExecution ends Good kept commands) (late_lasts ends Good kept commands) scope.reads commands (late_first scope.reads commands) ps ss
+            (unsent_late commands ps ss) end.records fit.0 safe sent written;
         one_for_one = each_once plan commands scope acts;
         sent = sent;
         written = written;

@@ -1,27 +1,15 @@
 -- What an instrument's retained reply is to: the last request that it was handed and knows (`table`), or a later one. And what
 -- it means that a line is vouched for: it was made for its request, as that request's call was executed. The id of request n is
 -- the difference of n and `since`, modulo 8.
-use Rattle.std.proofs.Common.{◌≡◌, ℕ, ◌+◌, ◌-◌, ◌%◌, ◌<◌, ◌≤◌, ◌⊎◌, inl, inr, Bool, true, false, List, [], ◌∷◌, ◌++◌, Option, Some, None, refl, sym, ap, subst, arith}
+use Rattle.std.proofs.Common.{◌≡◌, ℕ, ◌+◌, ◌-◌, ◌%◌, ◌<◌, ◌≤◌, ◌⊎◌, inl, inr, Bool, true, false, List, Option, Some, None, refl, sym, ap, subst, arith}
 use Rattle.std.specs.Prelude.{slice_get}
 use Rattle.gc_catalogue.specs.declared.asked.Asked.{Asked}
 use Rattle.gc_instrument.specs.State.{KeptReply}
 use Rattle.gc_world.specs.Clients.{ByNumber}
-use Rattle.gc_world.specs.Order.{Each, Rising, numbers}
 use Rattle.gc_world.specs.Record.{IsReplyTo}
 use Rattle.gc_field.specs.World.{Request, Sent, Numbered, Ends, World}
 use Rattle.gc_world.proofs.Booked.{Has}
-use Rattle.gc_world.proofs.Rows.{each_more}
-use Rattle.gc_field.proofs.Once.{IsUnknown, true_is_not}
-
--- where numbers never fall from `low` on, each number in the queue is at least low - 1
-pub rising_each : (low : ℕ) (xs : List (Numbered Request)) → Rising low (numbers xs) → Each (λ x. low ≤ x.number + 1) xs
-rising_each low [] h = tt
-rising_each low (x ∷ xs) h = (h.0, each_more (λ y. x.number + 1 ≤ y.number + 1) (λ y. low ≤ y.number + 1) (λ y k. omega (arith, k, h.0)) xs (rising_each (x.number + 1) xs h.1))
-
--- where numbers never fall from `low` on, n among them is at least low - 1, and those after n never fall below n
-pub rising_tail : (low n : ℕ) (xs ys : List ℕ) → Rising low (xs ++ n ∷ ys) → (low ≤ n + 1) × Rising (n + 1) ys
-rising_tail low n [] ys h = h
-rising_tail low n (x ∷ xs) ys h = let r = rising_tail (x + 1) n xs ys h.1 in (omega (arith, h.0, r.0), r.1)
+use Rattle.gc_field.proofs.Once.{IsUnknown}
 
 -- What is kept.
 
@@ -40,11 +28,17 @@ abbrev pub KeptIs : (ℕ → List ℕ → Type 0) → ℕ → ℕ → ℕ → Op
 KeptIs P since top table None = Unit {0}
 KeptIs P since top table (Some k) = IsKept P since top table k
 
+-- `KeptIs` of one property gives `KeptIs` of another, if the one gives the other of each number below `top`
+pub kept_below : (P Q : ℕ → List ℕ → Type 0) (since top table : ℕ) → ((n : ℕ) (line : List ℕ) → n < top → P n line → Q n line) → (k : Option KeptReply)
+    → KeptIs P since top table k → KeptIs Q since top table k
+kept_below P Q since top table f None h = tt
+kept_below P Q since top table f (Some k) h =
+    record { number = h.number; recent = h.recent; before = h.before; behind = h.behind; id = h.id; line = f h.number k.line h.before h.line }
+
 -- where P implies Q, `KeptIs` of P gives `KeptIs` of Q
 pub kept_more : (P Q : ℕ → List ℕ → Type 0) → ((n : ℕ) (line : List ℕ) → P n line → Q n line) → (since top table : ℕ) (k : Option KeptReply)
     → KeptIs P since top table k → KeptIs Q since top table k
-kept_more P Q f since top table None h = tt
-kept_more P Q f since top table (Some k) h = record { number = h.number; recent = h.recent; before = h.before; behind = h.behind; id = h.id; line = f h.number k.line h.line }
+kept_more P Q f since top table k h = kept_below P Q since top table (λ n line l p. f n line p) k h
 
 -- if nothing is retained, `KeptIs` holds
 pub kept_none : (P : ℕ → List ℕ → Type 0) (since top table : ℕ) (k : Option KeptReply) → k ≡ None → KeptIs P since top table k

@@ -23,7 +23,7 @@ pub mod BeginKilled
 pub mod BeginJoin
 pub mod Fresh
 pub mod BegunFaithful
-pub mod BegunRows
+pub mod BegunRising
 pub mod BegunRuns
 pub mod BeginWitness
 pub mod Unbegun

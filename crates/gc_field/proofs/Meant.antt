@@ -9,7 +9,7 @@ use Rattle.gc_links.specs.declared.link.Moment.{Moment}
 use Rattle.gc_station.specs.declared.plan.Plan.{Plan}
 use Rattle.gc_links.specs.Acts.{Act, Told, Untold, Put, Cut, Gave, Silent, Ended, Broke, Closed, Opened, Unopened}
 use Rattle.gc_station.specs.Deciding.{has_begun}
-use Rattle.gc_station.specs.Parts.{Part, Asks, Hears, beginning, doing, hearing, nothing, only_turns, putting}
+use Rattle.gc_station.specs.Parts.{Part, Asks, Hears, sync_part, client_part, heard_steps, nothing, only_turns, put_part}
 use Rattle.gc_station.specs.Model.{Model, action_at, is_heard, lines_completed, null_text, Performs, after, Runs}
 use Rattle.gc_station.proofs.Asked.{none_doing, steps_none, turns_gave, turns_plain, word_after}
 use Rattle.gc_station.proofs.Booking.{sending_of, sends_with_room}
@@ -39,7 +39,7 @@ put_means s bytes p (inr x) =
 -- what a piece of bytes that came means to the client: the moment, and its lines if it is heard (`h`); the moment alone if it
 -- is discarded. `rest` and `behind` are the bytes since the last line feed, before the piece and after it
 gave_means : (client : ById Asked) (h : Bool) (rest behind piece : List ℕ) (m : Moment) → behind ≡ rest_with h (Gave piece m) rest
-    → Means client rest (Gave piece m) (Expire m.elapsed ∷ hearing h rest piece) behind
+    → Means client rest (Gave piece m) (Expire m.elapsed ∷ heard_steps h rest piece) behind
 gave_means client true rest behind piece m e = inl (record { lines = refl; rest = e })
 gave_means client false rest behind piece m e = inr (record { lines = refl; rest = e })
 
@@ -84,16 +84,16 @@ module _ (plan : Plan) (commands : List Task) where
 
   -- once a station has synchronized, an act means the steps of its part
   act_means : (s : Model) (act : Act) → Invariant plan commands s → has_begun s.progress ≡ true → Performs commands s (action_at plan s) act
-      → Means s.client s.rest act (doing plan commands s (action_at plan s) act).steps (after plan commands s act).rest
+      → Means s.client s.rest act (client_part plan commands s (action_at plan s) act).steps (after plan commands s act).rest
   act_means s (Gave piece m) fine begun obeys = gave_means s.client (is_heard s.progress.phase) s.rest (after plan commands s (Gave piece m)).rest piece m
       (after_rest plan commands s (Gave piece m) obeys)
   act_means s (Put bytes) fine begun obeys = (
-    put_means s bytes (putting plan commands s (action_at plan s))
+    put_means s bytes (put_part plan commands s (action_at plan s))
         (put_is plan commands s (Put bytes) bytes fine obeys refl begun),
     same_rest s (Put bytes) obeys tt,
   )
   act_means s (Cut bytes count) fine begun obeys = (
-    put_means s bytes (putting plan commands s (action_at plan s))
+    put_means s bytes (put_part plan commands s (action_at plan s))
         (put_is plan commands s (Cut bytes count) bytes fine obeys refl begun),
     same_rest s (Cut bytes count) obeys tt,
   )
@@ -108,17 +108,17 @@ module _ (plan : Plan) (commands : List Task) where
 
   -- while a station synchronizes, an act means the turns of its part
   turns_mean : (s : Model) (act : Act) → has_begun s.progress ≡ false → Performs commands s (action_at plan s) act
-      → MeansTurns s.progress.word s.rest act (beginning s (action_at plan s) act).turns (after plan commands s act).rest
+      → MeansTurns s.progress.word s.rest act (sync_part s (action_at plan s) act).turns (after plan commands s act).rest
   turns_mean s (Gave piece m) begins obeys =
       subst (λ turns. IsTaken s.rest piece turns (after plan commands s (Gave piece m)).rest) (sym (turns_gave plan commands s (action_at plan s) piece m obeys))
       (taken (is_heard s.progress.phase) s.rest (after plan commands s (Gave piece m)).rest piece m (after_rest plan commands s (Gave piece m) obeys))
   turns_mean s (Put bytes) begins obeys = (
-    asked_for s bytes (beginning s (action_at plan s) (Put bytes))
+    asked_for s bytes (sync_part s (action_at plan s) (Put bytes))
         (asked_is plan commands s (Put bytes) bytes obeys refl begins),
     same_rest s (Put bytes) obeys tt,
   )
   turns_mean s (Cut bytes count) begins obeys = (
-    asked_for s bytes (beginning s (action_at plan s) (Cut bytes count))
+    asked_for s bytes (sync_part s (action_at plan s) (Cut bytes count))
         (asked_is plan commands s (Cut bytes count) bytes obeys refl begins),
     same_rest s (Cut bytes count) obeys tt,
   )
@@ -133,7 +133,7 @@ module _ (plan : Plan) (commands : List Task) where
 
   -- an act means its part, whether the station has synchronized (`b`) or not
   pub is_meant : (s : Model) (act : Act) (b : Bool) → has_begun s.progress ≡ b → Invariant plan commands s → Performs commands s (action_at plan s) act
-      → IsMeant b s act (if b then doing plan commands s (action_at plan s) act else beginning s (action_at plan s) act) (after plan commands s act)
+      → IsMeant b s act (if b then client_part plan commands s (action_at plan s) act else sync_part s (action_at plan s) act) (after plan commands s act)
   is_meant s act true e fine obeys = (none_doing plan commands s (action_at plan s) act, act_means s act fine e obeys)
   is_meant s act false e fine obeys = (steps_none plan commands s (action_at plan s) act, turns_mean s act e obeys, word_after plan commands s act obeys e)
 

@@ -4,7 +4,7 @@
 use Rattle.std.proofs.Common.{◌≡◌, ℕ, ◌+◌, ◌-◌, ◌%◌, ◌<◌, ◌≤◌, ◌⊎◌, inl, inr, Bool, true, false, List, [], ◌∷◌, ◌++◌, length, drop, Option, Some, refl, sym, ◌∙◌, ap, subst, arith, ltb, eqb}
 use Rattle.std.specs.Prelude.{slice_get}
 use Rattle.std.proofs.lemmas.List.{length_push}
-use Rattle.std.proofs.lemmas.Bool.{le-ltb}
+use Rattle.std.proofs.lemmas.Bool.{le-ltb, true≢false}
 use Rattle.gc_catalogue.specs.declared.asked.Asked.{Asked}
 use Rattle.gc_catalogue.specs.Asked.{asked_line}
 use Rattle.gc_client.specs.Rule.{ById, Settlement, Answered, Late, settle}
@@ -14,18 +14,21 @@ use Rattle.gc_world.specs.Exchange.{IsExchange}
 use Rattle.gc_world.specs.Order.{Each}
 use Rattle.gc_field.specs.World.{Request, Sent, Numbered, Ends, Step, Send, Up_deliver, Up_lose, Up_repeat, Down_deliver, Down_lose, Down_repeat, Expire, Restart_client, Restart_instrument, Nothing, World, Wire, without, doubled, replied, up_delivered, with_up, with_down, started, on_wire, requested, down_delivered, happens, written}
 use Rattle.gc_world.proofs.Agree.{Agree, agrees}
-use Rattle.gc_world.proofs.Options.{none_is_not}
+use Rattle.std.proofs.lemmas.Option.{none-some}
 use Rattle.gc_world.proofs.Places.{each_get, get_push}
 use Rattle.gc_world.proofs.Replay.{IsOf, of_more}
 use Rattle.gc_world.proofs.Rows.{each_append, each_more, each_without, each_doubled}
 use Rattle.gc_world.proofs.Sound.{IsGoing, Sound, sound_step, sound_open}
-use Rattle.gc_field.specs.Field.{Move, Sends, Tells, Comes, Foreign, OnLine, Anew, Changes, Joins, IsOfLine, moves, moved, IsPossible, ArePossible, AsksOnly, IsFirstAlone}
+use Rattle.gc_field.specs.Field.{Move, Sends, Tells, Comes, Foreign, OnLine, Anew, Changes, Joins, IsLineStep, moves, moved, IsPossible, ArePossible, AsksOnly, IsFirstAlone}
 use Rattle.gc_field.specs.Instrument.{IsAnInstrumentFor, KeepsItsOwn, KeepsItsReply}
 use Rattle.gc_field.proofs.Answered.{HoldsOfAll, HoldsOfOutcome, all_so_get}
 use Rattle.gc_field.specs.Once.{ActsOnce, IsInOrder}
-use Rattle.gc_field.proofs.Once.{IsUnknown, acts_once, once_few, climbing_first, order_few, ordered_first, true_is_not}
+use Rattle.gc_field.proofs.Once.{IsUnknown, acts_once, once_few, climbing_first, order_few, ordered_first}
 use Rattle.gc_field.proofs.KeptReplies.{IsVouched, kept_one, IsOn}
-use Rattle.gc_field.proofs.Vouched.{Vouched, AllVouched, true_requested, true_down, true_line, true_started, true_changed}
+use Rattle.gc_field.proofs.Vouched.{Vouched, AllVouched, vouched_requested, vouched_down, vouched_line, vouched_started, vouched_changed}
+use Rattle.gc_field.specs.Made.{WasMadeOn}
+use Rattle.gc_field.proofs.Possible.{possible_front}
+use Rattle.gc_values.specs.Boolean.{number_of}
 
 module _ {State : Type 0} (width : ℕ) (narrow : width ≤ 7) (ends : Ends State) (Good : State → Type 0) (ex : IsExchange ends Good) (kept : State → Option KeptReply) where
   -- the world of ids and the world of numbers agree, and the latter is sound: its line keeps order, with ids that belong to its
@@ -105,7 +108,7 @@ module _ {State : Type 0} (width : ℕ) (narrow : width ≤ 7) (ends : Ends Stat
 
 -- the settlement s, at place m, was made for its own request: an answer's line is vouched for, and for a late one there is a line
 -- that is vouched for
-pub record IsOwn {State : Type 0} (ends : Ends State) (Good : State → Type 0) (M : ℕ → Asked → List ℕ → Type 0) (w : Wire State) (m : ℕ) (s : Settlement Asked) : Type 0 where
+pub record IsOwnSettlement {State : Type 0} (ends : Ends State) (Good : State → Type 0) (M : ℕ → Asked → List ℕ → Type 0) (w : Wire State) (m : ℕ) (s : Settlement Asked) : Type 0 where
   pub answered : (line : List ℕ) → s.outcome ≡ Answered line → IsVouched ends Good M w.sent w.executed w.made m line
   pub late : s.outcome ≡ Late → (line : List ℕ) × IsVouched ends Good M w.sent w.executed w.made m line
 
@@ -113,7 +116,7 @@ pub record IsOwn {State : Type 0} (ends : Ends State) (Good : State → Type 0) 
 -- the instrument retains its reply
 pub record IsVouchedFor {State : Type 0} (ends : Ends State) (Good : State → Type 0) (kept : State → Option KeptReply) (E : ℕ → Type 0) (M : ℕ → Asked → List ℕ → Type 0)
     (w : Wire State) : Type 0 where
-  pub own : (m : ℕ) (s : Settlement Asked) → (E m → ⊥) → slice_get w.settled m ≡ Some s → IsOwn ends Good M w m s
+  pub own : (m : ℕ) (s : Settlement Asked) → (E m → ⊥) → slice_get w.settled m ≡ Some s → IsOwnSettlement ends Good M w m s
   pub order : IsInOrder w.executed
   pub once : (keeps : Asked → Bool) → KeepsItsReply ends Good kept keeps → ActsOnce keeps w.sent w.executed w.starts
 
@@ -132,6 +135,26 @@ module _ {State : Type 0} (width : ℕ) (ends : Ends State) (M : ℕ → Asked �
   pub are_on_later : (front later : List (Move State)) (b : World (ByNumber Asked) State) → AreOn (front ++ later) b → AreOn later (moved ends (by_numbers width) front b)
   are_on_later [] later b on = on
   are_on_later (m ∷ front) later b on = are_on_later front later (moves ends (by_numbers width) b m) (are_on_behind m (front ++ later) b on)
+
+module _ {State : Type 0} (width : ℕ) (narrow : width ≤ 7) (ends : Ends State) (Good : State → Type 0) (ex : IsExchange ends Good) (kept : State → Option KeptReply) where
+  -- where `Both` holds of two worlds, the reply to each request that is executed at one of these moves, which are possible, was made
+  -- on executing it, by `WasMadeOn`
+  pub made_here : (a : World (ById Asked) State) (b : World (ByNumber Asked) State) → Both width narrow ends Good ex kept a b → (ms : List (Move State))
+      → ArePossible ends Good kept (by_ids width ends) ms a → AreOn width ends (λ n call line. WasMadeOn width ends a ms n call line) ms b
+  made_here a b both ms p front later e x rest q exe =
+      let p' = possible_front width ends Good kept front (OnLine Up_deliver ∷ later) a (subst (λ l. ArePossible ends Good kept (by_ids width ends) l a) e p) in
+      let same : (moved ends (by_ids width ends) front a).wire ≡ (moved ends (by_numbers width) front b).wire = (both_all width narrow ends Good ex kept front a b p' both).agree.wire in
+      let stands : (moved ends (by_ids width ends) front a).wire.state ≡ (moved ends (by_numbers width) front b).wire.state = ap (λ (w : Wire State). w.state) same in
+      record {
+        front = front;
+        later = later;
+        split = e;
+        id = x.line.id;
+        rest = rest;
+        reaches = ap (λ (w : Wire State). w.up) same ∙ q;
+        executed = ap (λ t. (ends.handed t x.line.id x.line.call).executed) stands ∙ exe;
+        reply = ap (λ t. (ends.handed t x.line.id x.line.call).reply) (sym stands);
+      }
 
 module _ {State : Type 0} (width : ℕ) (narrow : width ≤ 7) (knows : Asked → Bool) (ends : Ends State) (Good : State → Type 0) (ex : IsExchange ends Good)
     (kept : State → Option KeptReply) (keeper : IsAnInstrumentFor ends Good kept knows) (low : ℕ) (E : ℕ → Type 0) (Plain : Type 0) (M : ℕ → Asked → List ℕ → Type 0) where
@@ -156,7 +179,7 @@ module _ {State : Type 0} (width : ℕ) (narrow : width ≤ 7) (knows : Asked �
   so_at : (w : World (ByNumber Asked) State) (t : Trusted w) (m : ℕ) (s : Settlement Asked) → slice_get w.wire.settled m ≡ Some s → HoldsOfOutcome (Vouches w t) m s.outcome
   so_at w t m s e = let i : 0 + m ≡ m = omega arith in subst (λ k. HoldsOfOutcome (Vouches w t) k s.outcome) i (all_so_get (Vouches w t) 0 w.wire.settled m s t.answers e)
 
-  -- in a `Trusted` world each settlement that isn't excepted is its own, and each request is executed at most once
+  -- `IsVouchedFor` holds in a `Trusted` world
   pub vouched_for : (w : World (ByNumber Asked) State) → Trusted w → IsVouchedFor ends Good kept E M w.wire
   vouched_for w t =
       record {
@@ -187,16 +210,16 @@ module _ {State : Type 0} (width : ℕ) (narrow : width ≤ 7) (knows : Asked �
   trusted_move : (m : Move State) (ms : List (Move State)) (a : World (ById Asked) State) (b : World (ByNumber Asked) State) → Both width narrow ends Good ex kept a b → IsPossible Good kept a m
       → (Plain → AsksOnly knows (m ∷ ms)) → AreOn width ends M (m ∷ ms) b → Sound width ends Good b → Trusted b → Trusted (moves ends (by_numbers width) b m)
   trusted_move (Sends target call deadline) ms a b both p asks on s t =
-      true_requested width narrow knows ends Good kept keeper low E Plain M b target call deadline ((by_numbers width).send b.client target call deadline)
+      vouched_requested width narrow knows ends Good kept keeper low E Plain M b target call deadline ((by_numbers width).send b.client target call deadline)
       (asks_first target call deadline ms asks) refl t
   trusted_move (Tells now) ms a b both p asks on s t = t
-  trusted_move (Comes line) ms a b both p asks on s t = true_down width narrow knows ends Good kept keeper low E Plain M b b.wire.down refl s t
+  trusted_move (Comes line) ms a b both p asks on s t = vouched_down width narrow knows ends Good kept keeper low E Plain M b b.wire.down refl s t
   trusted_move (Foreign line) ms a b both p asks on s t = t
   trusted_move (OnLine step) ms a b both p asks on s t =
-      true_line width narrow knows ends Good kept keeper low E Plain M b step p (λ x rest e q. on [] ms (ap (λ (y : Step). OnLine y ∷ ms) e) x rest q) s t
-  trusted_move Anew ms a b both p asks on s t = true_started width narrow knows ends Good kept keeper low E Plain M b true s.good t
+      vouched_line width narrow knows ends Good kept keeper low E Plain M b step p (λ x rest e q. on [] ms (ap (λ (y : Step). OnLine y ∷ ms) e) x rest q) s t
+  trusted_move Anew ms a b both p asks on s t = vouched_started width narrow knows ends Good kept keeper low E Plain M b true s.good t
   trusted_move (Changes state) ms a b both p asks on s t =
-      true_changed width narrow knows ends Good kept keeper low E Plain M b state (p.1 ∙ ap (λ (w : Wire State). kept w.state) both.agree.wire) t
+      vouched_changed width narrow knows ends Good kept keeper low E Plain M b state (p.1 ∙ ap (λ (w : Wire State). kept w.state) both.agree.wire) t
   trusted_move (Joins line) ms a b both p asks on s t = absurd p
 
   -- moves whose executions are `AreOn` leave a `Trusted` world `Trusted`
@@ -210,15 +233,10 @@ module _ {State : Type 0} (width : ℕ) (narrow : width ≤ 7) (knows : Asked �
 module _ {State : Type 0} (width : ℕ) (narrow : width ≤ 7) (knows : Asked → Bool) (ends : Ends State) (Good : State → Type 0) (ex : IsExchange ends Good)
     (kept : State → Option KeptReply) (keeper : IsAnInstrumentFor ends Good kept knows) (E : ℕ → Type 0) (first : E 0) (M : ℕ → Asked → List ℕ → Type 0) where
   -- `Trusted`, if all requests are known
-  abbrev Trusts : World (ByNumber Asked) State → Type 0
-  Trusts w = Trusted width narrow knows ends Good ex kept keeper 1 E (Unit {0}) M w
+  abbrev TrustedIfKnown : World (ByNumber Asked) State → Type 0
+  TrustedIfKnown w = Trusted width narrow knows ends Good ex kept keeper 1 E (Unit {0}) M w
 
   -- Before the first request reached the instrument, which may keep anything.
-
-  -- how many requests were sent at most: none, or one (true)
-  abbrev pub ones : Bool → ℕ
-  ones false = 0
-  ones true = 1
 
   -- nothing was executed, settled or sent back yet, and at most one request was sent, which is known; none where `out` is false
   pub record IsFresh (b : World (ByNumber Asked) State) (out : Bool) : Type 0 where
@@ -227,7 +245,7 @@ module _ {State : Type 0} (width : ℕ) (narrow : width ≤ 7) (knows : Asked �
     pub down : b.wire.down ≡ []
     pub executed : b.wire.executed ≡ []
     pub settled : b.wire.settled ≡ []
-    pub sent : length b.wire.sent ≤ ones out
+    pub sent : length b.wire.sent ≤ number_of out
     pub lines : Each (IsOf written b.wire.sent) b.wire.up
     pub known : Each (λ (r : Sent). knows r.call ≡ true) b.wire.sent
 
@@ -239,7 +257,8 @@ module _ {State : Type 0} (width : ℕ) (narrow : width ≤ 7) (knows : Asked �
   -- the first request reaches it: from then on what is retained has the id of the last request that it was handed
   module _ (b : World (ByNumber Asked) State) (out : Bool) (s : Sound width ends Good b) (f : IsFresh b out) where
     -- once the first request reached the instrument, the world is `Trusted`
-    fresh_reached : (x : Numbered Request) (rest : List (Numbered Request)) → b.wire.up ≡ x ∷ rest → Trusts (on_wire b (replied b.wire x.number rest (ends.handed b.wire.state x.line.id x.line.call)))
+    fresh_reached : (x : Numbered Request) (rest : List (Numbered Request)) → b.wire.up ≡ x ∷ rest
+        → TrustedIfKnown (on_wire b (replied b.wire x.number rest (ends.handed b.wire.state x.line.id x.line.call)))
     fresh_reached x rest q =
         let v = b.wire in
         let hd = ends.handed v.state x.line.id x.line.call in
@@ -276,7 +295,7 @@ module _ {State : Type 0} (width : ℕ) (narrow : width ≤ 7) (knows : Asked �
         }
       where
         -- a fresh world has sent at most one request
-        below_two : (out : Bool) → length b.wire.sent ≤ ones out → length b.wire.sent ≤ 1
+        below_two : (out : Bool) → length b.wire.sent ≤ number_of out → length b.wire.sent ≤ 1
         below_two true l = l
         below_two false l = omega (arith, l)
 
@@ -286,7 +305,7 @@ module _ {State : Type 0} (width : ℕ) (narrow : width ≤ 7) (knows : Asked �
             ⊎ ((knows x.line.call ≡ false) × (kept (ends.handed b.wire.state x.line.id x.line.call).state ≡ kept b.wire.state))
             → KeepsItsOwn ends Good kept b.wire.state x.line.id x.line.call
         own_kept known (inl own) = own
-        own_kept known (inr third) = absurd (true_is_not (sym known ∙ third.0))
+        own_kept known (inr third) = absurd (true≢false (sym known ∙ third.0))
 
         -- the first request is kept, if the instrument retains its reply to it
         held : (keeps : Asked → Bool) → KeepsItsReply ends Good kept keeps → (t : Bool) → keeps x.line.call ≡ t → IsOf written b.wire.sent x → x.line.id ≡ (0 - b.client.since) % 8
@@ -297,7 +316,7 @@ module _ {State : Type 0} (width : ℕ) (narrow : width ≤ 7) (knows : Asked �
         held keeps k false e o id = inl (o.request, o.found, ap keeps o.call ∙ e)
 
     -- if the front request reaches the instrument, a fresh world becomes `Trusted`; if there is no request, it stays fresh
-    fresh_up : (q : List (Numbered Request)) → b.wire.up ≡ q → (IsFresh (on_wire b (up_delivered ends b.wire q)) out) ⊎ Trusts (on_wire b (up_delivered ends b.wire q))
+    fresh_up : (q : List (Numbered Request)) → b.wire.up ≡ q → (IsFresh (on_wire b (up_delivered ends b.wire q)) out) ⊎ TrustedIfKnown (on_wire b (up_delivered ends b.wire q))
     fresh_up [] q = inl (record { since = f.since; count = f.count; down = f.down; executed = f.executed; settled = f.settled; sent = f.sent; lines = f.lines; known = f.known })
     fresh_up (x ∷ rest) q = inr (fresh_reached x rest q)
 
@@ -312,7 +331,7 @@ module _ {State : Type 0} (width : ℕ) (narrow : width ≤ 7) (knows : Asked �
     fresh_with_down down false l = record { since = f.since; count = f.count; down = f.down; executed = f.executed; settled = f.settled; sent = f.sent; lines = f.lines; known = f.known }
 
     -- over a step of the line a fresh world stays fresh or becomes `Trusted`
-    fresh_line : (step : Step) → IsOfLine step → (IsFresh (happens ends (by_numbers width) b step) out) ⊎ Trusts (happens ends (by_numbers width) b step)
+    fresh_line : (step : Step) → IsLineStep step → (IsFresh (happens ends (by_numbers width) b step) out) ⊎ TrustedIfKnown (happens ends (by_numbers width) b step)
     fresh_line (Send target call deadline) p = absurd p
     fresh_line Up_deliver p = fresh_up b.wire.up refl
     fresh_line (Up_lose k) p = inl (fresh_with_up (without k b.wire.up) (ltb k (length b.wire.up)) (each_without _ k b.wire.up f.lines))
@@ -360,58 +379,34 @@ module _ {State : Type 0} (width : ℕ) (narrow : width ≤ 7) (knows : Asked �
       → IsVouchedFor ends Good kept E M (moved ends (by_numbers width) ms b).wire
   early_all [] out a b h p k l on f =
       record {
-        own = λ m s not e. absurd (none_is_not s (subst (λ (l : List (Settlement Asked)). slice_get l m ≡ Some s) f.settled e));
+        own = λ m s not e. absurd (none-some s (subst (λ (l : List (Settlement Asked)). slice_get l m ≡ Some s) f.settled e));
         order = order_few b.wire.executed (omega (arith, ap (λ (l : List ℕ). length l) f.executed));
         once = λ keeps is.
             acts_once keeps b.wire.sent b.wire.executed b.wire.starts
             (once_few keeps b.wire.sent b.wire.executed b.wire.starts (omega (arith, ap (λ (l : List ℕ). length l) f.executed)));
       }
   early_all (Sends target call deadline ∷ ms) false a b h p k l on f =
-      early_all ms true _ _ (both_move width narrow ends Good ex kept a b (Sends target call deadline) p.0 h) p.1 k.1 l
+      early_all ms true _ _ (both_move width narrow ends Good ex kept a b (Sends target call deadline) p.0 h) p.1 k.1 l.1
       (are_on_behind width ends M (Sends target call deadline) ms b on) (fresh_sent b target call deadline (eqb (length b.client.requests - b.client.count) width) k.0 f)
-  early_all (Sends target call deadline ∷ ms) true a b h p k l on f = absurd l
+  early_all (Sends target call deadline ∷ ms) true a b h p k l on f = absurd (true≢false l.0)
   early_all (Tells now ∷ ms) out a b h p k l on f =
-      early_all ms out _ _ (both_move width narrow ends Good ex kept a b (Tells now) p.0 h) p.1 k (alone_tells out l) (are_on_behind width ends M (Tells now) ms b on)
+      early_all ms out _ _ (both_move width narrow ends Good ex kept a b (Tells now) p.0 h) p.1 k l (are_on_behind width ends M (Tells now) ms b on)
       (record { since = f.since; count = f.count; down = f.down; executed = f.executed; settled = f.settled; sent = f.sent; lines = f.lines; known = f.known })
-    where
-      -- a moment that is read changes nothing in whether the first request is sent alone
-      alone_tells : (out : Bool) → IsFirstAlone out (Tells now ∷ ms) → IsFirstAlone out ms
-      alone_tells true l = l
-      alone_tells false l = l
   early_all (Comes line ∷ ms) out a b h p k l on f = absurd (nothing_down a b out _ p.0.1 h f p.0.2)
-  early_all (Foreign line ∷ ms) out a b h p k l on f = early_all ms out a b h p.1 k (alone_foreign out l) (are_on_behind width ends M (Foreign line) ms b on) f where
-    -- a line without an id changes nothing in whether the first request is sent alone
-    alone_foreign : (out : Bool) → IsFirstAlone out (Foreign line ∷ ms) → IsFirstAlone out ms
-    alone_foreign true l = l
-    alone_foreign false l = l
+  early_all (Foreign line ∷ ms) out a b h p k l on f = early_all ms out a b h p.1 k l (are_on_behind width ends M (Foreign line) ms b on) f
   early_all (OnLine step ∷ ms) out a b h p k l on f =
       let both = both_move width narrow ends Good ex kept a b (OnLine step) p.0 h in
       elim (fresh_line b out h.sound f step p.0) [
-        | inl g ↦ early_all ms out _ _ both p.1 k (alone_line out l) (are_on_behind width ends M (OnLine step) ms b on) g
+        | inl g ↦ early_all ms out _ _ both p.1 k l (are_on_behind width ends M (OnLine step) ms b on) g
         | inr t ↦ (vouched_for width narrow knows ends Good ex kept keeper 1 E (Unit {0}) M (moved ends (by_numbers width) ms (happens ends (by_numbers width) b step))
             (whole_all width narrow knows ends Good ex kept keeper 1 E (Unit {0}) M ms _ _ both p.1 (λ plain. k) (are_on_behind width ends M (OnLine step) ms b on) t))
       ]
-    where
-      -- a step of the line changes nothing in whether the first request is sent alone
-      alone_line : (out : Bool) → IsFirstAlone out (OnLine step ∷ ms) → IsFirstAlone out ms
-      alone_line true l = l
-      alone_line false l = l
   early_all (Anew ∷ ms) out a b h p k l on f =
-      early_all ms out _ _ (both_move width narrow ends Good ex kept a b Anew p.0 h) p.1 k (alone_anew out l) (are_on_behind width ends M Anew ms b on)
+      early_all ms out _ _ (both_move width narrow ends Good ex kept a b Anew p.0 h) p.1 k l (are_on_behind width ends M Anew ms b on)
       (record { since = f.since; count = f.count; down = f.down; executed = f.executed; settled = f.settled; sent = f.sent; lines = f.lines; known = f.known })
-    where
-      -- a start of the instrument changes nothing in whether the first request is sent alone
-      alone_anew : (out : Bool) → IsFirstAlone out (Anew ∷ ms) → IsFirstAlone out ms
-      alone_anew true l = l
-      alone_anew false l = l
   early_all (Changes state ∷ ms) out a b h p k l on f =
-      early_all ms out _ _ (both_move width narrow ends Good ex kept a b (Changes state) p.0 h) p.1 k (alone_changes out l) (are_on_behind width ends M (Changes state) ms b on)
+      early_all ms out _ _ (both_move width narrow ends Good ex kept a b (Changes state) p.0 h) p.1 k l (are_on_behind width ends M (Changes state) ms b on)
       (record { since = f.since; count = f.count; down = f.down; executed = f.executed; settled = f.settled; sent = f.sent; lines = f.lines; known = f.known })
-    where
-      -- a change of the instrument's state changes nothing in whether the first request is sent alone
-      alone_changes : (out : Bool) → IsFirstAlone out (Changes state ∷ ms) → IsFirstAlone out ms
-      alone_changes true l = l
-      alone_changes false l = l
   early_all (Joins line ∷ ms) out a b h p k l on f = absurd p.0
 
   -- moves whose first request is sent alone leave the wire vouched for, from an open world on

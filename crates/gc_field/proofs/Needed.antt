@@ -1,6 +1,6 @@
 -- Each clause on instruments is needed: the instruments and runs of `specs/Needed.antt`, computed.
 use Rattle.std.proofs.Common.{◌≡◌, ℕ, ◌<◌, ◌⊎◌, inl, inr, Bool, true, false, cond, List, [], ◌∷◌, Option, Some, None, refl, ◌∙◌, ap, arith, lit<}
-use Rattle.std.proofs.lemmas.Bool.{eqb-true}
+use Rattle.std.proofs.lemmas.Bool.{eqb-true, true≢false}
 use Rattle.std.specs.Prelude.{nat_eq, slice_get}
 use Rattle.std.specs.Fmt.{decimal, digits}
 use Rattle.gc_lines.specs.Readers.{header_at, reply_at}
@@ -12,29 +12,29 @@ use Rattle.gc_client.specs.Rule.{id_in, heard}
 use Rattle.gc_client.specs.declared.window.TheConstants.{WINDOW}
 use Rattle.gc_instrument.specs.State.{KeptReply}
 use Rattle.gc_world.specs.Order.{Each}
-use Rattle.gc_world.proofs.Options.{some_is}
+use Rattle.std.proofs.lemmas.Option.{same_Some}
 use Rattle.gc_world.proofs.Places.{each_get}
 use Rattle.gc_field.specs.Begin.{none_under_way}
 use Rattle.gc_field.specs.Begun.{IsClean, behind}
 use Rattle.gc_field.specs.Instrument.{IsAnInstrument, AnyState, nothing}
 use Rattle.gc_field.specs.Laws.{WasExecuted}
-use Rattle.gc_field.specs.Needed.{Keeper, IsAllNeeded, InOrder, value, refusal, kept, keeper, held, again_or, refuses_or, answers_in, deals_anew, refuses_raws, sound, forgets, repeated_request}
+use Rattle.gc_field.specs.Needed.{Keeper, IsAllNeeded, IsUnbroken, giving, refusal, kept, keeper, held, again_or, refuses_or, answers_in, deals_anew, refuses_raws, sound, forgets, repeated_request}
 use Rattle.gc_field.specs.Once.{ActsOnce}
 use Rattle.gc_field.specs.World.{Sent}
-use Rattle.gc_field.proofs.Once.{true_is_not}
+use Rattle.gc_field.proofs.Instruments.{keeps_none}
 
 -- where n is held for an id, the reply with that id and n is kept
-pub kept_own : (k : Keeper) (id n : ℕ) → held k id ≡ Some n → kept k ≡ Some (record { id = id; line = value id n })
+pub kept_own : (k : Keeper) (id n : ℕ) → held k id ≡ Some n → kept k ≡ Some (record { id = id; line = giving id n })
 kept_own None id n e = let never : ⊥ = cc in absurd never
 kept_own (Some x) id n e = chosen (nat_eq x.0 id) refl e where
   -- the lemma above, by whether the number is kept with this id (`b`)
-  chosen : (b : Bool) → nat_eq x.0 id ≡ b → cond b (Some x.1) None ≡ Some n → kept (Some x) ≡ Some (record { id = id; line = value id n })
-  chosen true t e = ap (λ i. Some (record { id = i; line = value i x.1 })) (eqb-true x.0 id t) ∙ ap (λ m. Some (record { id = id; line = value id m })) (some_is x.1 n e)
+  chosen : (b : Bool) → nat_eq x.0 id ≡ b → cond b (Some x.1) None ≡ Some n → kept (Some x) ≡ Some (record { id = id; line = giving id n })
+  chosen true t e = ap (λ i. Some (record { id = i; line = giving i x.1 })) (eqb-true x.0 id t) ∙ ap (λ m. Some (record { id = id; line = giving id m })) (same_Some x.1 n e)
   chosen false t e = let never : ⊥ = cc in absurd never
 
 -- a reply that gives a number has its id
-pub reads_value : (id n : ℕ) → id < 8 → heard (value id n) ≡ Some id
-reads_value id n small = ap id_in (reply_back (record { rc_com = 0; id = Some id; rc = 0; params = decimal n }) (record { rc_com = lit< tt; id = small; rc = lit< tt }))
+pub reads_giving : (id n : ℕ) → id < 8 → heard (giving id n) ≡ Some id
+reads_giving id n small = ap id_in (reply_back (record { rc_com = 0; id = Some id; rc = 0; params = decimal n }) (record { rc_com = lit< tt; id = small; rc = lit< tt }))
 
 -- a reply that refuses has its id
 reads_refusal : (id : ℕ) → id < 8 → heard (refusal id) ≡ Some id
@@ -42,13 +42,13 @@ reads_refusal id small = ap id_in (reply_back (record { rc_com = 3081; id = Some
 
 -- the reply of `again_or` has its request's id
 again_reads : (k : Keeper) (id : ℕ) (o : Option ℕ) → id < 8 → heard (again_or id k o).reply ≡ Some id
-again_reads k id (Some n) small = reads_value id n small
-again_reads k id None small = reads_value id 0 small
+again_reads k id (Some n) small = reads_giving id n small
+again_reads k id None small = reads_giving id 0 small
 
 -- a line that `again_or` sends again is the one that it retains
 again_repeats : (k : Keeper) (id : ℕ) (o : Option ℕ) → held k id ≡ o → (again_or id k o).executed ≡ false → kept k ≡ Some (record { id = id; line = (again_or id k o).reply })
 again_repeats k id (Some n) e not = kept_own k id n e
-again_repeats k id None e not = absurd (true_is_not not)
+again_repeats k id None e not = absurd (true≢false not)
 
 -- after a request `again_or` retains its reply to that request
 again_keeps : (k : Keeper) (id : ℕ) (o : Option ℕ) → held k id ≡ o → kept (again_or id k o).state ≡ Some (record { id = id; line = (again_or id k o).reply })
@@ -63,7 +63,7 @@ refuses_reads false k id small = reads_refusal id small
 -- a line that `refuses_or` sends again is the one that it retains
 refuses_repeats : (b : Bool) (k : Keeper) (id : ℕ) → (refuses_or b k id).executed ≡ false → kept k ≡ Some (record { id = id; line = (refuses_or b k id).reply })
 refuses_repeats true k id not = again_repeats k id (held k id) refl not
-refuses_repeats false k id not = absurd (true_is_not not)
+refuses_repeats false k id not = absurd (true≢false not)
 
 -- a number that is above all that were executed wasn't executed
 above : (n : ℕ) (xs : List ℕ) → Each (λ m. m < n) xs → WasExecuted xs n → ⊥
@@ -131,8 +131,8 @@ anew_is : IsAnInstrument deals_anew AnyState kept
 anew_is =
     record {
       hears = λ line. refl;
-      replies = λ k id call good small. reads_value id 0 small;
-      repeats = λ k id call good small not. absurd (true_is_not not);
+      replies = λ k id call good small. reads_giving id 0 small;
+      repeats = λ k id call good small not. absurd (true≢false not);
       keeps = λ k id call good small. inl (inr refl);
       starts = λ k good. inl refl;
       stays_good = λ k id call good small. tt;
@@ -141,29 +141,20 @@ anew_is =
 
 -- `forgets` is an instrument
 forgets_is : IsAnInstrument forgets AnyState nothing
-forgets_is =
-    record {
-      hears = λ line. refl;
-      replies = λ b id call good small. reads_value id 0 small;
-      repeats = λ b id call good small not. absurd (true_is_not not);
-      keeps = λ b id call good small. inl (inl refl);
-      starts = λ b good. inl refl;
-      stays_good = λ b id call good small. tt;
-      starts_good = λ b good. tt;
-    }
+forgets_is = keeps_none Bool forgets (λ line. refl) (λ b id call small. reads_giving id 0 small) (λ b id call. refl)
 
 -- an instrument in order replies with the request's id
-in_order : (b : Bool) (id : ℕ) → InOrder b → id < 8 → heard (answers_in b id b).reply ≡ Some id
-in_order false id good small = reads_value id 0 small
-in_order true id good small = absurd (true_is_not good)
+in_order : (b : Bool) (id : ℕ) → IsUnbroken b → id < 8 → heard (answers_in b id b).reply ≡ Some id
+in_order false id good small = reads_giving id 0 small
+in_order true id good small = absurd (true≢false good)
 
 -- `sound` is an instrument in its good states
-sound_is : IsAnInstrument sound InOrder nothing
+sound_is : IsAnInstrument sound IsUnbroken nothing
 sound_is =
     record {
       hears = λ line. refl;
       replies = λ b id call good small. in_order b id good small;
-      repeats = λ b id call good small not. absurd (true_is_not not);
+      repeats = λ b id call good small not. absurd (true≢false not);
       keeps = λ b id call good small. inl (inl refl);
       starts = λ b good. inl refl;
       stays_good = λ b id call good small. good;
@@ -183,7 +174,7 @@ clean_any : IsClean AnyState nothing (none_under_way false)
 clean_any = record { good = tt; up = tt; down = tt; keeps = none_kept false }
 
 -- with nothing in flight and nothing kept, a synchronization is clean, over an instrument in order
-clean_order : IsClean InOrder nothing (none_under_way false)
+clean_order : IsClean IsUnbroken nothing (none_under_way false)
 clean_order = record { good = refl; up = tt; down = tt; keeps = none_kept false }
 
 -- with nothing in flight, and a `Keeper` that has nothing, a synchronization is clean
@@ -204,8 +195,8 @@ all_needed =
             all_but =
                 record {
                   hears = inl refl;
-                  replies = inr (λ b id call good small. reads_value id 0 small);
-                  repeats = inr (λ b id call good small not. absurd (true_is_not not));
+                  replies = inr (λ b id call good small. reads_giving id 0 small);
+                  repeats = inr (λ b id call good small not. absurd (true≢false not));
                   keeps = inr (λ b id call good small. inl (inl refl));
                   starts = inr (λ b good. inl refl);
                   stays_good = inr (λ b id call good small. tt);
@@ -220,7 +211,7 @@ all_needed =
                 record {
                   hears = inr (λ line. refl);
                   replies = inl refl;
-                  repeats = inr (λ b id call good small not. absurd (true_is_not not));
+                  repeats = inr (λ b id call good small not. absurd (true≢false not));
                   keeps = inr (λ b id call good small. inl (inl refl));
                   starts = inr (λ b good. inl refl);
                   stays_good = inr (λ b id call good small. tt);
@@ -234,7 +225,7 @@ all_needed =
             all_but =
                 record {
                   hears = inr (λ line. refl);
-                  replies = inr (λ b id call good small. reads_value id 0 small);
+                  replies = inr (λ b id call good small. reads_giving id 0 small);
                   repeats = inl refl;
                   keeps = inr (λ b id call good small. inl (inl refl));
                   starts = inr (λ b good. inl refl);
@@ -329,7 +320,7 @@ all_needed =
                 record {
                   hears = inr (λ line. refl);
                   replies = inr (λ b id call good small. in_order b id good small);
-                  repeats = inr (λ b id call good small not. absurd (true_is_not not));
+                  repeats = inr (λ b id call good small not. absurd (true≢false not));
                   keeps = inr (λ b id call good small. inl (inl refl));
                   starts = inr (λ b good. inl refl);
                   stays_good = inl refl;
@@ -344,7 +335,7 @@ all_needed =
                 record {
                   hears = inr (λ line. refl);
                   replies = inr (λ b id call good small. in_order b id good small);
-                  repeats = inr (λ b id call good small not. absurd (true_is_not not));
+                  repeats = inr (λ b id call good small not. absurd (true≢false not));
                   keeps = inr (λ b id call good small. inl (inl refl));
                   starts = inr (λ b good. inl refl);
                   stays_good = inr (λ b id call good small. good);

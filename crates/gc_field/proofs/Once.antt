@@ -2,29 +2,24 @@
 -- the requests to which it retains its reply (`IsClimbing`): it is handed the last request again, which it doesn't execute
 -- then, or a later one.
 use Rattle.std.proofs.Common.{◌≡◌, ℕ, zero, suc, ◌+◌, ◌-◌, ◌%◌, ◌<◌, ◌≤◌, ◌⊎◌, inl, inr, Bool, true, false, List, [], ◌∷◌, ◌++◌, length, Option, Some, None, cond, refl, sym, ◌∙◌, ap, subst, arith, ltb}
-use Rattle.std.proofs.lemmas.Bool.{ltb-true, ltb-false}
+use Rattle.std.proofs.lemmas.Bool.{ltb-true, ltb-false, true≢false}
 use Rattle.std.specs.Prelude.{slice_get}
 use Rattle.gc_catalogue.specs.declared.asked.Asked.{Asked}
 use Rattle.gc_instrument.specs.State.{KeptReply}
 use Rattle.gc_world.specs.Order.{Each}
-use Rattle.gc_world.proofs.Options.{some_is, none_is_not}
+use Rattle.std.proofs.lemmas.Option.{same_Some, none-some, slice_get_within}
 use Rattle.gc_field.specs.World.{Sent}
-use Rattle.gc_world.proofs.Places.{below, each_get, get_more}
+use Rattle.gc_world.proofs.Places.{each_get, get_more}
 use Rattle.gc_world.proofs.Rows.{each_append, each_more}
 use Rattle.gc_field.specs.Once.{HasNoStart, ActsOnce, IsInOrder}
-use Rattle.gc_field.proofs.BeginLists.{each_front}
+use Rattle.gc_field.proofs.BeginLists.{each_front, each_back}
 
 -- Lists.
 
--- what each element has, the last one has
-each_last : {A : Type 0} (P : A → Type 0) (xs : List A) (y : A) → Each P (xs ++ y ∷ []) → P y
-each_last P [] y h = h.0
-each_last P (x ∷ xs) y h = each_last P xs y h.1
-
 -- what is at a place of a list with one element more was at that place before, or is that element
 get_pushed : {A : Type 0} (xs : List A) (x : A) (i : ℕ) (y : A) → slice_get (xs ++ x ∷ []) i ≡ Some y → (slice_get xs i ≡ Some y) ⊎ ((i ≡ length xs) × (x ≡ y))
-get_pushed [] x zero y e = inr (refl, some_is x y e)
-get_pushed [] x (suc i) y e = absurd (none_is_not y e)
+get_pushed [] x zero y e = inr (refl, same_Some x y e)
+get_pushed [] x (suc i) y e = absurd (none-some y e)
 get_pushed (z ∷ xs) x zero y e = inl e
 get_pushed (z ∷ xs) x (suc i) y e =
     elim (get_pushed xs x i y e) [
@@ -46,14 +41,10 @@ IsUnknown knows sent n = (r : Sent) × (slice_get sent n ≡ Some r) × (knows r
 pub unknown_more : (knows : Asked → Bool) (sent more : List Sent) (n : ℕ) → IsUnknown knows sent n → IsUnknown knows (sent ++ more) n
 unknown_more knows sent more n h = (h.0, get_more sent more n h.0 h.1, h.2)
 
--- true isn't false
-pub true_is_not : true ≡ false → ⊥
-true_is_not e = cc
-
 -- a request that is known isn't `IsUnknown`
 pub known_not : (knows : Asked → Bool) (sent : List Sent) (n : ℕ) (r : Sent) → slice_get sent n ≡ Some r → knows r.call ≡ true → IsUnknown knows sent n → ⊥
 known_not knows sent n r found known h =
-    true_is_not (sym known ∙ ap (λ (x : Sent). knows x.call) (some_is r h.0 (sym found ∙ h.1)) ∙ h.2)
+    true≢false (sym known ∙ ap (λ (x : Sent). knows x.call) (same_Some r h.0 (sym found ∙ h.1)) ∙ h.2)
 
 -- what is retained (`k`), if anything, has this id; and if nothing is retained, nothing was executed since the last start
 pub record IsHeld (id : ℕ) (executed starts : List ℕ) (k : Option KeptReply) : Type 0 where
@@ -76,7 +67,7 @@ pub record IsOrdered (top : ℕ) (executed : List ℕ) : Type 0 where
 -- at most one execution is in order
 pub order_few : (executed : List ℕ) → length executed ≤ 1 → IsInOrder executed
 order_few executed few j k m n lt a b =
-    let size : k < length executed = below executed k n b in
+    let size : k < length executed = slice_get_within executed k n b in
     absurd (omega (arith, size, few, lt))
 
 -- `IsOrdered` is preserved where request n is executed, and no request that was sent later was executed before
@@ -84,7 +75,7 @@ pub ordered_acted : (top n : ℕ) (executed : List ℕ) → top ≤ n + 1 → Is
 ordered_acted top n executed le h =
     record {
       order = λ i j x y lt a b. elim (get_pushed executed n j y b) [
-        | inl old ↦ (let size : j < length executed = below executed j y old in
+        | inl old ↦ (let size : j < length executed = slice_get_within executed j y old in
             elim (get_pushed executed n i x a) [
               | inl first ↦ h.order i j x y lt first old
               | inr last ↦ absurd (omega (arith, last.0, lt, size))
@@ -113,7 +104,7 @@ ordered_first n executed acted none nought = subst (λ l. IsOrdered 1 (cond acte
 pub once_few : (knows : Asked → Bool) (sent : List Sent) (executed starts : List ℕ) → length executed ≤ 1 → (i j m n : ℕ) → i < j → HasNoStart starts i j
     → slice_get executed i ≡ Some m → slice_get executed j ≡ Some n → (m < n) ⊎ IsUnknown knows sent n
 once_few knows sent executed starts few i j m n lt run a b =
-    let size : j < length executed = below executed j n b in
+    let size : j < length executed = slice_get_within executed j n b in
     absurd (omega (arith, size, few, lt))
 
 -- `ActsOnce` is what `IsClimbing` says once
@@ -157,7 +148,7 @@ climbing_started knows id top sent executed starts k after now h =
   where
     -- what is retained after the start has the id that what was kept had
     still : IsHeld id executed starts k → (after ≡ None) ⊎ (after ≡ k) → (r : KeptReply) → after ≡ Some r → r.id ≡ id
-    still g (inl none) r e = absurd (none_is_not r (sym none ∙ e))
+    still g (inl none) r e = absurd (none-some r (sym none ∙ e))
     still g (inr same) r e = g.same r (sym same ∙ e)
 
 -- where request n was handed last, it isn't known, or what is retained has its id
@@ -168,8 +159,8 @@ last_of knows new n sent executed starts after r (inl u) =
     inl (subst (λ i. IsUnknown knows sent i) back u)
 last_of knows new n sent executed starts after r (inr kept) =
     inr (record {
-      idle = λ none. absurd (none_is_not r (sym none ∙ kept.0));
-      same = λ y e. ap (λ (x : KeptReply). x.id) (sym (some_is r y (sym kept.0 ∙ e))) ∙ kept.1;
+      idle = λ none. absurd (none-some r (sym none ∙ kept.0));
+      same = λ y e. ap (λ (x : KeptReply). x.id) (sym (same_Some r y (sym kept.0 ∙ e))) ∙ kept.1;
     })
 
 -- `IsClimbing` is preserved where request n, which has the id `new`, is handed to the instrument and isn't executed: it isn't
@@ -187,10 +178,10 @@ climbing_handed knows id new top n sent executed starts k after r le why h =
 -- if nothing was executed since the last start, that start is between an earlier execution, j, and the next one, k: so it can't
 -- be that no start is between them
 never_idle : (executed starts : List ℕ) (j k m : ℕ) → IsIdle executed starts → HasNoStart starts j k → slice_get executed j ≡ Some m → k ≡ length executed → ⊥
-never_idle executed starts j k m (inl none) run a e = none_is_not m (subst (λ l. slice_get l j ≡ Some m) none a)
+never_idle executed starts j k m (inl none) run a e = none-some m (subst (λ l. slice_get l j ≡ Some m) none a)
 never_idle executed starts j k m (inr h) run a e =
-    let size : j < length executed = below executed j m a in
-    elim (each_last (λ s. (s ≤ j) ⊎ (k < s)) h.0 (length executed) (subst (λ l. HasNoStart l j k) h.1 run)) [
+    let size : j < length executed = slice_get_within executed j m a in
+    elim (each_back (λ s. (s ≤ j) ⊎ (k < s)) h.0 (length executed ∷ []) (subst (λ l. HasNoStart l j k) h.1 run)).0 [
       | inl l ↦ omega (arith, l, size)
       | inr l ↦ omega (arith, l, e)
     ]
@@ -203,7 +194,7 @@ pub climbing_acted : (knows : Asked → Bool) (id new top n : ℕ) (sent : List 
 climbing_acted knows id new top n sent executed starts k after r le why h =
     record {
       once = λ i j x y lt run a b. elim (get_pushed executed n j y b) [
-        | inl old ↦ (let size : j < length executed = below executed j y old in
+        | inl old ↦ (let size : j < length executed = slice_get_within executed j y old in
             elim (get_pushed executed n i x a) [
               | inl first ↦ h.once i j x y lt run first old
               | inr last ↦ absurd (omega (arith, last.0, lt, size))

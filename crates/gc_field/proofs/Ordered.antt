@@ -1,16 +1,16 @@
 -- What is sent after an answer is executed after the request that was answered. A *stretch* is a run once it has synchronized:
 -- what is in flight then, and its moves.
-use Rattle.std.proofs.Common.{◌≡◌, ◌⊎◌, inl, inr, ℕ, zero, suc, ◌+◌, ◌<◌, ◌≤◌, List, [], ◌∷◌, ◌++◌, length, Option, Some, refl, sym, ◌∙◌, ap, subst, arith, append_assoc, Bool, true, false, ltb}
+use Rattle.std.proofs.Common.{◌≡◌, ◌⊎◌, inl, inr, ℕ, zero, suc, ◌+◌, ◌<◌, ◌≤◌, List, [], ◌∷◌, ◌++◌, length, Option, Some, refl, sym, ◌∙◌, ap, subst, arith, append_assoc, Bool, true, false, ltb, append-nil}
 use Rattle.std.proofs.lemmas.Bool.{ltb-true, ltb-false}
 use Rattle.std.specs.Prelude.{slice_get}
 use Rattle.std.proofs.lemmas.List.{length-append}
+use Rattle.std.proofs.lemmas.Option.{slice_get_within}
 use Rattle.gc_catalogue.specs.declared.asked.Asked.{Asked}
 use Rattle.gc_client.specs.Rule.{ById, Settlement, Answered}
 use Rattle.gc_instrument.specs.State.{KeptReply}
 use Rattle.gc_world.specs.Clients.{by_ids}
 use Rattle.gc_world.specs.Order.{Each}
 use Rattle.gc_field.specs.World.{Ends, Numbered, Request, Sent, Up_deliver, World}
-use Rattle.gc_world.proofs.Places.{below}
 use Rattle.gc_world.proofs.Rows.{each_more}
 use Rattle.gc_field.specs.Begun.{IsClean, IsSafe, WasMadeOn, behind, ids_begun}
 use Rattle.gc_field.specs.Chains.{AreCalls, IsExecutedAfter}
@@ -20,17 +20,17 @@ use Rattle.gc_field.specs.Once.{ActsOnce, HasNoStart, IsInOrder}
 use Rattle.gc_field.specs.Shown.{Stretch}
 use Rattle.gc_field.proofs.BeginLists.{each_both}
 use Rattle.gc_field.proofs.Between.{IsConsistent, acted, calls_more, did_all, made_both, consistent_all}
-use Rattle.gc_field.proofs.InTime.{front_of, law}
+use Rattle.gc_field.proofs.InTime.{front_of, clean_faithful}
 use Rattle.gc_field.proofs.Possible.{moved_append, possible_behind, possible_front}
 use Rattle.gc_station.proofs.Lists.{fronts, get_behind, get_more}
 
 -- Lists.
 
--- a request among the first of a list is there without those after it
-sent_less : (xs ys : List Sent) (i : ℕ) (r : Sent) → i < length xs → slice_get (xs ++ ys) i ≡ Some r → slice_get xs i ≡ Some r
-sent_less [] ys i r low got = absurd (omega (arith, low))
-sent_less (x ∷ xs) ys zero r low got = got
-sent_less (x ∷ xs) ys (suc i) r low got = sent_less xs ys i r (omega (arith, low)) got
+-- an element of two lists in a row, at a place below the length of the first, is at that place of the first
+pub in_front_at : {A : Type 0} (xs ys : List A) (i : ℕ) (x : A) → i < length xs → slice_get (xs ++ ys) i ≡ Some x → slice_get xs i ≡ Some x
+in_front_at [] ys i x less e = absurd (omega (arith, less))
+in_front_at (y ∷ xs) ys zero x less e = e
+in_front_at (y ∷ xs) ys (suc i) x less e = in_front_at xs ys i x (omega (arith, less)) e
 
 -- what holds of the element at each place holds of each element
 each_at : (P : ℕ → Type 0) (xs : List ℕ) → ((i x : ℕ) → slice_get xs i ≡ Some x → P x) → Each P xs
@@ -59,15 +59,15 @@ module _ (e : List ℕ) (m n : ℕ) (numbers : List ℕ) where
       get_behind (e ++ m ∷ numbers) (n ∷ []) (length e + (1 + length numbers)) 0 (omega (arith, size))
 
   -- the executions between are in order
-  pub in_turn : IsInOrder all → IsInOrder numbers
-  in_turn rises j k x y lt a b = rises (length e + (1 + j)) (length e + (1 + k)) x y (omega (arith, lt)) (at_x j x a) (at_x k y b)
+  pub between_in_order : IsInOrder all → IsInOrder numbers
+  between_in_order rises j k x y lt a b = rises (length e + (1 + j)) (length e + (1 + k)) x y (omega (arith, lt)) (at_x j x a) (at_x k y b)
 
   -- the executions between are of no request before m and of none after n
   pub upto : IsInOrder all → Each (λ x. (m ≤ x) × (x ≤ n)) numbers
   upto rises =
       each_at (λ x. (m ≤ x) × (x ≤ n)) numbers
       (λ i x got.
-      let small : i < length numbers = below numbers i x got in (
+      let small : i < length numbers = slice_get_within numbers i x got in (
         rises (length e) (length e + (1 + i)) m x (omega arith) at_m (at_x i x got),
         rises (length e + (1 + i)) (length e + (1 + length numbers)) x n (omega (arith, small)) (at_x i x got) at_n,
       ))
@@ -79,7 +79,7 @@ module _ (e : List ℕ) (m n : ℕ) (numbers : List ℕ) where
   inside knows sent starts early rises once =
       each_at (λ x. (r : Sent) → slice_get sent x ≡ Some r → knows r.call ≡ true → (m < x) × (x < n)) numbers
       (λ i x got r found known.
-      let small : i < length numbers = below numbers i x got in (
+      let small : i < length numbers = slice_get_within numbers i x got in (
         once (length e) (length e + (1 + i)) m x r (omega arith) (none (length e) (length e + (1 + i)) (omega arith)) at_m (at_x i x got) found known,
         before x r
             (rises (length e + (1 + i)) (length e + (1 + length numbers)) x n (omega (arith, small)) (at_x i x got) at_n)
@@ -125,7 +125,7 @@ module _ {State : Type 0} (ends : Ends State) (Good : State → Type 0) (kept : 
   was_sent n call line h =
       let stands = consistent_all ends Good kept h.front s.from clean (possible_to h.front (OnLine Up_deliver ∷ h.later) h.split) in
       let known = (subst (λ l. Each (λ (x : Numbered Request). (r : _) × (slice_get (at h.front).wire.sent x.number ≡ Some r) × (r.call ≡ x.line.call)) l) h.reaches stands.known).0 in
-      below (at h.front).wire.sent n known.0 known.1
+      slice_get_within (at h.front).wire.sent n known.0 known.1
 
   -- further moves only add to what was sent
   sent_more : (front more later : List (Move State)) → s.moves ≡ (front ++ more) ++ later → (extra : List _) × ((at (front ++ more)).wire.sent ≡ (at front).wire.sent ++ extra)
@@ -179,8 +179,9 @@ module _ {State : Type 0} (ends : Ends State) (Good : State → Type 0) (kept : 
       moved_append 7 ends h.front (OnLine Up_deliver ∷ []) (ids_begun s.from) in
       let whole : (at (h.front ++ OnLine Up_deliver ∷ [])).wire.executed ≡ (e ++ m ∷ did.numbers) ++ n ∷ [] =
       ap (λ (x : World (ById Asked) State). x.wire.executed) behind_last ∙ last.0 ∙ ap (λ l. l ++ n ∷ []) ran in
-      let true_there = law ends Good kept is s.from clean (h.front ++ OnLine Up_deliver ∷ []) (front_of ends Good kept is s.from s.moves (h.front ++ OnLine Up_deliver ∷ []) h.later split_h field) in
-      let grown = sent_more h.front (OnLine Up_deliver ∷ h.later) [] (h.split ∙ sym (nil (h.front ++ OnLine Up_deliver ∷ h.later))) in
+      let law_there = clean_faithful ends Good kept is s.from clean (h.front ++ OnLine Up_deliver ∷ [])
+      (front_of ends Good kept is s.from s.moves (h.front ++ OnLine Up_deliver ∷ []) h.later split_h field) in
+      let grown = sent_more h.front (OnLine Up_deliver ∷ h.later) [] (h.split ∙ sym (append-nil (h.front ++ OnLine Up_deliver ∷ h.later))) in
       let grown_all : (at s.moves).wire.sent ≡ (at h.front).wire.sent ++ grown.0 = ap (λ l. (at l).wire.sent) h.split ∙ grown.1 in
       let asked_there : AreCalls (at h.front).wire.sent did.numbers did.calls = subst (λ (x : World (ById Asked) State). AreCalls x.wire.sent did.numbers did.calls) (sym there) did.asked in
       record {
@@ -190,25 +191,25 @@ module _ {State : Type 0} (ends : Ends State) (Good : State → Type 0) (kept : 
         order = order;
         numbers = did.numbers;
         executed = ran;
-        in_order = in_turn e m n did.numbers (subst IsInOrder whole true_there.in_order);
-        within = upto e m n did.numbers (subst IsInOrder whole true_there.in_order);
+        in_order = between_in_order e m n did.numbers (subst IsInOrder whole law_there.in_order);
+        within = upto e m n did.numbers (subst IsInOrder whole law_there.in_order);
         strictly = λ knows keeps quiet.
             let starts : (at (h.front ++ OnLine Up_deliver ∷ [])).wire.starts ≡ v.wire.starts =
             ap (λ (x : World (ById Asked) State). x.wire.starts) behind_last ∙ last.2 ∙ ap (λ (x : World (ById Asked) State). x.wire.starts) there ∙ did.starts quiet ∙ one.2 in
             let near = sent_more h.front (OnLine Up_deliver ∷ []) h.later split_h in
             let there : List Sent = (at (h.front ++ OnLine Up_deliver ∷ [])).wire.sent in
             let size : n < length (at h.front).wire.sent = was_sent n call_n line_n h in
-            let in_order = subst IsInOrder whole true_there.in_order in
+            let in_order = subst IsInOrder whole law_there.in_order in
             let once : ActsOnce knows there ((e ++ m ∷ did.numbers) ++ n ∷ []) v.wire.starts =
             subst (λ l. ActsOnce knows there l v.wire.starts) whole
-            (subst (λ l. ActsOnce knows there (at (h.front ++ OnLine Up_deliver ∷ [])).wire.executed l) starts (true_there.once knows keeps)) in
+            (subst (λ l. ActsOnce knows there (at (h.front ++ OnLine Up_deliver ∷ [])).wire.executed l) starts (law_there.once knows keeps)) in
             each_both (λ x. (m ≤ x) × (x ≤ n)) (λ x. (r : Sent) → slice_get there x ≡ Some r → knows r.call ≡ true → (m < x) × (x < n))
             (λ x. (r : Sent) → slice_get (at s.moves).wire.sent x ≡ Some r → knows r.call ≡ true → (m < x) × (x < n))
             (λ x in_it strict r found known.
             strict r
             (subst (λ l. slice_get l x ≡ Some r) (sym near.1)
             (get_more (at h.front).wire.sent near.0 x r
-            (sent_less (at h.front).wire.sent grown.0 x r (omega (arith, size, in_it.1)) (subst (λ l. slice_get l x ≡ Some r) grown_all found))))
+            (in_front_at (at h.front).wire.sent grown.0 x r (omega (arith, size, in_it.1)) (subst (λ l. slice_get l x ≡ Some r) grown_all found))))
             known)
             did.numbers (upto e m n did.numbers in_order) (inside e m n did.numbers knows there v.wire.starts stands.begun in_order once);
         calls = did.calls;
@@ -217,18 +218,13 @@ module _ {State : Type 0} (ends : Ends State) (Good : State → Type 0) (kept : 
             ap (λ (x : World (ById Asked) State). apart x.wire.state) there ∙ made_both ends v.wire.state w.wire.state
             (moved ends (by_ids 7 ends) between w).wire.state (call_m ∷ []) did.calls one.1 (did.state still) apart effect has;
       }
-    where
-      -- a list with nothing after it is the same list
-      nil : (ms : List (Move State)) → ms ++ [] ≡ ms
-      nil [] = refl
-      nil (x ∷ ms) = ap (λ l. x ∷ l) (nil ms)
 
-  -- a request that is sent after the answer to another one, and is executed, is executed after the other one
+  -- a request that is sent after the answer to another one, which is `IsSafe`, and is executed, is executed after the other one
   pub executed_behind : (before later : List (Move State)) → s.moves ≡ before ++ later → (m n : ℕ) (x : Settlement Asked) (line_m : List ℕ) → 8 ≤ m
       → IsSafe 7 ends s.from Good kept before m → slice_get (at before).wire.settled m ≡ Some x → x.outcome ≡ Answered line_m
       → length (at before).wire.sent ≤ n → (call : Asked) (line_n : List ℕ) → WasMadeOn 7 ends s.from s.moves n call line_n → IsExecutedAfter ends Good kept s m n x.call call line_m line_n
   executed_behind before later e m n x line_m beyond safe settled answered unsent call line_n h =
-      let f = (law ends Good kept is s.from clean before (front_of ends Good kept is s.from s.moves before later e field)).made_on m x line_m beyond safe settled answered in
+      let f = (clean_faithful ends Good kept is s.from clean before (front_of ends Good kept is s.from s.moves before later e field)).made_on m x line_m beyond safe settled answered in
       let more = behind_front before later e n unsent call line_n h in
       let first : WasMadeOn 7 ends s.from s.moves m x.call line_m = record {
         front = f.front;

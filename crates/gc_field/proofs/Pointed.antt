@@ -1,23 +1,22 @@
 -- Where the telescope pointed when a command of a chain was executed.
-use Rattle.std.proofs.Common.{◌≡◌, ℕ, ◌+◌, ◌-◌, ℤ, pos, ◌<◌, Bool, true, false, cond, if◌then◌else◌, List, [], ◌∷◌, length, map, Option, Some, None, refl, sym, ◌∙◌, ap, subst, arith}
-use Rattle.std.specs.Prelude.{slice_get}
+use Rattle.std.proofs.Common.{◌≡◌, ℕ, ◌+◌, ◌-◌, ℤ, pos, ◌<◌, Bool, true, false, if◌then◌else◌, List, [], ◌∷◌, length, map, Option, Some, None, refl, sym, ◌∙◌, ap, subst, arith}
+use Rattle.std.specs.Prelude.{slice_get, unsigned_abs}
 use Rattle.std.specs.List.{AllByRecursion}
 use Rattle.std.specs.Ordering.{int_eq}
 use Rattle.gc_values.specs.declared.decimal.Decimal.{Decimal}
 use Rattle.gc_catalogue.specs.declared.answer.Answer.{Answer}
-use Rattle.gc_catalogue.specs.declared.answer.Answer.TheVariants.{Nothing}
 use Rattle.gc_catalogue.specs.Asked.{is_of_table}
 use Rattle.gc_catalogue.specs.declared.asked.Asked.{Asked}
 use Rattle.gc_catalogue.specs.declared.asked.Asked.TheVariants.{Table, Raw}
 use Rattle.gc_catalogue.specs.declared.call.Call.{Call}
 use Rattle.gc_catalogue.specs.declared.call.Call.TheVariants as call
 use Rattle.gc_client.specs.OneForOne.{Wanted}
-use Rattle.gc_instrument.specs.Execution.{Executed, exec, done, refused, set_if, distance_outcome, commanded, measured, unmeasured}
+use Rattle.gc_instrument.specs.Execution.{Executed, exec, set_if, distance_outcome, commanded, measured, is_precision, is_date, is_prism}
 use Rattle.gc_instrument.specs.Replying as calls
 use Rattle.gc_instrument.specs.Replying.{Handed, kept_line}
 use Rattle.gc_instrument.specs.State.{State, IsFittingState}
 use Rattle.gc_instrument.proofs.Answering.{handed_again, handed_new}
-use Rattle.gc_instrument.proofs.Keeping.{executes_apart}
+use Rattle.gc_instrument.proofs.Keeping.{commanded_by_tests, executes_apart}
 use Rattle.gc_links.specs.Acts.{Act}
 use Rattle.gc_texts.specs.Stamps.{date_time}
 use Rattle.gc_texts.specs.Tasks.{call_at}
@@ -33,21 +32,21 @@ use Rattle.gc_field.specs.Simulator.{ends, handed}
 use Rattle.gc_world.specs.Order.{Each}
 use Rattle.gc_field.specs.World.{Sent}
 use Rattle.gc_world.proofs.Handing.{bare_after}
-use Rattle.gc_world.proofs.Options.{some_is}
-use Rattle.gc_world.proofs.Places.{below, get_map, in_range}
+use Rattle.std.proofs.lemmas.Option.{same_Some, slice_get_within}
+use Rattle.gc_world.proofs.Places.{get_map, in_range}
 use Rattle.gc_field.specs.Begin.{UnderWay}
 use Rattle.gc_field.specs.Beginnings.{Run}
-use Rattle.gc_field.specs.Chains.{AreCalls, HasNoStartBetween, IsUndisturbed, IsChainedTo, IsExecutedInChain, behind, executing}
+use Rattle.gc_field.specs.Chains.{AreCalls, HasNoStartBetween, IsUndisturbed, IsChainedTo, IsExecutedInChain, stretch_wire, executing}
 use Rattle.gc_field.specs.Field.{Move, Sends, Tells, Comes, Foreign, OnLine, Anew, Changes, Joins}
 use Rattle.gc_field.specs.Laws.{asked, kept_of}
-use Rattle.gc_field.specs.Pointing.{AreStill, IsMeasuredWhereItPointed, IsPointedInChain, SimulatorHasItsEffect, bare, after_call, turns_telescope}
+use Rattle.gc_field.specs.Pointing.{AreStill, IsMeasuredWhereItPointed, IsPointedInChain, SimulatorHasItsEffect, bare, after_call, turns_telescope, PointsAs}
 use Rattle.gc_field.specs.Runs.{IsInField, own_sent, world}
 use Rattle.gc_field.specs.Shown.{Stretch, stretches}
 use Rattle.gc_field.proofs.Chained.{chains_executed, sent_at}
 use Rattle.gc_field.proofs.Instruments.{simulator}
 use Rattle.gc_field.proofs.Joining.{run_faithful}
-use Rattle.gc_field.proofs.Once.{true_is_not}
 use Rattle.gc_station.proofs.Lists.{all_on, get_dropped}
+use Rattle.std.proofs.lemmas.Bool.{true≢false}
 
 -- What executing a call makes of the simulator.
 
@@ -59,7 +58,7 @@ exec_bare s (Raw raw) = refl
 -- if the simulator sends a line again, its state stays as it was
 handed_same : (s : State) (id : ℕ) (c : Call) (o : Option (List ℕ)) → kept_line s.kept (Some id) ≡ o → (calls.handed s id c).executed ≡ false → (calls.handed s id c).state ≡ s
 handed_same s id c (Some line) e not = ap (λ (x : Handed State). x.state) (handed_again s id c line e)
-handed_same s id c None e not = absurd (true_is_not (sym (ap (λ (x : Handed State). x.executed) (handed_new s id c e)) ∙ not))
+handed_same s id c None e not = absurd (true≢false (sym (ap (λ (x : Handed State). x.executed) (handed_new s id c e)) ∙ not))
 
 -- if the simulator executes a request, that has the effect `after_call`
 executes : (s : State) (id : ℕ) (asked : Asked) → (handed s id asked).executed ≡ true → bare (handed s id asked).state ≡ bare (after_call s asked)
@@ -94,53 +93,45 @@ no_start (Joins line ∷ ms) h = absurd h
 
 -- What a call that doesn't turn the telescope leaves.
 
--- the second state points as the first
-abbrev IsSame : State → State → Type 0
-IsSame s t = (t.pointing ≡ s.pointing) × (t.face ≡ s.face)
-
 -- a setting turns no telescope
-set_same : (b : Bool) (s t : State) → IsSame s t → IsSame s (set_if b s t).state
+set_same : (b : Bool) (s t : State) → PointsAs t s → PointsAs (set_if b s t).state s
 set_same true s t h = h
-set_same false s t h = (refl, refl)
+set_same false s t h = record { pointing = refl; face = refl }
 
 -- telling a distance turns no telescope
-told_same : (s : State) (answer_with : Decimal → Answer) (d : Option Decimal) → IsSame s (distance_outcome s answer_with d).state
-told_same s answer_with None = (refl, refl)
-told_same s answer_with (Some d) = (refl, refl)
-
--- what executing a command to measure does: nothing (a), a measurement (b), the last measurement is discarded (c), or a refusal
-abbrev rows : State → Bool → Bool → Bool → Executed
-rows t a b c = cond a (done t Nothing) (cond b (done (measured t) Nothing) (cond c (done (unmeasured t) Nothing) (refused t 2)))
+told_same : (s t : State) (answer_with : Decimal → Answer) (d : Option Decimal) → PointsAs t s → PointsAs (distance_outcome t answer_with d).state s
+told_same s t answer_with None h = h
+told_same s t answer_with (Some d) h = h
 
 -- executing a command to measure turns no telescope
-commanded_same : (s : State) (command : ℤ) → IsSame s (commanded s command).state
+commanded_same : (s : State) (command : ℤ) → PointsAs (commanded s command).state s
 commanded_same s command = by_tests (int_eq command (pos 0)) (int_eq command (pos 1)) (int_eq command (pos 3)) where
-  -- the lemma above, by the tests of `rows`
-  by_tests : (a b c : Bool) → IsSame s (rows s a b c).state
-  by_tests true b c = (refl, refl)
-  by_tests false true c = (refl, refl)
-  by_tests false false true = (refl, refl)
-  by_tests false false false = (refl, refl)
+  -- whichever outcome the three tests of the command choose, it turns no telescope
+  by_tests : (a b c : Bool) → PointsAs (commanded_by_tests s a b c).state s
+  by_tests true b c = record { pointing = refl; face = refl }
+  by_tests false true c = record { pointing = refl; face = refl }
+  by_tests false false true = record { pointing = refl; face = refl }
+  by_tests false false false = record { pointing = refl; face = refl }
 
 -- a call that turns no telescope leaves its direction and its face as they were
-call_same : (s : State) (c : Call) → turns_telescope (Table c) ≡ false → IsSame s (exec s c).state
+call_same : (s : State) (c : Call) → turns_telescope (Table c) ≡ false → PointsAs (exec s c).state s
 unfolding exec
-call_same s (call.SetPrecision n) e = set_same _ s _ (refl, refl)
-call_same s (call.SetDate d) e = set_same _ s _ (refl, refl)
-call_same s (call.SetPrism n) e = set_same _ s _ (refl, refl)
+call_same s (call.SetPrecision n) e = set_same (is_precision n) s (record s { precision = unsigned_abs n }) (record { pointing = refl; face = refl })
+call_same s (call.SetDate d) e = set_same (is_date d) s (record s { date = d }) (record { pointing = refl; face = refl })
+call_same s (call.SetPrism n) e = set_same (is_prism n) s (record s { prism = n }) (record { pointing = refl; face = refl })
 call_same s (call.DoMeasure command mode) e = commanded_same s command
-call_same s (call.SimpleMea wait mode) e = told_same s _ s.distance
-call_same s call.QuickDist e = told_same (measured s) _ (measured s).distance
-call_same s (call.MeasDistance mode) e = told_same (measured s) _ (measured s).distance
+call_same s (call.SimpleMea wait mode) e = told_same s s _ s.distance (record { pointing = refl; face = refl })
+call_same s call.QuickDist e = told_same s (measured s) _ (measured s).distance (record { pointing = refl; face = refl })
+call_same s (call.MeasDistance mode) e = told_same s (measured s) _ (measured s).distance (record { pointing = refl; face = refl })
 call_same s (call.Position hz v pos_mode atr_mode dummy) e = cc
 call_same s (call.ChangeFace pos_mode atr_mode dummy) e = cc
 call_same s (call.FineAdjust area_hz area_v dummy) e = cc
-call_same s c e = (refl, refl)
+call_same s c e = record { pointing = refl; face = refl }
 
 -- a request that turns no telescope leaves its direction and its face as they were
-asked_same : (s : State) (asked : Asked) → turns_telescope asked ≡ false → IsSame s (after_call s asked)
+asked_same : (s : State) (asked : Asked) → turns_telescope asked ≡ false → PointsAs (after_call s asked) s
 asked_same s (Table c) e = call_same s c e
-asked_same s (Raw raw) e = (refl, refl)
+asked_same s (Raw raw) e = record { pointing = refl; face = refl }
 
 -- a request turns no telescope if, should it be a call of the table, it turns none: other requests turn none
 still_table : (asked : Asked) → (is_of_table asked ≡ true → turns_telescope asked ≡ false) → turns_telescope asked ≡ false
@@ -154,12 +145,12 @@ unfolding exec
 position_points s hz v pos_mode atr_mode dummy = (refl, refl)
 
 -- calls that turn no telescope leave its direction and its face as they were
-executing_same : (calls : List Asked) (s : State) → Each (λ x. turns_telescope x ≡ false) calls → IsSame s (executing after_call s calls)
-executing_same [] s h = (refl, refl)
+executing_same : (calls : List Asked) (s : State) → Each (λ x. turns_telescope x ≡ false) calls → PointsAs (executing after_call s calls) s
+executing_same [] s h = record { pointing = refl; face = refl }
 executing_same (x ∷ calls) s h =
     let one = asked_same s x h.0 in
     let others = executing_same calls (after_call s x) h.1 in
-    (others.0 ∙ one.0, others.1 ∙ one.1)
+    record { pointing = others.pointing ∙ one.pointing; face = others.face ∙ one.face }
 
 -- What was executed between.
 
@@ -211,10 +202,10 @@ module _ (plan : Plan) (commands : List Task) (scope : Scope) (acts : List Act) 
     still_at x r above under got =
         let f = run_faithful ends IsFittingState kept_of simulator.instrument plan commands scope acts u rs field in
         let of = sent_at ends commands (parts plan commands scope acts) ss h.i h.part h.stretch f.sent h.of_parts h.of_stretches in
-        let size : h.n < length h.part.marks = below h.part.marks h.n _ h.mark_b in
+        let size : h.n < length h.part.marks = slice_get_within h.part.marks h.n _ h.mark_b in
         let mark = in_range h.part.marks x (omega (arith, under, size)) in
         let y = of_at commands h.part.marks (map asked (own_sent ends h.stretch)) x mark.0 of mark.1 in
-        let same : asked r ≡ y.0 = some_is (asked r) y.0 (sym (get_map asked (own_sent ends h.stretch) x r got) ∙ y.1) in
+        let same : asked r ≡ y.0 = same_Some (asked r) y.0 (sym (get_map asked (own_sent ends h.stretch) x r got) ∙ y.1) in
         still_by x r mark.0 above under mark.1 y.0 same y.2
 
     -- the same by the request's number in the stretch, if the eight null procedures come first
@@ -226,14 +217,14 @@ module _ (plan : Plan) (commands : List Task) (scope : Scope) (acts : List Act) 
     pointed_there : IsUndisturbed h.executed.between → IsMeasuredWhereItPointed scope.reads commands (parts plan commands scope acts) ss (state_after plan commands scope acts).records a b line h
     pointed_there quiet =
         let x = h.executed in
-        let s = (behind ends h.stretch x.first.front).state in
+        let s = (stretch_wire ends h.stretch x.first.front).state in
         let calls = all_still (world ends h.stretch).wire.sent (8 + h.m) (8 + h.n) x.numbers x.calls x.asked
         (x.strictly is_of_table simulator.keeps (no_start x.between quiet)) (λ k r above under got. still_number k r above under got) in
         let there = x.state bare after_call has_effect quiet in
         let t = after_call s h.record_a.command.call in
         let same = executing_same x.calls t calls in
-        let pointing = ap (λ (z : State). z.pointing) there ∙ same.0 in
-        let face = ap (λ (z : State). z.face) there ∙ same.1 in
+        let pointing = ap (λ (z : State). z.pointing) there ∙ same.pointing in
+        let face = ap (λ (z : State). z.face) there ∙ same.face in
         record {
           as_left = record { pointing = pointing; face = face };
           as_commanded = λ hz v pos_mode atr_mode dummy e.

@@ -3,6 +3,7 @@ use Rattle.std.proofs.Common.{◌≡◌, inl, inr, ℕ, ◌+◌, ◌<◌, ◌≤
 use Rattle.std.proofs.lemmas.Bool.{ltb-true, ltb-false}
 use Rattle.std.specs.Prelude.{slice_get}
 use Rattle.std.proofs.lemmas.List.{length-append, length-map, length_push}
+use Rattle.std.proofs.lemmas.Option.{slice_get_within}
 use Rattle.gc_catalogue.specs.Asked.{is_of_table}
 use Rattle.gc_catalogue.specs.declared.asked.Asked.{Asked}
 use Rattle.gc_client.specs.OneForOne as step
@@ -11,14 +12,14 @@ use Rattle.gc_client.specs.Rule.{ById, Outcome, Answered, Late, Lost, Sending, s
 use Rattle.gc_instrument.specs.State.{KeptReply}
 use Rattle.gc_station.specs.Behind.{IsNearTheTable}
 use Rattle.gc_field.specs.World.{Ends}
-use Rattle.gc_world.proofs.Places.{below, in_range}
+use Rattle.gc_world.proofs.Places.{in_range}
 use Rattle.gc_world.proofs.Settled.{of_sent}
 use Rattle.gc_field.specs.Begun.{IsBehindTheTable, IsByReply, WentOutBehindTheTable, behind, nulls, nulls_settled}
 use Rattle.gc_field.specs.Field.{Move, Sends, Tells, Comes, Foreign, OnLine, Anew, Changes, Joins, seen}
 use Rattle.gc_field.specs.Instrument.{IsAnInstrument}
 use Rattle.gc_field.specs.Shown.{Stretch}
 use Rattle.gc_field.proofs.BegunFaithful.{sent_is}
-use Rattle.gc_field.proofs.InTime.{Sound, front_of, throughout}
+use Rattle.gc_field.proofs.InTime.{IsSoundStretch, front_of, throughout}
 use Rattle.gc_station.proofs.Lists.{cons_head, cons_tail, get_behind}
 
 -- The step at which a request is sent.
@@ -138,7 +139,7 @@ by_reply Lost not = not refl
 
 module _ {State : Type 0} (ends : Ends State) (Good : State → Type 0) (kept : State → Option KeptReply) (is : IsAnInstrument ends Good kept) where
   -- before a move of a sound stretch, the requests sent are the eight null procedures and those of the steps that are seen
-  sent_count : (s : Stretch State) → Sound ends Good kept is s → (before after : List (Move State)) → s.moves ≡ before ++ after
+  sent_count : (s : Stretch State) → IsSoundStretch ends Good kept is s → (before after : List (Move State)) → s.moves ≡ before ++ after
       → length (behind 7 ends s.from before).wire.sent ≡ 8 + length (course 7 begun (seen before)).sent
   sent_count s sound before after e =
       let p = front_of ends Good kept is s.from s.moves before after e sound.possible in
@@ -147,7 +148,7 @@ module _ {State : Type 0} (ends : Ends State) (Good : State → Type 0) (kept : 
       sym (length-map w.sent of_sent) ∙ ap length all ∙ length-append (map of_sent nulls) (course 7 begun (seen before)).sent
 
   -- if a request is sent near the table by the steps that were seen, it is sent after the table
-  near_is : (s : Stretch State) → Sound ends Good kept is s → (before after : List (Move State)) → s.moves ≡ before ++ after → IsNearTheTable (course 7 begun (seen before))
+  near_is : (s : Stretch State) → IsSoundStretch ends Good kept is s → (before after : List (Move State)) → s.moves ≡ before ++ after → IsNearTheTable (course 7 begun (seen before))
       → IsBehindTheTable (behind 7 ends s.from before).wire
   near_is s sound before after e near =
       let w = (behind 7 ends s.from before).wire in
@@ -159,7 +160,7 @@ module _ {State : Type 0} (ends : Ends State) (Good : State → Type 0) (kept : 
         | inr h ↦ (
             let got : slice_get w.settled (8 + h.0) ≡ Some h.1 =
             subst (λ l. slice_get l (8 + h.0) ≡ Some h.1) (sym f.settled) (get_behind nulls_settled x.settlements (8 + h.0) h.0 refl ∙ h.2) in
-            let low : 8 + h.0 < length w.settled = below w.settled (8 + h.0) h.1 got in
+            let low : 8 + h.0 < length w.settled = slice_get_within w.settled (8 + h.0) h.1 got in
             let many : length w.settled ≤ length w.sent = f.one_for_one.count in
             let r = in_range w.sent (8 + h.0) (omega (arith, low, many)) in
             let same : h.1.call ≡ r.0.call = (f.one_for_one.same (8 + h.0) h.1 r.0 got r.1).1 in
@@ -168,7 +169,7 @@ module _ {State : Type 0} (ends : Ends State) (Good : State → Type 0) (kept : 
 
   -- if a sound stretch shows steps in which more than n requests are sent, and each send before which n of them were sent is near the
   -- table, request 8 + n of the stretch is sent after the table
-  pub goes_out : (s : Stretch State) → Sound ends Good kept is s → (steps : List (Step Asked)) → seen s.moves ≡ steps → (n : ℕ) → n < length (course 7 begun steps).sent
+  pub goes_out : (s : Stretch State) → IsSoundStretch ends Good kept is s → (steps : List (Step Asked)) → seen s.moves ≡ steps → (n : ℕ) → n < length (course 7 begun steps).sent
       → ((front later : List (Step Asked)) (target : ℕ) (call : Asked) (deadline : ℕ) → steps ≡ front ++ step.Send target call deadline ∷ later → length (course 7 begun front).sent ≡ n
       → IsNearTheTable (course 7 begun front)) → WentOutBehindTheTable 7 ends s.from s.moves (8 + n)
   goes_out s sound steps shown n low near =

@@ -1,5 +1,5 @@
 -- The instrument of a scene is an instrument in the sense of the station's promise.
-use Rattle.std.proofs.Common.{◌≡◌, ◌⊎◌, ℕ, ◌<◌, inl, inr, Bool, true, false, List, [], ◌∷◌, Option, Some, None, cond, refl, sym, ap, subst, lit<}
+use Rattle.std.proofs.Common.{◌≡◌, ◌⊎◌, ℕ, ◌<◌, inl, inr, Bool, true, false, List, [], Option, Some, None, cond, refl, sym, ap, subst, lit<}
 use Rattle.gc_lines.proofs.Written.{reply_back}
 use Rattle.gc_lines.proofs.Requests.{request_found}
 use Rattle.gc_lines.specs.Replies.{ReplyFields, reply_text}
@@ -14,26 +14,20 @@ use Rattle.gc_catalogue.specs.declared.call.Call.{Call}
 use Rattle.gc_catalogue.specs.declared.fault.CallFault.TheVariants.{Unknown}
 use Rattle.gc_catalogue.specs.declared.raw.RawCall.{RawCall}
 use Rattle.gc_client.specs.Rule.{id_in, heard}
-use Rattle.gc_instrument.specs.Replying.{Handed, kept_line, kept_after, refusal_line}
+use Rattle.gc_instrument.specs.Replying.{Handed, kept_after, refusal_line}
 use Rattle.gc_instrument.specs.State.{KeptReply, IsFittingKept, IsFittingReply}
-use Rattle.gc_scenes.proofs.Acted.{outcome_sound}
-use Rattle.gc_scenes.specs.Rules.{fault_of, answer_of, is_due}
+use Rattle.gc_scenes.proofs.Codes.{fault_bound, call_bound}
+use Rattle.gc_scenes.specs.Rules.{fault_of, answer_of}
 use Rattle.gc_scenes.specs.Params.{scripted_params}
-use Rattle.gc_scenes.specs.SceneExecution.{Played, plays, played_call, played_raw, unless_faulted, unless_faulted_raw, scripted, counting}
-use Rattle.gc_scenes.specs.SceneReplying.{IsPlayed, answers, names_call, names_none, Gave, again_for, again_or_played, handed_call, handed_raw, played_or_refused, line_of, kept_behind}
+use Rattle.gc_scenes.specs.SceneExecution.{Played, played_call, played_raw, unless_faulted_raw, scripted, counting}
+use Rattle.gc_scenes.specs.SceneReplying.{IsPlayed, answers, names_call, names_none, Gave, resent_line, again_or_played, handed_call, handed_raw, played_or_refused, played_line, kept_if_repeating}
 use Rattle.gc_scenes.specs.SceneState.{SceneState}
-use Rattle.gc_scenes.specs.declared.rules.Fault.{Fault}
 use Rattle.gc_scenes.specs.declared.rules.Scripted.{Scripted}
 use Rattle.gc_field.specs.Instrument.{KeepsItsOwn}
 use Rattle.gc_field.specs.SceneField.{scene_handed, scene_ends, scene_kept, RetainedReads, ReadsWithItsId, SceneIsAnInstrument}
-use Rattle.gc_field.proofs.Once.{true_is_not}
-use Rattle.gc_field.proofs.Instruments.{kept_own}
-use Rattle.gc_world.proofs.Options.{some_is}
-
--- what is sent again is what is retained
-again_kept : (b : Bool) (k : Option KeptReply) (id : ℕ) (line : List ℕ) → cond b (kept_line k (Some id)) None ≡ Some line → k ≡ Some (record { id = id; line = line })
-again_kept true k id line e = kept_own k id line e
-again_kept false k id line e = let wrong : ⊥ = cc in absurd wrong
+use Rattle.gc_world.proofs.Handing.{again_kept}
+use Rattle.std.proofs.lemmas.Option.{same_Some}
+use Rattle.std.proofs.lemmas.Bool.{true≢false}
 
 -- what the instrument does with a request, of which `known` says whether it is a call of the table, meets the clauses of
 -- `IsAnInstrument`
@@ -44,7 +38,7 @@ record Does (s : SceneState) (id : ℕ) (known : Bool) (h : Handed SceneState) :
   good : ReadsWithItsId s.base.kept → ReadsWithItsId h.state.base.kept
 
 -- a reply's line has its id
-line_heard : (id : ℕ) (p : Played) → id < 8 → p.rc < 65536 → heard (line_of id p) ≡ Some id
+line_heard : (id : ℕ) (p : Played) → id < 8 → p.rc < 65536 → heard (played_line id p) ≡ Some id
 line_heard id p small code = ap id_in (reply_back (record { rc_com = 0; id = Some id; rc = p.rc; params = p.params }) (record { rc_com = lit< tt; id = small; rc = code }))
 
 -- what is retained after a request: its own reply, or nothing
@@ -59,43 +53,27 @@ kept_heard true id line k h = h
 kept_heard false id line k h = tt
 
 -- a request that is played, or answered again by what is retained, meets the clauses
-played_does : (s : SceneState) (id : ℕ) (known : Bool) (p : Played) (o : Option (List ℕ)) → again_for s (Some id) ≡ o → id < 8 → p.rc < 65536 → Does s id known (again_or_played s (Some id) p o)
+played_does : (s : SceneState) (id : ℕ) (known : Bool) (p : Played) (o : Option (List ℕ)) → resent_line s (Some id) ≡ o → id < 8 → p.rc < 65536 → Does s id known (again_or_played s (Some id) p o)
 played_does s id known p (Some line) again small code =
     let kept = again_kept s.repeats s.base.kept id line again in
     record { reads = λ good. subst ReadsWithItsId kept good; repeats = λ _. kept; keeps = inl (inr kept); good = λ good. good }
 played_does s id known p None again small code =
-    let line = line_of id p in
+    let line = played_line id p in
     record {
       reads = λ good. line_heard id p small code;
-      repeats = λ not. absurd (true_is_not not);
+      repeats = λ not. absurd (true≢false not);
       keeps = inl (own_or_none p.state.repeats id line p.state.base.kept);
       good = λ good. kept_heard p.state.repeats id line p.state.base.kept (line_heard id p small code);
     }
 
--- the code of a fault that is due, or else of a later one, is below 65536
-fault_by : (f : Fault) (b : Bool) (later : Option ℕ) (code : ℕ) → (later ≡ Some code → code < 65536) → cond b (Some f.rc) later ≡ Some code → code < 65536
-fault_by f true later code rest e = subst (λ (c : ℕ). c < 65536) (some_is f.rc code e) f.fits
-fault_by f false later code rest e = rest e
-
--- the code of the first fault that is due is below 65536
-fault_bound : (rpc : ℕ) (fs : List Fault) (code : ℕ) → fault_of rpc fs ≡ Some code → code < 65536
-fault_bound rpc [] code e = let wrong : ⊥ = cc in absurd wrong
-fault_bound rpc (f ∷ fs) code e = fault_by f (is_due rpc f) (fault_of rpc fs) code (fault_bound rpc fs code) e
-
--- the code with which a call is answered is below 65536
-call_bound : (s : SceneState) (call : Call) (o : Option ℕ) → ((code : ℕ) → o ≡ Some code → code < 65536) → (unless_faulted s call o).rc < 65536
-unfolding plays
-call_bound s call (Some code) is = is code refl
-call_bound s call None is = (outcome_sound s call).code
-
 -- the code of a reply that the scene gives to a procedure is below 65536
 scripted_bound : (s : SceneState) (a : Option Scripted) (p : Played) → scripted s a ≡ Some p → p.rc < 65536
 scripted_bound s None p e = let wrong : ⊥ = cc in absurd wrong
-scripted_bound s (Some a) p e = subst (λ (q : Played). q.rc < 65536) (some_is {A = Played} (record { state = s; rc = a.rc; params = scripted_params a.with }) p e) a.fits
+scripted_bound s (Some a) p e = subst (λ (q : Played). q.rc < 65536) (same_Some {A = Played} (record { state = s; rc = a.rc; params = scripted_params a.with }) p e) a.fits
 
 -- the code with which a request is answered that is no call of the table is below 65536
 raw_bound : (s : SceneState) (rpc : ℕ) (o : Option ℕ) (p : Played) → ((code : ℕ) → o ≡ Some code → code < 65536) → unless_faulted_raw s rpc o ≡ Some p → p.rc < 65536
-raw_bound s rpc (Some code) p is e = subst (λ (q : Played). q.rc < 65536) (some_is {A = Played} (record { state = s; rc = code; params = [] }) p e) (is code refl)
+raw_bound s rpc (Some code) p is e = subst (λ (q : Played). q.rc < 65536) (same_Some {A = Played} (record { state = s; rc = code; params = [] }) p e) (is code refl)
 raw_bound s rpc None p is e = scripted_bound s (answer_of rpc s.answers) p e
 
 -- a call of the table meets the clauses
@@ -103,14 +81,14 @@ call_does : (s : SceneState) (id : ℕ) (call : Call) → id < 8 → Does s id t
 unfolding handed_call
 call_does s id call small =
     let rpc = (call_fields call).number in
-    played_does s id true (played_call s rpc call) (again_for s (Some id)) refl small (call_bound (counting rpc s) call (fault_of rpc s.faults) (fault_bound rpc s.faults))
+    played_does s id true (played_call s rpc call) (resent_line s (Some id)) refl small (call_bound (counting rpc s) call (fault_of rpc s.faults) (fault_bound rpc s.faults))
 
 -- a request that is no call of the table meets the clauses, whether the scene plays it or it is refused
 raw_by : (s : SceneState) (id rpc : ℕ) (o : Option Played) → id < 8 → ((p : Played) → o ≡ Some p → p.rc < 65536) → Does s id false (played_or_refused s rpc (Some id) o)
-raw_by s id rpc (Some p) small code = played_does s id false p (again_for s (Some id)) refl small (code p refl)
+raw_by s id rpc (Some p) small code = played_does s id false p (resent_line s (Some id)) refl small (code p refl)
 raw_by s id rpc None small code = record {
   reads = λ good. ap id_in (reply_back (record { rc_com = 3081; id = Some id; rc = 0; params = [] }) (record { rc_com = lit< tt; id = small; rc = lit< tt }));
-  repeats = λ not. absurd (true_is_not not);
+  repeats = λ not. absurd (true≢false not);
   keeps = inr (refl, refl);
   good = λ good. good;
 }

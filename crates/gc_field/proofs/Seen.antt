@@ -10,7 +10,7 @@ use Rattle.gc_instrument.specs.State.{KeptReply}
 use Rattle.gc_world.specs.Clients.{by_ids, ids_open}
 use Rattle.gc_field.specs.World.{Request, Numbered, Ends, Step, Send, Up_deliver, Up_lose, Up_repeat, Down_deliver, Down_lose, Down_repeat, Expire, Restart_client, Restart_instrument, Nothing, World, without, doubled, up_delivered, with_up, with_down, on_wire, requested, with_settled, down_delivered, happens}
 use Rattle.gc_world.proofs.Settled.{of_sent}
-use Rattle.gc_field.specs.Field.{Move, Sends, Tells, Comes, Foreign, OnLine, Anew, Changes, Joins, IsOfLine, moved, ArePossible, seen}
+use Rattle.gc_field.specs.Field.{Move, Sends, Tells, Comes, Foreign, OnLine, Anew, Changes, Joins, IsLineStep, moved, ArePossible, seen}
 
 module _ {State : Type 0} (width : ℕ) (ends : Ends State) (same_heard : (line : List ℕ) → ends.heard line ≡ heard line) (Good : State → Type 0) (kept : State → Option KeptReply) where
   -- the course of a client and the world have the same requests, settlements and client
@@ -71,7 +71,7 @@ module _ {State : Type 0} (width : ℕ) (ends : Ends State) (same_heard : (line 
   same_with_down x w q false h = record { sent = h.sent; settled = h.settled; client = h.client }
 
   -- `SameAs` is preserved by a step of the line
-  same_line : (x : Course Asked) (w : World (ById Asked) State) (step : Step) → IsOfLine step → SameAs x w → SameAs x (happens ends (by_ids width ends) w step)
+  same_line : (x : Course Asked) (w : World (ById Asked) State) (step : Step) → IsLineStep step → SameAs x w → SameAs x (happens ends (by_ids width ends) w step)
   same_line x w (Send target call deadline) p h = absurd p
   same_line x w Up_deliver p h = same_up x w w.wire.up h
   same_line x w (Up_lose k) p h = same_with_up x w (without k w.wire.up) (ltb k (length w.wire.up)) h

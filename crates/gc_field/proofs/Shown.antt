@@ -11,9 +11,9 @@ use Rattle.gc_field.specs.Shown.{first_heard, shown, shows}
 -- turns leave of the word what the lines leave that they show
 module _ {State : Type 0} (ends : Ends State) where
   -- a null procedure that is sent changes nothing in what is left of the word
-  left_asks : (s : Model State) (word : List ℕ) → s.left ≡ word → (asks s word).left ≡ s.left
-  left_asks s [] e = refl
-  left_asks s (asked ∷ rest) e = refl
+  left_asks : (s : Model State) (word : List ℕ) → (asks s word).left ≡ s.left
+  left_asks s [] = refl
+  left_asks s (asked ∷ rest) = refl
 
   -- a reply that comes leaves of the word what its line leaves
   left_comes : (s : Model State) (q : List (InFlight (List ℕ))) → (comes s q).left ≡ unanswered_after s.left (heard_in (first_heard q))
@@ -21,13 +21,13 @@ module _ {State : Type 0} (ends : Ends State) where
   left_comes s (x ∷ rest) = refl
 
   -- a request that reaches the instrument changes nothing in what is left of the word
-  left_reaches : (s : Model State) (q : List _) → (reaches ends s q).left ≡ s.left
+  pub left_reaches : (s : Model State) (q : List _) → (reaches ends s q).left ≡ s.left
   left_reaches s [] = refl
   left_reaches s (x ∷ rest) = refl
 
   -- a turn leaves of the word what the line that it shows to the station, if it shows one, leaves of it
   left_turn : (s : Model State) (t : Turn State) → (turns ends s t).left ≡ unanswered_after s.left (heard_in (shows s t))
-  left_turn s Asks = left_asks s s.left refl
+  left_turn s Asks = left_asks s s.left
   left_turn s Comes = left_comes s s.down
   left_turn s (Foreign line) = refl
   left_turn s Reaches = left_reaches s s.up

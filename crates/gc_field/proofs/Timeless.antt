@@ -12,6 +12,18 @@ use Rattle.gc_field.specs.World.{Ends}
 use Rattle.gc_field.specs.Runs.{HasExecution, IsItsOwn, IsOwnAnswer, LateHasExecution}
 use Rattle.gc_field.specs.Shown.{Stretch}
 
+-- `P`, which a record says of the parts and the stretches of a run, *lasts*: it holds with one more part and one more stretch
+-- before them too, and whatever the moment at which the record was recorded
+pub record IsLasting {State : Type 0} (P : List Part → List (Stretch State) → Record → Type 0) : Type 0 where
+  pub later : (p : Part) (s : Stretch State) (ps : List Part) (ss : List (Stretch State)) (r : Record) → P ps ss r → P (p ∷ ps) (s ∷ ss) r
+  pub any_moment : (ps : List Part) (ss : List (Stretch State)) (r : Record) → P ps ss (timeless r) → P ps ss r
+
+-- what lasts doesn't depend on the moments at which records were recorded
+pub all_timeless : {State : Type 0} (P : List Part → List (Stretch State) → Record → Type 0) → IsLasting P → (ps : List Part) (ss : List (Stretch State)) (rs : List Record)
+    → AllByRecursion (P ps ss) (map timeless rs) → AllByRecursion (P ps ss) rs
+all_timeless P lasts ps ss [] h = tt
+all_timeless P lasts ps ss (r ∷ rs) h = (lasts.any_moment ps ss r h.0, all_timeless P lasts ps ss rs h.1)
+
 module _ {State : Type 0} (ends : Ends State) (Good : State → Type 0) (kept : State → Option KeptReply) where
   -- an answer that is its own in a run with the parts `ps` and the stretches `ss` is its own in a run with the parts `qs` and the
   -- stretches `ts` where its part and its stretch are at place k, whatever the moment (`utc`) at which it was recorded
@@ -39,28 +51,6 @@ module _ {State : Type 0} (ends : Ends State) (Good : State → Type 0) (kept : 
     made_on = h.made_on;
   }
 
-  -- an answer that is its own in the later stretches is its own in these with one more before it
-  own_later : (commands : List Task) (p : Part) (s : Stretch State) (ps : List Part) (ss : List (Stretch State)) (r : Record) (line : List ℕ)
-      → IsItsOwn ends Good kept commands ps ss r line → IsItsOwn ends Good kept commands (p ∷ ps) (s ∷ ss) r line
-  own_later commands p s ps ss r line h = own_moved commands ps (p ∷ ps) ss (s ∷ ss) r r.utc line h (suc h.k) h.of_parts h.of_stretches
-
-  -- whether an answer is its own doesn't depend on the moment at which it was recorded
-  own_timeless : (commands : List Task) (ps : List Part) (ss : List (Stretch State)) (r : Record) (line : List ℕ)
-      → IsItsOwn ends Good kept commands ps ss (timeless r) line → IsItsOwn ends Good kept commands ps ss r line
-  own_timeless commands ps ss r line h = own_moved commands ps ps ss ss r 0 line h h.k h.of_parts h.of_stretches
-
-  -- whether answers are their own doesn't depend on the moments at which they were recorded
-  pub all_timeless : (commands : List Task) (ps : List Part) (ss : List (Stretch State)) (rs : List Record)
-      → AllByRecursion (IsOwnAnswer ends Good kept commands ps ss) (map timeless rs) → AllByRecursion (IsOwnAnswer ends Good kept commands ps ss) rs
-  all_timeless commands ps ss [] h = tt
-  all_timeless commands ps ss (r ∷ rs) h = (λ line answered. own_timeless commands ps ss r line (h.0 line answered), all_timeless commands ps ss rs h.1)
-
-  -- answers that are their own in the later stretches are their own in these with one more before it
-  pub all_later : (commands : List Task) (p : Part) (s : Stretch State) (ps : List Part) (ss : List (Stretch State)) (rs : List Record)
-      → AllByRecursion (IsOwnAnswer ends Good kept commands ps ss) rs → AllByRecursion (IsOwnAnswer ends Good kept commands (p ∷ ps) (s ∷ ss)) rs
-  all_later commands p s ps ss [] h = tt
-  all_later commands p s ps ss (r ∷ rs) h = (λ line answered. own_later commands p s ps ss r line (h.0 line answered), all_later commands p s ps ss rs h.1)
-
   -- if the command of a late record was executed in a run with the parts `ps` and the stretches `ss`, it was executed in a run
   -- with the parts `qs` and the stretches `ts` where its part and its stretch are at place k, whatever the moment (`utc`) at which
   -- it was recorded
@@ -82,22 +72,16 @@ module _ {State : Type 0} (ends : Ends State) (Good : State → Type 0) (kept : 
     made_on = h.made_on;
   }
 
-  -- if a late record's command was executed in the later stretches, it was in these stretches with one more before it
-  late_later : (commands : List Task) (p : Part) (s : Stretch State) (ps : List Part) (ss : List (Stretch State)) (r : Record)
-      → LateHasExecution ends Good kept commands ps ss r → LateHasExecution ends Good kept commands (p ∷ ps) (s ∷ ss) r
-  late_later commands p s ps ss r f = λ late. let h = f late in late_moved commands ps (p ∷ ps) ss (s ∷ ss) r r.utc h (suc h.k) h.of_parts h.of_stretches
+  -- that an answer is its own lasts
+  pub own_lasts : (commands : List Task) → IsLasting (IsOwnAnswer ends Good kept commands)
+  own_lasts commands = record {
+    later = λ p s ps ss r own line answered. let h = own line answered in own_moved commands ps (p ∷ ps) ss (s ∷ ss) r r.utc line h (suc h.k) h.of_parts h.of_stretches;
+    any_moment = λ ps ss r own line answered. let h = own line answered in own_moved commands ps ps ss ss r 0 line h h.k h.of_parts h.of_stretches;
+  }
 
-  -- if all late records' commands were executed in the later stretches, they were in these stretches with one more before it
-  pub late_all_later : (commands : List Task) (p : Part) (s : Stretch State) (ps : List Part) (ss : List (Stretch State)) (rs : List Record)
-      → AllByRecursion (LateHasExecution ends Good kept commands ps ss) rs → AllByRecursion (LateHasExecution ends Good kept commands (p ∷ ps) (s ∷ ss)) rs
-  late_all_later commands p s ps ss [] h = tt
-  late_all_later commands p s ps ss (r ∷ rs) h = (late_later commands p s ps ss r h.0, late_all_later commands p s ps ss rs h.1)
-
-  -- whether late records' commands were executed doesn't depend on the moments at which they were recorded
-  pub late_timeless : (commands : List Task) (ps : List Part) (ss : List (Stretch State)) (rs : List Record)
-      → AllByRecursion (LateHasExecution ends Good kept commands ps ss) (map timeless rs) → AllByRecursion (LateHasExecution ends Good kept commands ps ss) rs
-  late_timeless commands ps ss [] h = tt
-  late_timeless commands ps ss (r ∷ rs) h = (
-    λ late. let g = h.0 late in late_moved commands ps ps ss ss r 0 g g.k g.of_parts g.of_stretches,
-    late_timeless commands ps ss rs h.1,
-  )
+  -- that a late record's command was executed lasts
+  pub late_lasts : (commands : List Task) → IsLasting (LateHasExecution ends Good kept commands)
+  late_lasts commands = record {
+    later = λ p s ps ss r executed late. let h = executed late in late_moved commands ps (p ∷ ps) ss (s ∷ ss) r r.utc h (suc h.k) h.of_parts h.of_stretches;
+    any_moment = λ ps ss r executed late. let h = executed late in late_moved commands ps ps ss ss r 0 h h.k h.of_parts h.of_stretches;
+  }

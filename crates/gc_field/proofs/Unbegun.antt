@@ -1,12 +1,12 @@
 -- Right after a synchronization, before any move, `IsFaithful` holds, whatever is in flight.
 use Rattle.std.proofs.Common.{◌≡◌, ℕ, ◌<◌, ◌≤◌, List, [], ◌∷◌, Option, Some, refl, ap, arith}
 use Rattle.std.specs.Prelude.{slice_get}
+use Rattle.std.proofs.lemmas.Option.{slice_get_within}
 use Rattle.gc_catalogue.specs.declared.asked.Asked.{Asked}
 use Rattle.gc_client.specs.Rule.{Settlement}
 use Rattle.gc_instrument.specs.State.{KeptReply}
 use Rattle.gc_station.proofs.Lists.{cons_head}
 use Rattle.gc_field.specs.World.{Ends, Numbered}
-use Rattle.gc_world.proofs.Places.{below}
 use Rattle.gc_world.proofs.Settled as settled
 use Rattle.gc_field.specs.Begin.{UnderWay}
 use Rattle.gc_field.specs.Begun.{IsFaithful, nulls, nulls_settled}
@@ -14,7 +14,7 @@ use Rattle.gc_field.proofs.BegunFaithful.{none_at, of_last}
 
 -- right after a synchronization no settlement has a number from 8 on
 none_own : (m : ℕ) (s : Settlement Asked) → 8 ≤ m → slice_get nulls_settled m ≡ Some s → ⊥
-none_own m s ge e = let low : m < 8 = below nulls_settled m s e in omega (arith, low, ge)
+none_own m s ge e = let low : m < 8 = slice_get_within nulls_settled m s e in omega (arith, low, ge)
 
 -- right after a synchronization no reply in flight belongs to a request from 8 on
 of_seven : (xs : List (List ℕ)) (n : ℕ) (line : List ℕ) (rest : List (Numbered (List ℕ))) → of_last xs ≡ record { number = n; line = line } ∷ rest → 8 ≤ n → ⊥

@@ -5,7 +5,7 @@
 -- names, or to a later one. `AllVouched` is the invariant: each reply in flight, the retained one and each answer was made so.
 use Rattle.std.proofs.Common.{◌≡◌, ℕ, ◌+◌, ◌-◌, ◌%◌, ◌<◌, ◌≤◌, ◌⊎◌, inl, inr, Bool, true, false, List, [], ◌∷◌, ◌++◌, length, drop, Option, Some, None, refl, sym, ◌∙◌, ap, subst, arith, ltb, eqb}
 use Rattle.std.proofs.lemmas.List.{length_push}
-use Rattle.std.proofs.lemmas.Bool.{ltb-false}
+use Rattle.std.proofs.lemmas.Bool.{ltb-false, true≢false}
 use Rattle.gc_catalogue.specs.declared.asked.Asked.{Asked}
 use Rattle.gc_catalogue.specs.Asked.{asked_line}
 use Rattle.gc_client.specs.Rule.{Settlement, Sending, pending_of}
@@ -15,17 +15,18 @@ use Rattle.gc_world.specs.Clients.{ByNumber, number_send, number_reply, by_numbe
 use Rattle.gc_world.specs.Order.{Each, Rising, numbers}
 use Rattle.gc_field.specs.World.{Request, Sent, Numbered, Ends, Step, Send, Up_deliver, Up_lose, Up_repeat, Down_deliver, Down_lose, Down_repeat, Expire, Restart_client, Restart_instrument, Nothing, World, without, doubled, idle, replied, up_delivered, with_up, with_down, started, on_wire, requested, with_settled, down_delivered, happens, written}
 use Rattle.gc_world.proofs.Booked.{Has, has_more, has_push}
-use Rattle.gc_world.proofs.Options.{some_is, none_is_not}
+use Rattle.std.proofs.lemmas.Option.{same_Some, none-some}
 use Rattle.gc_world.proofs.Places.{get_more, get_push, each_get}
 use Rattle.gc_world.proofs.Replay.{IsOf, of_more}
 use Rattle.gc_world.proofs.Rows.{each_append, each_more, each_without, each_doubled}
 use Rattle.gc_world.proofs.Sound.{IsGoing, Sound}
-use Rattle.gc_field.specs.Field.{IsOfLine}
+use Rattle.gc_field.specs.Field.{IsLineStep}
 use Rattle.gc_field.specs.Instrument.{IsAnInstrumentFor, KeepsItsReply}
 use Rattle.gc_field.proofs.Answered.{HoldsOfAll, all_so_more, all_so_append, all_so_settle}
-use Rattle.gc_field.proofs.Once.{IsClimbing, IsIdle, IsOrdered, IsUnknown, climbing_started, climbing_acted, climbing_handed, climbing_sent, known_not, ordered_acted, ordered_handed, unknown_more, why_acted, true_is_not}
-use Rattle.gc_field.proofs.KeptReplies.{rising_each, rising_tail, KeptIs, kept_more, kept_still, newest, newest_up, newest_low, IsDealt, newest_dealt, kept_handed, IsVouched, IsOn}
+use Rattle.gc_field.proofs.Once.{IsClimbing, IsIdle, IsOrdered, IsUnknown, climbing_started, climbing_acted, climbing_handed, climbing_sent, known_not, ordered_acted, ordered_handed, unknown_more, why_acted}
+use Rattle.gc_field.proofs.KeptReplies.{KeptIs, kept_more, kept_still, newest, newest_up, newest_low, IsDealt, newest_dealt, kept_handed, IsVouched, IsOn}
 use Rattle.gc_field.proofs.NearTable.{IsNear, near_same, near_on, near_of}
+use Rattle.gc_world.proofs.Once.{rising_each, rising_tail}
 
 module _ {State : Type 0} (width : ℕ) (narrow : width ≤ 7) (knows : Asked → Bool) (ends : Ends State) (Good : State → Type 0)
     (kept : State → Option KeptReply) (keeper : IsAnInstrumentFor ends Good kept knows) (low : ℕ) (E : ℕ → Type 0) (Plain : Type 0) (M : ℕ → Asked → List ℕ → Type 0) where
@@ -34,9 +35,9 @@ module _ {State : Type 0} (width : ℕ) (narrow : width ≤ 7) (knows : Asked �
   Vouched sent executed made table n line = IsDealt knows sent table n × (E n ⊎ IsVouched ends Good M sent executed made n line)
 
   -- a line stays vouched for where further requests are sent
-  vouched_sent : (sent more : List Sent) (executed : List ℕ) (made : List (Numbered (List ℕ))) (table n : ℕ) (line : List ℕ)
+  stays_sent : (sent more : List Sent) (executed : List ℕ) (made : List (Numbered (List ℕ))) (table n : ℕ) (line : List ℕ)
       → Vouched sent executed made table n line → Vouched (sent ++ more) executed made table n line
-  vouched_sent sent more executed made table n line h = (dealt h.0, own h.1) where
+  stays_sent sent more executed made table n line h = (dealt h.0, own h.1) where
     -- request n stays `IsDealt` where more requests are sent
     dealt : IsDealt knows sent table n → IsDealt knows (sent ++ more) table n
     dealt (inl l) = inl l
@@ -48,9 +49,9 @@ module _ {State : Type 0} (width : ℕ) (narrow : width ≤ 7) (knows : Asked �
     own (inr v) = inr (record { among = v.among; acted = v.acted; request = v.request; found = get_more sent more n v.request v.found; reply = v.reply; on = v.on })
 
   -- a line stays vouched for where further requests are handed to the instrument
-  vouched_on : (sent : List Sent) (executed after : List ℕ) (made more : List (Numbered (List ℕ))) (table next n : ℕ) (line : List ℕ) → ((i : ℕ) → Has i executed → Has i after)
+  stays_on : (sent : List Sent) (executed after : List ℕ) (made more : List (Numbered (List ℕ))) (table next n : ℕ) (line : List ℕ) → ((i : ℕ) → Has i executed → Has i after)
       → table ≤ next → Vouched sent executed made table n line → Vouched sent after (made ++ more) next n line
-  vouched_on sent executed after made more table next n line lasts le h = (dealt h.0, own h.1) where
+  stays_on sent executed after made more table next n line lasts le h = (dealt h.0, own h.1) where
     -- request n stays `IsDealt` where a later request is the newest known one
     dealt : IsDealt knows sent table n → IsDealt knows sent next n
     dealt (inl l) = inl (omega (arith, l, le))
@@ -88,16 +89,16 @@ module _ {State : Type 0} (width : ℕ) (narrow : width ≤ 7) (knows : Asked �
   AllVouched w = AllVouchedIn w.client.since w.client.count w.wire.sent w.wire.executed w.wire.starts w.wire.made w.wire.settled w.wire.up w.wire.down (kept w.wire.state)
 
   -- `AllVouchedIn` is preserved if a request is sent, which is known if all have to be
-  true_sent : (since count : ℕ) (sent : List Sent) (executed starts : List ℕ) (made : List (Numbered (List ℕ))) (settled : List (Settlement Asked))
+  vouched_sent : (since count : ℕ) (sent : List Sent) (executed starts : List ℕ) (made : List (Numbered (List ℕ))) (settled : List (Settlement Asked))
       (up : List (Numbered Request)) (down : List (Numbered (List ℕ))) (k : Option KeptReply) (target id : ℕ) (call : Asked) → id < 8 → (Plain → knows call ≡ true)
       → AllVouchedIn since count sent executed starts made settled up down k
       → AllVouchedIn since count (sent ++ record { target = target; call = call; line = asked_line (Some id) call } ∷ []) executed starts made settled
       (up ++ record { number = length sent; line = record { id = id; call = call } } ∷ []) down k
-  true_sent since count sent executed starts made settled up down k target id call digit plain h =
+  vouched_sent since count sent executed starts made settled up down k target id call digit plain h =
       let r : Sent = record { target = target; call = call; line = asked_line (Some id) call } in
       let P = Vouched sent executed made h.table in
       let Q = Vouched (sent ++ r ∷ []) executed made h.table in
-      let f = vouched_sent sent (r ∷ []) executed made h.table in
+      let f = stays_sent sent (r ∷ []) executed made h.table in
       record {
         top = h.top;
         table = h.table;
@@ -122,18 +123,18 @@ module _ {State : Type 0} (width : ℕ) (narrow : width ≤ 7) (knows : Asked �
       near_sent r plain (inr n) = inr n
 
   -- `AllVouched` is preserved if the client sends a request
-  true_send : (w : World (ByNumber Asked) State) (target : ℕ) (call : Asked) (deadline : ℕ) (full : Bool) (x : Sending (ByNumber Asked)) → (Plain → knows call ≡ true)
+  vouched_send : (w : World (ByNumber Asked) State) (target : ℕ) (call : Asked) (deadline : ℕ) (full : Bool) (x : Sending (ByNumber Asked)) → (Plain → knows call ≡ true)
       → number_send w.client target call deadline full ≡ Some x → AllVouched w → AllVouched (requested w target call (Some x))
-  true_send w target call deadline true x plain e h = cc
-  true_send w target call deadline false x plain e h =
+  vouched_send w target call deadline true x plain e h = cc
+  vouched_send w target call deadline false x plain e h =
       let c = w.client in
       let id = (length c.requests - c.since) % 8 in
       let y : Sending (ByNumber Asked) = record { id = id; client = record { count = c.count; requests = c.requests ++ pending_of target call deadline ∷ []; since = c.since } } in
-      subst (λ z. AllVouched (requested w target call (Some z))) (some_is y x e)
-      (true_sent c.since c.count w.wire.sent w.wire.executed w.wire.starts w.wire.made w.wire.settled w.wire.up w.wire.down (kept w.wire.state) target id call (omega arith) plain h)
+      subst (λ z. AllVouched (requested w target call (Some z))) (same_Some y x e)
+      (vouched_sent c.since c.count w.wire.sent w.wire.executed w.wire.starts w.wire.made w.wire.settled w.wire.up w.wire.down (kept w.wire.state) target id call (omega arith) plain h)
 
   -- what `AllVouched` says of the front request, x
-  record IsFront (w : World (ByNumber Asked) State) (h : AllVouched w) (x : Numbered Request) (known : Bool) : Type 0 where
+  record FrontIs (w : World (ByNumber Asked) State) (h : AllVouched w) (x : Numbered Request) (known : Bool) : Type 0 where
     recent : w.client.since ≤ x.number
     sent : x.number < length w.wire.sent
     id : x.line.id ≡ (x.number - w.client.since) % 8
@@ -145,9 +146,9 @@ module _ {State : Type 0} (width : ℕ) (narrow : width ≤ 7) (knows : Asked �
     unknown : (known ≡ false) → IsUnknown knows w.wire.sent x.number
     all : Each (λ (r : Sent). knows r.call ≡ true) w.wire.sent → known ≡ true
 
-  -- the front request of the requests in flight is as `IsFront` says
+  -- the front request of the requests in flight is as `FrontIs` says
   front_is : (w : World (ByNumber Asked) State) (x : Numbered Request) (rest : List (Numbered Request)) (known : Bool) → w.wire.up ≡ x ∷ rest → knows x.line.call ≡ known → Sound width ends Good w
-      → (h : AllVouched w) → IsFront w h x known
+      → (h : AllVouched w) → FrontIs w h x known
   front_is w x rest known q is s h =
       let c = w.client in
       let g = (subst (λ l. Each (IsGoing c.since (length c.requests)) l) q s.going).0 in
@@ -168,15 +169,15 @@ module _ {State : Type 0} (width : ℕ) (narrow : width ≤ 7) (knows : Asked �
 
   -- `AllVouchedIn` is preserved if the front request, x, is handed to the instrument, if what it sends is vouched for, and the
   -- executions are in order and act once
-  true_on : (w : World (ByNumber Asked) State) (x : Numbered Request) (rest : List (Numbered Request)) (known : Bool) (line executed : List ℕ) (after : Option KeptReply) → w.wire.up ≡ x ∷ rest
-      → (h : AllVouched w) → IsFront w h x known → Sound width ends Good w → ((i : ℕ) → Has i w.wire.executed → Has i executed)
+  vouched_on : (w : World (ByNumber Asked) State) (x : Numbered Request) (rest : List (Numbered Request)) (known : Bool) (line executed : List ℕ) (after : Option KeptReply) → w.wire.up ≡ x ∷ rest
+      → (h : AllVouched w) → FrontIs w h x known → Sound width ends Good w → ((i : ℕ) → Has i w.wire.executed → Has i executed)
       → ((after ≡ None) ⊎ (after ≡ Some (record { id = x.line.id; line = line }))) ⊎ ((known ≡ false) × (after ≡ kept w.wire.state))
       → E x.number ⊎ IsVouched ends Good M w.wire.sent executed (w.wire.made ++ record { number = x.number; line = line } ∷ []) x.number line
       → IsOrdered (x.number + 1) executed
       → ((keeps : Asked → Bool) → KeepsItsReply ends Good kept keeps → IsClimbing keeps ((x.number + 1 - 1 - w.client.since) % 8) (x.number + 1) w.wire.sent executed w.wire.starts after)
       → AllVouchedIn w.client.since w.client.count w.wire.sent executed w.wire.starts (w.wire.made ++ record { number = x.number; line = line } ∷ []) w.wire.settled rest
       (w.wire.down ++ record { number = x.number; line = line } ∷ []) after
-  true_on w x rest known line executed after q h front s lasts now new order once =
+  vouched_on w x rest known line executed after q h front s lasts now new order once =
       let c = w.client in
       let v = w.wire in
       let n = x.number in
@@ -185,7 +186,7 @@ module _ {State : Type 0} (width : ℕ) (narrow : width ≤ 7) (knows : Asked �
       let up : h.table ≤ next = newest_up known n h.table front.least in
       let P = Vouched v.sent v.executed v.made h.table in
       let Q = Vouched v.sent executed (v.made ++ m ∷ []) next in
-      let f : (i : ℕ) (line : List ℕ) → P i line → Q i line = λ i line p. vouched_on v.sent v.executed executed v.made (m ∷ []) h.table next i line lasts up p in
+      let f : (i : ℕ) (line : List ℕ) → P i line → Q i line = λ i line p. stays_on v.sent v.executed executed v.made (m ∷ []) h.table next i line lasts up p in
       let own : Q n line = (newest_dealt knows v.sent known n h.table front.unknown, new) in
       let rising = rising_tail c.count n (numbers v.down) (numbers rest) (subst (λ l. Rising c.count (numbers v.down ++ numbers l)) q s.order) in
       let o = subst (λ l. Each (IsOf written v.sent) l) q h.lines in
@@ -211,10 +212,10 @@ module _ {State : Type 0} (width : ℕ) (narrow : width ≤ 7) (knows : Asked �
       }
 
   -- if the front request isn't executed, the line that is sent again is vouched for as its reply, or the request is excepted
-  again_own : (w : World (ByNumber Asked) State) (x : Numbered Request) (known : Bool) (line : List ℕ) (k : Option KeptReply) → (h : AllVouched w) → IsFront w h x known → kept w.wire.state ≡ k
+  again_own : (w : World (ByNumber Asked) State) (x : Numbered Request) (known : Bool) (line : List ℕ) (k : Option KeptReply) → (h : AllVouched w) → FrontIs w h x known → kept w.wire.state ≡ k
       → k ≡ Some (record { id = x.line.id; line = line })
       → E x.number ⊎ IsVouched ends Good M w.wire.sent w.wire.executed (w.wire.made ++ record { number = x.number; line = line } ∷ []) x.number line
-  again_own w x known line None h front ke e = absurd (none_is_not (record { id = x.line.id; line = line }) e)
+  again_own w x known line None h front ke e = absurd (none-some (record { id = x.line.id; line = line }) e)
   again_own w x known line (Some k) h front ke e =
       let v = w.wire in
       let m : Numbered (List ℕ) = record { number = x.number; line = line } in
@@ -222,7 +223,7 @@ module _ {State : Type 0} (width : ℕ) (narrow : width ≤ 7) (knows : Asked �
       elim (near_same knows E Plain w.client.since h.top h.table x.number (record { id = x.line.id; line = line })
       (Vouched v.sent v.executed v.made h.table) held front.recent front.top front.id front.near) [
         | inl e ↦ inl e
-        | inr p ↦ (vouched_on v.sent v.executed v.executed v.made (m ∷ []) h.table h.table x.number line (λ i has. has) (omega arith) p).1
+        | inr p ↦ (stays_on v.sent v.executed v.executed v.made (m ∷ []) h.table h.table x.number line (λ i has. has) (omega arith) p).1
       ]
 
   -- what the instrument retains after the front request
@@ -243,14 +244,14 @@ module _ {State : Type 0} (width : ℕ) (narrow : width ≤ 7) (knows : Asked �
   held_by w x hd keeps false e is handed good since own o = inl (o.request, o.found, ap keeps o.call ∙ e)
 
   -- `AllVouched` is preserved if the front request isn't executed, and the retained line is sent again for it
-  true_again : (w : World (ByNumber Asked) State) (x : Numbered Request) (rest : List (Numbered Request)) (hd : Handed State) (known : Bool) → w.wire.up ≡ x ∷ rest
+  vouched_again : (w : World (ByNumber Asked) State) (x : Numbered Request) (rest : List (Numbered Request)) (hd : Handed State) (known : Bool) → w.wire.up ≡ x ∷ rest
       → ends.handed w.wire.state x.line.id x.line.call ≡ hd → knows x.line.call ≡ known → kept w.wire.state ≡ Some (record { id = x.line.id; line = hd.reply }) → AfterIs w x hd known
       → Sound width ends Good w → AllVouched w → AllVouched (on_wire w (replied w.wire x.number rest (record hd { executed = false })))
-  true_again w x rest hd known q is what same now s h =
+  vouched_again w x rest hd known q is what same now s h =
       let c = w.client in
       let v = w.wire in
       let front = front_is w x rest known q what s h in
-      true_on w x rest known hd.reply v.executed (kept hd.state) q h front s (λ i has. has) now (again_own w x known hd.reply (kept v.state) h front refl same)
+      vouched_on w x rest known hd.reply v.executed (kept hd.state) q h front s (λ i has. has) now (again_own w x known hd.reply (kept v.state) h front refl same)
       (ordered_handed h.top x.number v.executed front.top h.order)
       (λ keeps k. climbing_handed keeps ((h.top - 1 - c.since) % 8) ((x.number + 1 - 1 - c.since) % 8) h.top x.number v.sent v.executed v.starts (kept v.state) (kept hd.state)
       (record { id = x.line.id; line = hd.reply }) front.top
@@ -259,7 +260,7 @@ module _ {State : Type 0} (width : ℕ) (narrow : width ≤ 7) (knows : Asked �
   -- if the front request is executed, it isn't one to which the instrument retains its reply; or nothing was executed since the
   -- last start, or it is later than all that were handed before, and its reply is retained
   acted_by : (w : World (ByNumber Asked) State) (x : Numbered Request) (hd : Handed State) (known : Bool) (keeps : Asked → Bool) (b : Bool) → keeps x.line.call ≡ b
-      → KeepsItsReply ends Good kept keeps → ends.handed w.wire.state x.line.id x.line.call ≡ hd → hd.executed ≡ true → Good w.wire.state → (h : AllVouched w) → IsFront w h x known
+      → KeepsItsReply ends Good kept keeps → ends.handed w.wire.state x.line.id x.line.call ≡ hd → hd.executed ≡ true → Good w.wire.state → (h : AllVouched w) → FrontIs w h x known
       → IsUnknown keeps w.wire.sent x.number
       ⊎ ((IsIdle w.wire.executed w.wire.starts ⊎ (h.top ≤ x.number)) × (kept hd.state ≡ Some (record { id = x.line.id; line = hd.reply }))
       × (x.line.id ≡ (x.number + 1 - 1 - w.client.since) % 8))
@@ -269,24 +270,24 @@ module _ {State : Type 0} (width : ℕ) (narrow : width ≤ 7) (knows : Asked �
       let back : x.number ≡ x.number + 1 - 1 = omega arith in
       inr (
         why_acted keeps w.client.since h.top x.number x.line.id v.sent v.executed v.starts (kept v.state) (known_not keeps v.sent x.number o.request o.found (ap keeps o.call ∙ e)) front.id front.top
-            (λ line same. true_is_not (sym exe ∙ sym (ap (λ (k : Handed State). k.executed) is) ∙ k.again v.state x.line.id x.line.call line good o.small e same)) (h.once keeps k),
+            (λ line same. true≢false (sym exe ∙ sym (ap (λ (k : Handed State). k.executed) is) ∙ k.again v.state x.line.id x.line.call line good o.small e same)) (h.once keeps k),
         subst (λ (k : Handed State). kept k.state ≡ Some (record { id = x.line.id; line = k.reply })) is (k.always v.state x.line.id x.line.call good o.small e),
         front.id ∙ ap (λ i. (i - w.client.since) % 8) back,
       )
   acted_by w x hd known keeps false e k is exe good h front = inl (front.of.request, front.of.found, ap keeps front.of.call ∙ e)
 
   -- `AllVouched` is preserved if the front request is executed
-  true_new : (w : World (ByNumber Asked) State) (x : Numbered Request) (rest : List (Numbered Request)) (hd : Handed State) (known : Bool) → w.wire.up ≡ x ∷ rest
+  vouched_new : (w : World (ByNumber Asked) State) (x : Numbered Request) (rest : List (Numbered Request)) (hd : Handed State) (known : Bool) → w.wire.up ≡ x ∷ rest
       → ends.handed w.wire.state x.line.id x.line.call ≡ hd → knows x.line.call ≡ known → hd.executed ≡ true → M x.number x.line.call hd.reply → AfterIs w x hd known
       → Sound width ends Good w → AllVouched w → AllVouched (on_wire w (replied w.wire x.number rest (record hd { executed = true })))
-  true_new w x rest hd known q is what exe on now s h =
+  vouched_new w x rest hd known q is what exe on now s h =
       let c = w.client in
       let v = w.wire in
       let n = x.number in
       let front = front_is w x rest known q what s h in
       let o = front.of in
       let m : Numbered (List ℕ) = record { number = n; line = hd.reply } in
-      true_on w x rest known hd.reply (v.executed ++ n ∷ []) (kept hd.state) q h front s (λ i has. has_more i v.executed (n ∷ []) has) now
+      vouched_on w x rest known hd.reply (v.executed ++ n ∷ []) (kept hd.state) q h front s (λ i has. has_more i v.executed (n ∷ []) has) now
       (inr (record {
         among = has_push m v.made;
         acted = has_push n v.executed;
@@ -307,10 +308,10 @@ module _ {State : Type 0} (width : ℕ) (narrow : width ≤ 7) (knows : Asked �
       (record { id = x.line.id; line = hd.reply }) front.top (acted_by w x hd known keeps (keeps x.line.call) refl k is exe s.good h front) (h.once keeps k))
 
   -- `AllVouched` is preserved if the front request is handed to the instrument, whether that executes the request (`b`) or not
-  true_handed : (w : World (ByNumber Asked) State) (x : Numbered Request) (rest : List (Numbered Request)) (hd : Handed State) (b : Bool) → w.wire.up ≡ x ∷ rest
+  vouched_handed : (w : World (ByNumber Asked) State) (x : Numbered Request) (rest : List (Numbered Request)) (hd : Handed State) (b : Bool) → w.wire.up ≡ x ∷ rest
       → ends.handed w.wire.state x.line.id x.line.call ≡ hd → hd.executed ≡ b → (hd.executed ≡ true → M x.number x.line.call hd.reply)
       → Sound width ends Good w → AllVouched w → AllVouched (on_wire w (replied w.wire x.number rest (record hd { executed = b })))
-  true_handed w x rest hd b q is exe on s h = chosen b exe where
+  vouched_handed w x rest hd b q is exe on s h = chosen b exe where
     -- the request's id is below 8
     small : x.line.id < 8
     small = (subst (λ l. Each (IsOf written w.wire.sent) l) q h.lines).0.small
@@ -330,114 +331,100 @@ module _ {State : Type 0} (width : ℕ) (narrow : width ≤ 7) (knows : Asked �
 
     -- the lemma above, by whether the request is executed (`b`)
     chosen : (b : Bool) → hd.executed ≡ b → AllVouched (on_wire w (replied w.wire x.number rest (record hd { executed = b })))
-    chosen false not = true_again w x rest hd (knows x.line.call) q is refl (same not) now s h
-    chosen true exe = true_new w x rest hd (knows x.line.call) q is refl exe (on exe) now s h
+    chosen false not = vouched_again w x rest hd (knows x.line.call) q is refl (same not) now s h
+    chosen true exe = vouched_new w x rest hd (knows x.line.call) q is refl exe (on exe) now s h
 
-  -- `AllVouched` is preserved if the front reply comes, be its request settled already (`old`) or not
-  true_reply : (w : World (ByNumber Asked) State) (x : Numbered (List ℕ)) (rest : List (Numbered (List ℕ))) (old : Bool) → ltb x.number w.client.count ≡ old
-      → w.wire.down ≡ x ∷ rest → length w.wire.settled ≡ w.client.count → AllVouched w
-      → AllVouched (with_settled (record w.wire { down = rest }) (number_reply w.client x old))
-  true_reply w x rest true t e s h =
+  -- `AllVouchedIn` is preserved if the front reply comes, if the settlements that there are then (`settled`) are vouched for;
+  -- `count` says how many requests are settled then
+  reply_came : (w : World (ByNumber Asked) State) (x : Numbered (List ℕ)) (rest : List (Numbered (List ℕ))) (count : ℕ) (settled : List (Settlement Asked)) → w.wire.down ≡ x ∷ rest
+      → (h : AllVouched w) → count ≤ h.top → HoldsOfAll (Vouched w.wire.sent w.wire.executed w.wire.made h.table) 0 settled
+      → AllVouchedIn w.client.since count w.wire.sent w.wire.executed w.wire.starts w.wire.made settled w.wire.up rest (kept w.wire.state)
+  reply_came w x rest count settled e h few answers =
       let v = w.wire in
       let P = Vouched v.sent v.executed v.made h.table in
-      let b = subst (λ q. Each (λ y. y.number < h.top) q) e h.below in
-      let m = subst (λ q. Each (λ y. P y.number y.line) q) e h.coming in
       record {
         top = h.top;
         table = h.table;
-        counted = h.counted;
+        counted = few;
         within = h.within;
         lower = h.lower;
         least = h.least;
         above = h.above;
-        below = b.1;
+        below = (subst (λ (q : List (Numbered (List ℕ))). Each (λ (y : Numbered (List ℕ)). y.number < h.top) q) e h.below).1;
         holds = h.holds;
         lines = h.lines;
         near = h.near;
-        coming = m.1;
-        answers = all_so_append P 0 w.client.count v.settled [] (omega (arith, s)) h.answers tt;
+        coming = (subst (λ (q : List (Numbered (List ℕ))). Each (λ (y : Numbered (List ℕ)). P y.number y.line) q) e h.coming).1;
+        answers = answers;
         order = h.order;
         once = h.once;
       }
-  true_reply w x rest false t e s h =
+
+  -- `AllVouched` is preserved if the front reply comes, be its request settled already (`old`) or not
+  vouched_reply : (w : World (ByNumber Asked) State) (x : Numbered (List ℕ)) (rest : List (Numbered (List ℕ))) (old : Bool) → ltb x.number w.client.count ≡ old
+      → w.wire.down ≡ x ∷ rest → length w.wire.settled ≡ w.client.count → AllVouched w
+      → AllVouched (with_settled (record w.wire { down = rest }) (number_reply w.client x old))
+  vouched_reply w x rest true t e s h =
+      let v = w.wire in
+      let P = Vouched v.sent v.executed v.made h.table in
+      reply_came w x rest w.client.count (v.settled ++ []) e h h.counted (all_so_append P 0 w.client.count v.settled [] (omega (arith, s)) h.answers tt)
+  vouched_reply w x rest false t e s h =
       let v = w.wire in
       let P = Vouched v.sent v.executed v.made h.table in
       let b = subst (λ q. Each (λ y. y.number < h.top) q) e h.below in
       let m = subst (λ q. Each (λ y. P y.number y.line) q) e h.coming in
       let ge : w.client.count ≤ x.number = ltb-false _ _ t in
+      reply_came w x rest (x.number + 1) (v.settled ++ (number_reply w.client x false).settlements) e h (omega (arith, b.0))
+      (all_so_append P 0 w.client.count v.settled _ (omega (arith, s)) h.answers
+      (all_so_settle P w.client.count x.number (x.number - w.client.count) x.line (drop w.client.count w.client.requests) (omega (arith, ge)) m.0))
+
+  -- `AllVouchedIn` is preserved if what is retained stays, or nothing is retained any more, and executions still act once, also
+  -- with these starts
+  still_kept : (w : World (ByNumber Asked) State) (starts : List ℕ) (state : State) → (kept state ≡ None) ⊎ (kept state ≡ kept w.wire.state) → (h : AllVouched w)
+      → ((keeps : Asked → Bool) → KeepsItsReply ends Good kept keeps → IsClimbing keeps ((h.top - 1 - w.client.since) % 8) h.top w.wire.sent w.wire.executed starts (kept state))
+      → AllVouchedIn w.client.since w.client.count w.wire.sent w.wire.executed starts w.wire.made w.wire.settled w.wire.up w.wire.down (kept state)
+  still_kept w starts state now h once =
+      let v = w.wire in
       record {
         top = h.top;
         table = h.table;
-        counted = omega (arith, b.0);
+        counted = h.counted;
         within = h.within;
         lower = h.lower;
         least = h.least;
         above = h.above;
-        below = b.1;
-        holds = h.holds;
+        below = h.below;
+        holds = kept_still (Vouched v.sent v.executed v.made h.table) w.client.since h.top h.table (kept v.state) (kept state) now h.holds;
         lines = h.lines;
         near = h.near;
-        coming = m.1;
-        answers =
-            all_so_append P 0 w.client.count v.settled _ (omega (arith, s)) h.answers
-            (all_so_settle P w.client.count x.number (x.number - w.client.count) x.line (drop w.client.count w.client.requests) (omega (arith, ge)) m.0);
+        coming = h.coming;
+        answers = h.answers;
         order = h.order;
-        once = h.once;
+        once = once;
       }
 
   -- `AllVouched` is preserved if the instrument starts again, whatever is in flight
-  pub true_started : (w : World (ByNumber Asked) State) (b : Bool) → Good w.wire.state → AllVouched w → AllVouched (on_wire w (started ends w.wire b))
-  true_started w false good h = h
-  true_started w true good h =
+  pub vouched_started : (w : World (ByNumber Asked) State) (b : Bool) → Good w.wire.state → AllVouched w → AllVouched (on_wire w (started ends w.wire b))
+  vouched_started w false good h = h
+  vouched_started w true good h =
       let v = w.wire in
-      record {
-        top = h.top;
-        table = h.table;
-        counted = h.counted;
-        within = h.within;
-        lower = h.lower;
-        least = h.least;
-        above = h.above;
-        below = h.below;
-        holds =
-            kept_still (Vouched v.sent v.executed v.made h.table) w.client.since h.top h.table (kept v.state) (kept (ends.restarted v.state)) (keeper.starts v.state good) h.holds;
-        lines = h.lines;
-        near = h.near;
-        coming = h.coming;
-        answers = h.answers;
-        order = h.order;
-        once = λ keeps k.
-            climbing_started keeps ((h.top - 1 - w.client.since) % 8) h.top v.sent v.executed v.starts (kept v.state) (kept (ends.restarted v.state)) (keeper.starts v.state good) (h.once keeps k);
-      }
+      let now = keeper.starts v.state good in
+      still_kept w (v.starts ++ length v.executed ∷ []) (ends.restarted v.state) now h
+      (λ keeps k. climbing_started keeps ((h.top - 1 - w.client.since) % 8) h.top v.sent v.executed v.starts (kept v.state) (kept (ends.restarted v.state)) now (h.once keeps k))
 
   -- `AllVouched` is preserved if the instrument's state changes by itself
-  pub true_changed : (w : World (ByNumber Asked) State) (state : State) → kept state ≡ kept w.wire.state → AllVouched w → AllVouched (on_wire w (record w.wire { state = state }))
-  true_changed w state same h =
+  pub vouched_changed : (w : World (ByNumber Asked) State) (state : State) → kept state ≡ kept w.wire.state → AllVouched w → AllVouched (on_wire w (record w.wire { state = state }))
+  vouched_changed w state same h =
       let v = w.wire in
-      record {
-        top = h.top;
-        table = h.table;
-        counted = h.counted;
-        within = h.within;
-        lower = h.lower;
-        least = h.least;
-        above = h.above;
-        below = h.below;
-        holds = kept_still (Vouched v.sent v.executed v.made h.table) w.client.since h.top h.table (kept v.state) (kept state) (inr same) h.holds;
-        lines = h.lines;
-        near = h.near;
-        coming = h.coming;
-        answers = h.answers;
-        order = h.order;
-        once = λ keeps k. subst (λ o. IsClimbing keeps ((h.top - 1 - w.client.since) % 8) h.top v.sent v.executed v.starts o) (sym same) (h.once keeps k);
-      }
+      still_kept w v.starts state (inr same) h
+      (λ keeps k. subst (λ o. IsClimbing keeps ((h.top - 1 - w.client.since) % 8) h.top v.sent v.executed v.starts o) (sym same) (h.once keeps k))
 
   -- `AllVouched` is preserved if the lines in flight change, if those that are in flight now still have what the invariant says
   -- of each
-  true_queues : (w : World (ByNumber Asked) State) (up : List (Numbered Request)) (down : List (Numbered (List ℕ))) (h : AllVouched w)
+  vouched_queues : (w : World (ByNumber Asked) State) (up : List (Numbered Request)) (down : List (Numbered (List ℕ))) (h : AllVouched w)
       → Each (λ x. h.top ≤ x.number + 1) up → Each (IsOf written w.wire.sent) up → Each (λ x. x.number < h.top) down
       → Each (λ x. Vouched w.wire.sent w.wire.executed w.wire.made h.table x.number x.line) down → AllVouched (on_wire w (record w.wire { up = up; down = down }))
-  true_queues w up down h a l b c = record {
+  vouched_queues w up down h a l b c = record {
     top = h.top;
     table = h.table;
     counted = h.counted;
@@ -456,57 +443,57 @@ module _ {State : Type 0} (width : ℕ) (narrow : width ≤ 7) (knows : Asked �
   }
 
   -- `AllVouched` is preserved by a step that does nothing but count itself
-  true_idle : (w : World (ByNumber Asked) State) → AllVouched w → AllVouched (on_wire w (idle w.wire))
-  true_idle w h = h
+  vouched_idle : (w : World (ByNumber Asked) State) → AllVouched w → AllVouched (on_wire w (idle w.wire))
+  vouched_idle w h = h
 
   -- A move of the line, and a reply that comes.
 
   -- `AllVouched` is preserved if the front request reaches the instrument, if `IsOn` holds of it
-  pub true_up : (w : World (ByNumber Asked) State) (q : List (Numbered Request)) → w.wire.up ≡ q
+  pub vouched_up : (w : World (ByNumber Asked) State) (q : List (Numbered Request)) → w.wire.up ≡ q
       → ((x : Numbered Request) (rest : List (Numbered Request)) → q ≡ x ∷ rest → IsOn ends M w x) → Sound width ends Good w → AllVouched w
       → AllVouched (on_wire w (up_delivered ends w.wire q))
-  true_up w [] e on s h = true_idle w h
-  true_up w (x ∷ rest) e on s h =
-      true_handed w x rest (ends.handed w.wire.state x.line.id x.line.call) (ends.handed w.wire.state x.line.id x.line.call).executed e refl refl (on x rest refl) s h
+  vouched_up w [] e on s h = vouched_idle w h
+  vouched_up w (x ∷ rest) e on s h =
+      vouched_handed w x rest (ends.handed w.wire.state x.line.id x.line.call) (ends.handed w.wire.state x.line.id x.line.call).executed e refl refl (on x rest refl) s h
 
   -- `AllVouched` is preserved if the front reply comes
-  pub true_down : (w : World (ByNumber Asked) State) (q : List (Numbered (List ℕ))) → w.wire.down ≡ q → Sound width ends Good w → AllVouched w → AllVouched (down_delivered (by_numbers width) w q)
-  true_down w [] e s h = true_idle w h
-  true_down w (x ∷ rest) e s h = true_reply w x rest (ltb x.number w.client.count) refl e s.booked h
+  pub vouched_down : (w : World (ByNumber Asked) State) (q : List (Numbered (List ℕ))) → w.wire.down ≡ q → Sound width ends Good w → AllVouched w → AllVouched (down_delivered (by_numbers width) w q)
+  vouched_down w [] e s h = vouched_idle w h
+  vouched_down w (x ∷ rest) e s h = vouched_reply w x rest (ltb x.number w.client.count) refl e s.booked h
 
   -- `AllVouched` is preserved by a loss or a repeat of a request in flight; if there is none at that place (`b` is false),
   -- nothing happens
-  true_with_up : (w : World (ByNumber Asked) State) (up : List (Numbered Request)) (b : Bool) (h : AllVouched w)
+  vouched_with_up : (w : World (ByNumber Asked) State) (up : List (Numbered Request)) (b : Bool) (h : AllVouched w)
       → Each (λ x. h.top ≤ x.number + 1) up → Each (IsOf written w.wire.sent) up → AllVouched (on_wire w (with_up w.wire up b))
-  true_with_up w up false h a l = true_idle w h
-  true_with_up w up true h a l = true_queues w up w.wire.down h a l h.below h.coming
+  vouched_with_up w up false h a l = vouched_idle w h
+  vouched_with_up w up true h a l = vouched_queues w up w.wire.down h a l h.below h.coming
 
   -- `AllVouched` is preserved by a loss or a repeat of a reply in flight; if there is none at that place (`b` is false), nothing
   -- happens
-  true_with_down : (w : World (ByNumber Asked) State) (down : List (Numbered (List ℕ))) (b : Bool) (h : AllVouched w)
+  vouched_with_down : (w : World (ByNumber Asked) State) (down : List (Numbered (List ℕ))) (b : Bool) (h : AllVouched w)
       → Each (λ x. x.number < h.top) down → Each (λ x. Vouched w.wire.sent w.wire.executed w.wire.made h.table x.number x.line) down
       → AllVouched (on_wire w (with_down w.wire down b))
-  true_with_down w down false h l c = true_idle w h
-  true_with_down w down true h l c = true_queues w w.wire.up down h h.above h.lines l c
+  vouched_with_down w down false h l c = vouched_idle w h
+  vouched_with_down w down true h l c = vouched_queues w w.wire.up down h h.above h.lines l c
 
   -- `AllVouched` is preserved by a send, refused or not
-  pub true_requested : (w : World (ByNumber Asked) State) (target : ℕ) (call : Asked) (deadline : ℕ) (o : Option (Sending (ByNumber Asked))) → (Plain → knows call ≡ true)
+  pub vouched_requested : (w : World (ByNumber Asked) State) (target : ℕ) (call : Asked) (deadline : ℕ) (o : Option (Sending (ByNumber Asked))) → (Plain → knows call ≡ true)
       → (by_numbers width).send w.client target call deadline ≡ o → AllVouched w → AllVouched (requested w target call o)
-  true_requested w target call deadline None plain e h = h
-  true_requested w target call deadline (Some x) plain e h = true_send w target call deadline (eqb (length w.client.requests - w.client.count) width) x plain e h
+  vouched_requested w target call deadline None plain e h = h
+  vouched_requested w target call deadline (Some x) plain e h = vouched_send w target call deadline (eqb (length w.client.requests - w.client.count) width) x plain e h
 
   -- `AllVouched` is preserved by a step of the line
-  pub true_line : (w : World (ByNumber Asked) State) (step : Step) → IsOfLine step
+  pub vouched_line : (w : World (ByNumber Asked) State) (step : Step) → IsLineStep step
       → ((x : Numbered Request) (rest : List (Numbered Request)) → step ≡ Up_deliver → w.wire.up ≡ x ∷ rest → IsOn ends M w x) → Sound width ends Good w → AllVouched w
       → AllVouched (happens ends (by_numbers width) w step)
-  true_line w (Send target call deadline) p on s h = absurd p
-  true_line w Up_deliver p on s h = true_up w w.wire.up refl (λ x rest e. on x rest refl e) s h
-  true_line w (Up_lose k) p on s h = true_with_up w (without k w.wire.up) (ltb k (length w.wire.up)) h (each_without _ k w.wire.up h.above) (each_without _ k w.wire.up h.lines)
-  true_line w (Up_repeat k) p on s h = true_with_up w (doubled k w.wire.up) (ltb k (length w.wire.up)) h (each_doubled _ k w.wire.up h.above) (each_doubled _ k w.wire.up h.lines)
-  true_line w Down_deliver p on s h = absurd p
-  true_line w (Down_lose k) p on s h = true_with_down w (without k w.wire.down) (ltb k (length w.wire.down)) h (each_without _ k w.wire.down h.below) (each_without _ k w.wire.down h.coming)
-  true_line w (Down_repeat k) p on s h = true_with_down w (doubled k w.wire.down) (ltb k (length w.wire.down)) h (each_doubled _ k w.wire.down h.below) (each_doubled _ k w.wire.down h.coming)
-  true_line w (Expire now) p on s h = absurd p
-  true_line w Restart_client p on s h = absurd p
-  true_line w Restart_instrument p on s h = absurd p
-  true_line w Nothing p on s h = true_idle w h
+  vouched_line w (Send target call deadline) p on s h = absurd p
+  vouched_line w Up_deliver p on s h = vouched_up w w.wire.up refl (λ x rest e. on x rest refl e) s h
+  vouched_line w (Up_lose k) p on s h = vouched_with_up w (without k w.wire.up) (ltb k (length w.wire.up)) h (each_without _ k w.wire.up h.above) (each_without _ k w.wire.up h.lines)
+  vouched_line w (Up_repeat k) p on s h = vouched_with_up w (doubled k w.wire.up) (ltb k (length w.wire.up)) h (each_doubled _ k w.wire.up h.above) (each_doubled _ k w.wire.up h.lines)
+  vouched_line w Down_deliver p on s h = absurd p
+  vouched_line w (Down_lose k) p on s h = vouched_with_down w (without k w.wire.down) (ltb k (length w.wire.down)) h (each_without _ k w.wire.down h.below) (each_without _ k w.wire.down h.coming)
+  vouched_line w (Down_repeat k) p on s h = vouched_with_down w (doubled k w.wire.down) (ltb k (length w.wire.down)) h (each_doubled _ k w.wire.down h.below) (each_doubled _ k w.wire.down h.coming)
+  vouched_line w (Expire now) p on s h = absurd p
+  vouched_line w Restart_client p on s h = absurd p
+  vouched_line w Restart_instrument p on s h = absurd p
+  vouched_line w Nothing p on s h = vouched_idle w h

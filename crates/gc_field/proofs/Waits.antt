@@ -1,5 +1,5 @@
 -- An outstanding request times out at a moment at or past its deadline, and by nothing else.
-use Rattle.std.proofs.Common.{◌≡◌, ℕ, zero, suc, ◌+◌, ◌-◌, ◌≤◌, Bool, true, false, ◌||◌, List, [], ◌∷◌, ◌++◌, length, map, Option, Some, None, nat_le, nat_lt, nat_eq, refl, ◌∙◌, ap, subst, arith, length-append, append-nil}
+use Rattle.std.proofs.Common.{◌≡◌, ℕ, ◌+◌, ◌-◌, ◌≤◌, Bool, true, false, ◌||◌, List, [], ◌∷◌, ◌++◌, length, Option, Some, None, nat_le, nat_lt, nat_eq, refl, ◌∙◌, ap, subst, arith, length-append, append-nil, sym}
 use Rattle.std.specs.Prelude.{slice_get}
 use Rattle.std.proofs.lemmas.Bool.{ltb-true}
 use Rattle.gc_catalogue.specs.declared.asked.Asked.{Asked}
@@ -9,9 +9,11 @@ use Rattle.gc_instrument.specs.State.{KeptReply}
 use Rattle.gc_world.specs.Clients.{by_ids}
 use Rattle.gc_field.specs.World.{Ends, Numbered, Request, Step, Send, Up_deliver, Up_lose, Up_repeat, Down_deliver, Down_lose, Down_repeat, Expire, Restart_client, Restart_instrument, Nothing, World, without, doubled, up_delivered, with_up, with_down, on_wire, requested, down_delivered}
 use Rattle.gc_world.proofs.Rows.{length-settle}
-use Rattle.gc_field.specs.Field.{Move, Sends, Tells, Comes, Foreign, OnLine, Anew, Changes, Joins, IsOfLine, moves, moved, ArePossible}
+use Rattle.gc_field.specs.Field.{Move, Sends, Tells, Comes, Foreign, OnLine, Anew, Changes, Joins, IsLineStep, moves, moved, ArePossible}
 use Rattle.gc_field.specs.Runs.{times_out}
 use Rattle.gc_station.proofs.Lists.{get_more, get_dropped}
+use Rattle.std.proofs.Math.Bool.{or_assoc, or-false}
+use Rattle.gc_world.proofs.Places.{get_map}
 
 -- what these moves make of an outstanding request: a moment at or past its deadline times it out, and nothing else changes it
 abbrev pub after_moves : {State : Type 0} → Pending Asked → List (Move State) → Pending Asked
@@ -25,19 +27,9 @@ after_moves p (Anew ∷ ms) = after_moves p ms
 after_moves p (Changes state ∷ ms) = after_moves p ms
 after_moves p (Joins line ∷ ms) = after_moves p ms
 
--- "or" is associative
-or_assoc : (a b c : Bool) → ((a || b) || c) ≡ (a || (b || c))
-or_assoc true b c = refl
-or_assoc false b c = refl
-
--- "or false" changes nothing
-or_none : (a : Bool) → a ≡ (a || false)
-or_none true = refl
-or_none false = refl
-
 -- a request has timed out after moves if it was before, or if a moment at or past its deadline is read
 pub after_is : {State : Type 0} (p : Pending Asked) (ms : List (Move State)) → after_moves p ms ≡ record p { given_up = p.given_up || times_out p.deadline ms }
-after_is p [] = ap (λ b. record p { given_up = b }) (or_none p.given_up)
+after_is p [] = ap (λ b. record p { given_up = b }) (sym (or-false p.given_up))
 after_is p (Tells now ∷ ms) = after_is (expired now p) ms ∙ ap (λ b. record p { given_up = b }) (or_assoc p.given_up (nat_le p.deadline now) (times_out p.deadline ms))
 after_is p (Sends target call deadline ∷ ms) = after_is p ms
 after_is p (Comes line ∷ ms) = after_is p ms
@@ -55,22 +47,6 @@ WaitsAt size waiting n p = size ≤ n → slice_get waiting (n - size) ≡ Some 
 -- in this world request n, if it isn't settled yet, waits as `p`, at its place
 abbrev pub Waits : {State : Type 0} → World (ById Asked) State → ℕ → Pending Asked → Type 0
 Waits w n p = WaitsAt (length w.wire.settled) w.client.waiting n p
-
--- if a moment is read to each request of a list, the one at a place is what the moment makes of the request that was there
-get_map : (now : ℕ) (xs : List (Pending Asked)) (k : ℕ) (p : Pending Asked) → slice_get xs k ≡ Some p → slice_get (map (expired now) xs) k ≡ Some (expired now p)
-get_map now [] k p e = cc
-get_map now (x ∷ xs) zero p e = same x p e where
-  -- what a moment makes of equal requests is equal
-  same : (x p : Pending Asked) → Some x ≡ Some p → Some (expired now x) ≡ Some (expired now p)
-  same x p e = cc
-get_map now (x ∷ xs) (suc k) p e = get_map now xs k p e
-
--- the last element of a list is at the place that its length says
-pub get_last : (xs : List (Pending Asked)) (n : ℕ) (p : Pending Asked) → n ≡ length xs → slice_get (xs ++ p ∷ []) n ≡ Some p
-get_last [] zero p e = refl
-get_last [] (suc n) p e = absurd (omega (arith, e))
-get_last (x ∷ xs) zero p e = absurd (omega (arith, e))
-get_last (x ∷ xs) (suc n) p e = get_last xs n p (omega (arith, e))
 
 -- a request that a reply with an id leaves unsettled waits on
 waits_settled : (c : ById Asked) (line : List ℕ) (k : ℕ) (b : Bool) (before : List (Settlement Asked)) (n : ℕ) (p : Pending Asked) → nat_lt k (length c.waiting) ≡ b
@@ -123,7 +99,7 @@ module _ {State : Type 0} (ends : Ends State) (Good : State → Type 0) (kept : 
   waits_with_down w q false n p h = h
 
   -- a request stays outstanding if a step of the line happens
-  waits_line : (w : World (ById Asked) State) (step : Step) (n : ℕ) (p : Pending Asked) → IsOfLine step → Waits w n p → Waits (moves ends (by_ids 7 ends) w (OnLine step)) n p
+  waits_line : (w : World (ById Asked) State) (step : Step) (n : ℕ) (p : Pending Asked) → IsLineStep step → Waits w n p → Waits (moves ends (by_ids 7 ends) w (OnLine step)) n p
   waits_line w (Send target call deadline) n p o h = absurd o
   waits_line w Up_deliver n p o h = waits_up w w.wire.up n p h
   waits_line w (Up_lose k) n p o h = waits_with_up w (without k w.wire.up) (nat_lt k (length w.wire.up)) n p h
@@ -141,7 +117,7 @@ module _ {State : Type 0} (ends : Ends State) (Good : State → Type 0) (kept : 
       → Waits (moved ends (by_ids 7 ends) ms w) n (after_moves p ms)
   waits_all [] w n p o h = h
   waits_all (Sends target call deadline ∷ ms) w n p o h = waits_all ms _ n p o.1 (waits_sent w target call deadline (nat_eq (length w.client.waiting) 7) n p h)
-  waits_all (Tells now ∷ ms) w n p o h = waits_all ms _ n (expired now p) o.1 (λ le. get_map now w.client.waiting (n - length w.wire.settled) p (h le))
+  waits_all (Tells now ∷ ms) w n p o h = waits_all ms _ n (expired now p) o.1 (λ le. get_map (expired now) w.client.waiting (n - length w.wire.settled) p (h le))
   waits_all (Comes line ∷ ms) w n p o h = waits_all ms _ n p o.1 (waits_came w w.wire.down n p h)
   waits_all (Foreign line ∷ ms) w n p o h = waits_all ms w n p o.1 h
   waits_all (OnLine step ∷ ms) w n p o h = waits_all ms _ n p o.1 (waits_line w step n p o.0 h)

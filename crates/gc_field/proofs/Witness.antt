@@ -110,7 +110,7 @@ six : (n m : ℕ) → n ≡ m → n ≡ 6 → m ≡ 0 → ⊥
 six n m e a b = omega (arith, e, a, b)
 
 -- the word isn't a subsequence of two ids 0
-none_here : IsSubsequence the_word (0 ∷ 0 ∷ []) → ⊥
+pub none_here : IsSubsequence the_word (0 ∷ 0 ∷ []) → ⊥
 none_here (inl h) = six 6 0 h.0 refl refl
 none_here (inr (inl h)) = six 6 0 h.0 refl refl
 none_here (inr (inr h)) = h

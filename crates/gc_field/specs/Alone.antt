@@ -11,7 +11,7 @@ use Rattle.gc_world.specs.Clients.{by_ids, ids_open}
 use Rattle.gc_field.specs.Simulator.{ends}
 use Rattle.gc_field.specs.World.{Up_lose, Up_deliver}
 use Rattle.gc_field.specs.Field.{Move, Sends, OnLine, Comes, ArePossible}
-use Rattle.gc_field.specs.Laws.{left, kept_of}
+use Rattle.gc_field.specs.Laws.{world_after, kept_of}
 use Rattle.gc_field.specs.Made.{WasMadeOn}
 
 -- the moves of a client that sends two requests at once: the first is lost, and the second has the reply that the instrument
@@ -19,13 +19,13 @@ use Rattle.gc_field.specs.Made.{WasMadeOn}
 abbrev pub two_at_once : List ℕ → List (Move State)
 two_at_once line = Sends 1 (Table NullProc) 9 ∷ Sends 2 (Table NullProc) 9 ∷ OnLine (Up_lose 0) ∷ OnLine Up_deliver ∷ Comes line ∷ []
 
--- after the moves `two_at_once` from this state on, the retained reply `line` is booked as the second request's answer, though no
--- request was executed: so it wasn't made on executing that request
+-- from this state on the moves `two_at_once` are possible, and after them the first request is settled as lost, and the retained
+-- reply `line` is booked as the second one's answer, though no request was executed: so it wasn't made on executing that request
 pub record SecondIsBookedUnexecuted (state : State) (line : List ℕ) : Type 0 where
   pub possible : ArePossible ends IsFittingState kept_of (by_ids WINDOW ends) (two_at_once line) (ids_open state)
-  pub settled : (left WINDOW ends state (two_at_once line)).wire.settled
+  pub settled : (world_after WINDOW ends state (two_at_once line)).wire.settled
       ≡ record { target = 1; call = Table NullProc; outcome = Lost } ∷ record { target = 2; call = Table NullProc; outcome = Answered line } ∷ []
-  pub executed : (left WINDOW ends state (two_at_once line)).wire.executed ≡ []
+  pub executed : (world_after WINDOW ends state (two_at_once line)).wire.executed ≡ []
   pub unmade : WasMadeOn WINDOW ends (ids_open state) (two_at_once line) 1 (Table NullProc) line → ⊥
 
 -- if the simulator retains a reply with id 1, that reply is booked for the second of two requests that are sent at once, which

@@ -9,7 +9,7 @@ use Rattle.gc_world.specs.Clients.{by_ids}
 use Rattle.gc_field.specs.Simulator.{ends}
 use Rattle.gc_field.specs.World.{Up_deliver}
 use Rattle.gc_field.specs.Begin.{IsWellFormed, Turn, Asks, Comes, Reaches, Up_lose, Up_repeat, Anew, UnderWay, begins, leaves, turned}
-use Rattle.gc_field.specs.Beginnings.{AreFewKilled, AreRuns, IsRow, Run, left_by_run}
+use Rattle.gc_field.specs.Beginnings.{AreFewKilled, AreRuns, HasRisingIds, Run, left_by_run}
 use Rattle.gc_field.specs.Begun.{WasMadeOn, behind, ids_begun, nulls_settled}
 use Rattle.gc_field.specs.Field as field
 use Rattle.gc_field.specs.Field.{Move, Sends, OnLine, ArePossible}
@@ -35,7 +35,7 @@ killed = record { turns = Asks ∷ Comes ∷ Asks ∷ []; moves = [] }
 -- the next run begins. The two old requests are answered, and both replies discarded. Its null procedures 6 and 5 are answered by
 -- the replies to those of the run before, and the six others by their own replies. Meanwhile the instrument starts again, the
 -- request of null procedure 0 is lost and is sent again, and the line repeats that of null procedure 7. Then two commands are
--- sent at once, and the replies to both come
+-- sent at once; and a second reply to null procedure 7 comes, and the replies to both commands
 abbrev pub next : Run State
 next =
     record {
@@ -64,7 +64,7 @@ clean = leaves (turned ends next.turns (begins (left_by_run WINDOW ends at_start
 -- answer was made on executing its request
 pub record AreSomeRuns : Type 0 where
   pub lines : IsWellFormed IsFittingState at_start
-  pub row : IsRow at_start
+  pub rising : HasRisingIds at_start
   pub runs : AreRuns WINDOW ends IsFittingState kept_of at_start (killed ∷ next ∷ [])
   pub few : AreFewKilled WINDOW ends 0 at_start (killed ∷ next ∷ [])
   pub settled :
@@ -93,7 +93,8 @@ eight_come = Comes ∷ Comes ∷ Comes ∷ Comes ∷ Comes ∷ Comes ∷ Comes �
 abbrev pub ninth_comes : List (Move State)
 ninth_comes = Sends 7 (Table InstrumentNo) 100 ∷ field.Comes (codes "%R1P,0,0:0,654321") ∷ []
 
--- those replies answer the whole word, and the one after them is booked for the first command, though nothing was executed
+-- those replies answer the whole word; the moves after that are possible; and the reply after the eight is booked for the first
+-- command, though nothing was executed
 pub record IsBookedFromBefore : Type 0 where
   pub begun : (turned ends eight_come (begins with_the_word)).left ≡ []
   pub possible : ArePossible ends IsFittingState kept_of (by_ids WINDOW ends) ninth_comes (ids_begun (leaves (turned ends eight_come (begins with_the_word))))

@@ -22,7 +22,7 @@ on_line w = record { up = map (λ x. x.line) w.up; down = map (λ x. x.line) w.d
 
 -- what a run that has synchronized may have in flight, if anything: replies and then requests whose numbers never fall from one
 -- to the next, and lie within eight consecutive numbers, from `low` - 1 on; and the ids are the numbers modulo 8
-pub record IsRow {State : Type 0} (u : UnderWay State) : Type 0 where
+pub record HasRisingIds {State : Type 0} (u : UnderWay State) : Type 0 where
   pub low : ℕ
   pub numbers : List ℕ
   pub some : 0 < low
@@ -30,17 +30,17 @@ pub record IsRow {State : Type 0} (u : UnderWay State) : Type 0 where
   pub few : Each (λ n. n < low + WINDOW) numbers
   pub ids : ids_under_way u ≡ map (λ n. n % 8) numbers
 
--- where `IsRow` holds of what is in flight, the word is no subsequence of the ids in flight: eight ids that rise modulo 8 don't
--- contain even the first three ids of the word
-abbrev pub RowsHaveNotTheWord : Type 0 → Type 0
-RowsHaveNotTheWord State = (u : UnderWay State) → IsRow u → IsSubsequence the_word (ids_under_way u) → ⊥
+-- where `HasRisingIds` holds of what is in flight, the word is no subsequence of the ids in flight: eight ids that rise modulo 8
+-- don't contain even the first three ids of the word
+abbrev pub RisingIdsLackTheWord : Type 0 → Type 0
+RisingIdsLackTheWord State = (u : UnderWay State) → HasRisingIds u → IsSubsequence the_word (ids_under_way u) → ⊥
 
--- once a run has synchronized cleanly, `IsRow` holds of what is in flight at any time
-abbrev pub RunsLeaveRows : Type 0 → Type 0
-RunsLeaveRows State =
+-- once a run has synchronized cleanly, `HasRisingIds` holds of what is in flight at any time
+abbrev pub RunsLeaveRisingIds : Type 0 → Type 0
+RunsLeaveRisingIds State =
     (ends : Ends State) (kept : State → Option KeptReply) → IsAnInstrument ends AnyState kept →
     (width : ℕ) → width ≤ WINDOW → (u : UnderWay State) → IsClean AnyState kept u →
-    (ms : List (Move State)) → ArePossible ends AnyState kept (by_ids width ends) ms (ids_begun u) → IsRow (on_line (behind width ends u ms).wire)
+    (ms : List (Move State)) → ArePossible ends AnyState kept (by_ids width ends) ms (ids_begun u) → HasRisingIds (on_line (behind width ends u ms).wire)
 
 -- Runs.
 
@@ -99,17 +99,17 @@ module _ {State : Type 0} (width : ℕ) (ends : Ends State) where
     AreOwn u [] = Unit {0}
     AreOwn u (r ∷ rs) = IsOwnIf (after_turns ends u r).left (after_turns ends u r) r.moves × AreOwn (left_by_run u r) rs
 
--- for any instrument, after a run that had synchronized, or over a line with nothing in flight (`IsRow`): as long as fewer than
--- six runs in a row end while they synchronize, each run that has synchronized has done so cleanly, and `IsFaithful` holds of its
--- moves: each of its answers to a request that is `IsSafe` is its own
+-- for any instrument, after a run that had synchronized, or over a line with nothing in flight (`HasRisingIds`): as long as fewer
+-- than six runs in a row end while they synchronize, each run that has synchronized has done so cleanly, and `IsFaithful` holds
+-- of its moves: each of its answers to a request that is `IsSafe` is its own
 abbrev pub RunsAreTheirOwn : Type 0 → Type 0
 RunsAreTheirOwn State =
     (ends : Ends State) (kept : State → Option KeptReply) → IsAnInstrument ends AnyState kept →
-    (width : ℕ) → width ≤ WINDOW → (u : UnderWay State) → IsWellFormed AnyState u → IsRow u →
+    (width : ℕ) → width ≤ WINDOW → (u : UnderWay State) → IsWellFormed AnyState u → HasRisingIds u →
     (rs : List (Run State)) → AreRuns width ends AnyState kept u rs → AreFewKilled width ends 0 u rs → AreOwn width ends AnyState kept u rs
 
 -- `RunsAreTheirOwn` for the simulator, in any state that fits
 abbrev pub SimulatorsRunsAreTheirOwn : Type 0
 SimulatorsRunsAreTheirOwn =
-    (width : ℕ) → width ≤ WINDOW → (u : UnderWay State) → IsWellFormed IsFittingState u → IsRow u →
+    (width : ℕ) → width ≤ WINDOW → (u : UnderWay State) → IsWellFormed IsFittingState u → HasRisingIds u →
     (rs : List (Run State)) → AreRuns width ends IsFittingState kept_of u rs → AreFewKilled width ends 0 u rs → AreOwn width ends IsFittingState kept_of u rs

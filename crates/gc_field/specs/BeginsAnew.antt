@@ -63,8 +63,8 @@ seventh_reply = codes "%R1P,0,6:0,37"
 
 -- the replies to the null procedures after the first. The first null procedure has the seventh request's id, so the reply to
 -- that request answers it, and is all that the instrument sends for it
-abbrev pub replies : List (List ℕ)
-replies =
+abbrev pub later_replies : List (List ℕ)
+later_replies =
     codes "%R1P,0,5:0,38" ∷ codes "%R1P,0,4:0,39" ∷ codes "%R1P,0,3:0,40" ∷ codes "%R1P,0,2:0,41" ∷ codes "%R1P,0,1:0,42" ∷ codes "%R1P,0,0:0,43"
     ∷ codes "%R1P,0,7:0,44" ∷ []
 
@@ -96,7 +96,7 @@ acts_anew =
     ∷ Told (at 118)
     ∷ Gave (with_end seventh_reply) (at 120)
     ∷ Gave (with_end (codes "%R1P,0,5:0,38")) (at 120)
-    ∷ exchanged 120 (drop 2 null_lines) (drop 1 replies) (
+    ∷ exchanged 120 (drop 2 null_lines) (drop 1 later_replies) (
     Put (with_end (codes "%R1Q,5003,0:"))
     ∷ Told (at 120)
     ∷ Gave (with_end answer) (at 125)
@@ -108,7 +108,7 @@ acts_anew =
 abbrev pub acts : List Act
 acts = given_up ++ acts_anew
 
--- the moves by which a request is sent for each of these targets, at the moment `now`; and then the moves `ms`
+-- the moves by which a request is sent for each of these targets, at the moment `now` and with the deadline 115; and then the moves `ms`
 abbrev pub send_all : ℕ → List ℕ → List (Move Counter) → List (Move Counter)
 send_all now [] ms = ms
 send_all now (target ∷ others) ms = Sends target (Table InstrumentNo) 115 ∷ Tells now ∷ send_all now others ms
@@ -148,27 +148,27 @@ abbrev pub runs : List (Run Counter)
 runs = run ∷ record { turns = turns; moves = moves_anew } ∷ record { turns = []; moves = [] } ∷ []
 
 -- what is in flight when the run resynchronizes
-abbrev pub left : UnderWay Counter
-left = left_by_run WINDOW counting at_start run
+abbrev pub left_by_first : UnderWay Counter
+left_by_first = left_by_run WINDOW counting at_start run
 
 -- what is in flight once the run has synchronized again
 abbrev pub from : UnderWay Counter
-from = leaves (turned counting turns (begins left))
+from = leaves (turned counting turns (begins left_by_first))
 
 -- the record of a lost command, at this place and for this target
-abbrev pub lost : ℕ → ℕ → Record
-lost place target = record { sent = Some 15; utc = 115; cycle = 1; place = place; turn = plain_turn; command = command target; end = end.Lost }
+abbrev pub lost_record : (place target : ℕ) → Record
+lost_record place target = record { sent = Some 15; utc = 115; cycle = 1; place = place; turn = plain_turn; command = command target; end = end.Lost }
 
 -- the records of the run: the first seven commands are lost, and the eighth has its answer
 abbrev pub records : List Record
 records =
-    lost 0 1
-    ∷ lost 1 2
-    ∷ lost 2 3
-    ∷ lost 3 4
-    ∷ lost 4 5
-    ∷ lost 5 6
-    ∷ lost 6 7
+    lost_record 0 1
+    ∷ lost_record 1 2
+    ∷ lost_record 2 3
+    ∷ lost_record 3 4
+    ∷ lost_record 4 5
+    ∷ lost_record 5 6
+    ∷ lost_record 6 7
     ∷ record { sent = Some 120; utc = 125; cycle = 1; place = 7; turn = plain_turn; command = command 8; end = end.Answered Fine (Some (Long (pos 45))) answer }
     ∷ []
 
@@ -180,7 +180,7 @@ pub record IsAnsweredAnew : Type 0 where
   pub field : IsInField counting AnyState kept_by plan commands scope acts at_start runs
   pub over : is_over (state_after plan commands scope acts).progress ≡ true
   pub begins_anew : IsResynchronizing plan commands scope given_up (Told (at 115))
-  pub up : left.up ≡ record { id = 6; call = Table InstrumentNo } ∷ []
-  pub down : left.down ≡ first_reply ∷ []
+  pub up : left_by_first.up ≡ record { id = 6; call = Table InstrumentNo } ∷ []
+  pub down : left_by_first.down ≡ first_reply ∷ []
   pub written : (state_after plan commands scope acts).records ≡ records
   pub made_on : WasMadeOn WINDOW counting from moves_anew 8 (Table InstrumentNo) answer

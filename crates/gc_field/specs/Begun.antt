@@ -44,7 +44,7 @@ pub record HasBegunCleanly {State : Type 0} (kept : State → Option KeptReply) 
   pub keeps : IsOfEighth kept s.state
 
 -- for any instrument: unless the word is a subsequence of the ids in flight when a synchronization begins, whatever is in
--- flight then, and whatever happens, once it has synchronized, it has synchronized cleanly
+-- flight then and well formed (`IsWellFormed`), and whatever happens, once it has synchronized, it has synchronized cleanly
 abbrev pub BeginsCleanly : Type 0 → Type 0
 BeginsCleanly State =
     (ends : Ends State) (kept : State → Option KeptReply) → IsAnInstrument ends AnyState kept →
@@ -65,7 +65,7 @@ pub record IsClean {State : Type 0} (Good : State → Type 0) (kept : State → 
 abbrev pub nulls : List Sent
 nulls = map (λ id. record { target = 0; call = Table NullProc; line = asked_line (Some id) (Table NullProc) }) the_word
 
--- the null procedures of a synchronization, as settlements
+-- the null procedures of a synchronization, as settlements. They stand as lost, though each was answered
 abbrev pub nulls_settled : List (Settlement Asked)
 nulls_settled = map (λ id. record { target = 0; call = Table NullProc; outcome = Lost }) the_word
 
@@ -149,7 +149,8 @@ module _ {State : Type 0} (width : ℕ) (ends : Ends State) (u : UnderWay State)
   abbrev pub IsSafe : (State → Type 0) → (State → Option KeptReply) → List (Move State) → ℕ → Type 0
   IsSafe Good kept ms m = AsksTheTable ms ⊎ (TreatsRawsAlike ends Good kept ⊎ WentOutBehindTheTable ms m)
 
-  -- what holds after these moves, for an instrument whose states are good ones. Settlement 8 + n is the client's settlement n
+  -- what holds after these moves of a client that has synchronized, for an instrument whose states are good ones (`Good`).
+  -- Settlement 8 + n is the client's settlement n
   pub record IsFaithful (ms : List (Move State)) (Good : State → Type 0) (kept : State → Option KeptReply) : Type 0 where
     -- a client that takes the steps of the moves settles what the world's client settled, and ends in the same state
     pub settled : (behind ms).wire.settled ≡ nulls_settled ++ (course width begun (seen ms)).settlements

@@ -23,7 +23,7 @@ use Rattle.gc_field.specs.Simulator.{ends}
 use Rattle.gc_field.specs.World.{Up_deliver}
 use Rattle.gc_field.specs.Begin.{UnderWay, begins, leaves, none_under_way, turned}
 use Rattle.gc_field.specs.Beginnings.{Run}
-use Rattle.gc_field.specs.Chains.{IsUndisturbed, behind}
+use Rattle.gc_field.specs.Chains.{IsUndisturbed, stretch_wire}
 use Rattle.gc_field.specs.Field.{Move, Sends, Tells, Comes, OnLine}
 use Rattle.gc_field.specs.Laws.{kept_of}
 use Rattle.gc_field.specs.Pointing.{AreStill}
@@ -78,7 +78,7 @@ third_reply = codes "%R1P,0,2:0,2.25,1.625,110.0625"
 -- the acts of the run: the station synchronizes, with `answers` as the replies to its null procedures; then the three commands
 -- are sent one after the other, each once the one before it is answered, with the replies a, b and c; and the connection is
 -- closed
-abbrev pub acts_with : List (List ℕ) → List ℕ → List ℕ → List ℕ → List Act
+abbrev pub acts_with : List (List ℕ) → (a b c : List ℕ) → List Act
 acts_with answers a b c =
     begun_with answers (
     Told (at 15)
@@ -97,7 +97,7 @@ acts_with answers a b c =
 
 -- what the line does once the station has synchronized: each of the three requests reaches the instrument, and its reply (a, b,
 -- c) comes
-abbrev pub moves_with : {S : Type 0} → List ℕ → List ℕ → List ℕ → List (Move S)
+abbrev pub moves_with : {S : Type 0} → (a b c : List ℕ) → List (Move S)
 moves_with a b c =
     Tells 15
     ∷ Sends 7 points 115
@@ -118,7 +118,7 @@ moves_with a b c =
     ∷ []
 
 -- the records of the run, in which the three commands are answered by the lines a, b and c
-abbrev pub records_with : List ℕ → List ℕ → List ℕ → List Record
+abbrev pub records_with : (a b c : List ℕ) → List Record
 records_with a b c =
     record { sent = Some 15; utc = 20; cycle = 1; place = 0; turn = plain_turn; command = record { target = 7; call = points }; end = end.Answered Fine (Some (Long (pos 0))) a }
     ∷ record { sent = Some 20; utc = 25; cycle = 1; place = 1; turn = plain_turn; command = record { target = 7; call = measures }; end = end.Answered Fine (Some (Long (pos 0))) b }
@@ -154,5 +154,5 @@ pub record IsPointedInField : Type 0 where
   pub chained : AreChained commands 0 2
   pub still : AreStill commands 0 2
   pub undisturbed : IsUndisturbed moves
-  pub executed : (behind ends stretch (take 13 moves)).executed ≡ 8 ∷ 9 ∷ []
-  pub pointing : (behind ends stretch (take 13 moves)).state.pointing ≡ record { hz = hz; v = v }
+  pub executed : (stretch_wire ends stretch (take 13 moves)).executed ≡ 8 ∷ 9 ∷ []
+  pub pointing : (stretch_wire ends stretch (take 13 moves)).state.pointing ≡ record { hz = hz; v = v }

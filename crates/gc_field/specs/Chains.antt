@@ -82,8 +82,8 @@ pub record HasEffect {State : Type 0} (ends : Ends State) (apart : State → Sta
   pub alike : (s t : State) (call : Asked) → apart s ≡ apart t → apart (effect s call) ≡ apart (effect t call)
 
 -- the wire after these moves of a stretch
-abbrev pub behind : {State : Type 0} → Ends State → Stretch State → List (Move State) → Wire State
-behind ends s ms = (begun.behind WINDOW ends s.from ms).wire
+abbrev pub stretch_wire : {State : Type 0} → Ends State → Stretch State → List (Move State) → Wire State
+stretch_wire ends s ms = (begun.behind WINDOW ends s.from ms).wire
 
 module _ {State : Type 0} (ends : Ends State) (Good : State → Type 0) (kept : State → Option KeptReply) where
   -- Two executions of a stretch.
@@ -97,21 +97,21 @@ module _ {State : Type 0} (ends : Ends State) (Good : State → Type 0) (kept : 
     -- the requests that were executed between them, by their numbers: in the order of sending, none sent before m, and none
     -- after n
     pub numbers : List ℕ
-    pub executed : (behind ends s second.front).executed ≡ (behind ends s first.front).executed ++ m ∷ numbers
+    pub executed : (stretch_wire ends s second.front).executed ≡ (stretch_wire ends s first.front).executed ++ m ∷ numbers
     pub in_order : IsInOrder numbers
     pub within : Each (λ x. (m ≤ x) × (x ≤ n)) numbers
     -- if the instrument retains its reply to each request that it knows, and didn't start between, each of these was sent after
     -- m and before n
     pub strictly :
         (knows : Asked → Bool) → KeepsItsReply ends Good kept knows → HasNoStartBetween between →
-        Each (λ x. (r : Sent) → slice_get (behind ends s s.moves).sent x ≡ Some r → knows r.call ≡ true → (m < x) × (x < n)) numbers
+        Each (λ x. (r : Sent) → slice_get (stretch_wire ends s s.moves).sent x ≡ Some r → knows r.call ≡ true → (m < x) × (x < n)) numbers
     -- if the instrument neither started nor changed by itself between, its state when n reached it is the state in which m
     -- reached it, changed by executing m and then the requests between
     pub calls : List Asked
-    pub asked : AreCalls (behind ends s s.moves).sent numbers calls
+    pub asked : AreCalls (stretch_wire ends s s.moves).sent numbers calls
     pub state :
         (apart : State → State) (effect : State → Asked → State) → HasEffect ends apart effect → IsUndisturbed between →
-        apart (behind ends s second.front).state ≡ apart (executing effect (behind ends s first.front).state (call_m ∷ calls))
+        apart (stretch_wire ends s second.front).state ≡ apart (executing effect (stretch_wire ends s first.front).state (call_m ∷ calls))
 
   -- A chain of a run.
 
@@ -151,7 +151,8 @@ module _ {State : Type 0} (ends : Ends State) (Good : State → Type 0) (kept : 
     -- and they were executed in this order, with these replies
     pub executed : IsExecutedAfter stretch (8 + m) (8 + n) record_a.command.call b.command.call line_a line_b
 
-  -- if the command of record b, of a cycle, was answered, each command of its cycle before it in its chain was executed before it
+  -- if the command of record b, of a cycle and not of the setup, was answered, each command of its cycle before it in its chain
+  -- was executed before it
   abbrev pub IsExecutedInChain : Plan → List Task → Scope → List Act → UnderWay State → List (Run State) → Record → Type 0
   IsExecutedInChain plan commands scope acts u rs b =
       (line : List ℕ) (a : ℕ) → answer_of b.end ≡ Some line → 0 < b.cycle → plan.setup ≤ a → a < b.place → AreChained commands a b.place

@@ -14,10 +14,10 @@ use Rattle.gc_field.specs.ChainWitness.{points, reads_all, commands, scope, acts
 use Rattle.gc_field.specs.Begin.{UnderWay, begins, leaves, none_under_way, turned}
 use Rattle.gc_field.specs.Beginnings.{Run}
 use Rattle.gc_field.specs.Begun.{WasMadeOn}
-use Rattle.gc_field.specs.Chains.{HasEffect, IsUndisturbed, behind}
+use Rattle.gc_field.specs.Chains.{HasEffect, IsUndisturbed, stretch_wire}
 use Rattle.gc_field.specs.Field.{Move}
 use Rattle.gc_field.specs.Instrument.{IsAnInstrument, KeepsItsReply, AnyState, all_known}
-use Rattle.gc_field.specs.Needed.{Keeper, held, kept, value}
+use Rattle.gc_field.specs.Needed.{Keeper, held, kept, giving}
 use Rattle.gc_field.specs.Runs.{IsInField}
 use Rattle.gc_field.specs.Shown.{Stretch}
 use Rattle.gc_field.specs.Witness.{plan, eight_answered}
@@ -31,8 +31,8 @@ pub record Counter : Type 0 where
 -- what the instrument does with a request: it sends again what it retains for the request's id, or executes the request and
 -- counts it
 abbrev pub counted_or : Counter → ℕ → Option ℕ → Handed Counter
-counted_or s id (Some n) = record { state = s; reply = value id n; executed = false }
-counted_or s id None = record { state = record { count = suc s.count; keeps = Some (id, suc s.count) }; reply = value id (suc s.count); executed = true }
+counted_or s id (Some n) = record { state = s; reply = giving id n; executed = false }
+counted_or s id None = record { state = record { count = suc s.count; keeps = Some (id, suc s.count) }; reply = giving id (suc s.count); executed = true }
 
 -- the instrument, which starts with the count 0, and nothing kept
 abbrev pub counting : Ends Counter
@@ -90,8 +90,8 @@ runs = record { turns = eight_answered; moves = moves } ∷ record { turns = [];
 
 -- this run meets all premises of the law of chains: `counting` is an instrument in each of its states, retains its reply, and a
 -- call has the effect `counts` on its state. The run is in the field, its third command is of the first one's chain, and
--- nothing disturbs the instrument. So both answers were made on executing their requests, and the count at the third command is
--- what the first and the second made of it
+-- nothing disturbs the instrument. So the first and the third answer were made on executing their requests, and the count at
+-- the third command is what the first and the second made of it
 pub record IsCountedInField : Type 0 where
   pub instrument : IsAnInstrument counting AnyState kept_by
   pub keeps : KeepsItsReply counting AnyState kept_by all_known
@@ -102,7 +102,7 @@ pub record IsCountedInField : Type 0 where
   pub undisturbed : IsUndisturbed moves
   pub first_made_on : WasMadeOn WINDOW counting stretch.from moves 8 points first_reply
   pub third_made_on : WasMadeOn WINDOW counting stretch.from moves 10 reads_all third_reply
-  pub before_first : (behind counting stretch (take 3 moves)).executed ≡ []
-  pub before_third : (behind counting stretch (take 13 moves)).executed ≡ 8 ∷ 9 ∷ []
-  pub count_at_first : (behind counting stretch (take 3 moves)).state.count ≡ 35
-  pub count_at_third : (behind counting stretch (take 13 moves)).state.count ≡ 37
+  pub before_first : (stretch_wire counting stretch (take 3 moves)).executed ≡ []
+  pub before_third : (stretch_wire counting stretch (take 13 moves)).executed ≡ 8 ∷ 9 ∷ []
+  pub count_at_first : (stretch_wire counting stretch (take 3 moves)).state.count ≡ 35
+  pub count_at_third : (stretch_wire counting stretch (take 13 moves)).state.count ≡ 37

@@ -108,8 +108,8 @@ acts raw =
     ∷ []
     )
 
--- what the line does while the station synchronizes: it loses the first reply to the first null procedure, and that procedure's
--- second request
+-- what happens while the station synchronizes: the line loses the first reply to the first null procedure, and that procedure's
+-- second request; and the number that the instrument measures becomes 12
 abbrev pub turns : List (Turn ℕ)
 turns = Asks ∷ Reaches ∷ turn.Down_lose 0 ∷ Asks ∷ turn.Up_lose 0 ∷ turn.Changes 12 ∷ eight_answered
 

@@ -31,21 +31,21 @@ pub data Move (State : Type 0) : Type 0 where
   Joins : (line : List ℕ) → Move State
 
 -- a step of the line alone: the client has no part in it, and nothing starts again
-abbrev pub IsOfLine : Step → Type 0
-IsOfLine (Send target call deadline) = ⊥
-IsOfLine Up_deliver = Unit {0}
-IsOfLine (Up_lose k) = Unit {0}
-IsOfLine (Up_repeat k) = Unit {0}
-IsOfLine Down_deliver = ⊥
-IsOfLine (Down_lose k) = Unit {0}
-IsOfLine (Down_repeat k) = Unit {0}
-IsOfLine (Expire now) = ⊥
-IsOfLine Restart_client = ⊥
-IsOfLine Restart_instrument = ⊥
-IsOfLine Nothing = Unit {0}
+abbrev pub IsLineStep : Step → Type 0
+IsLineStep (Send target call deadline) = ⊥
+IsLineStep Up_deliver = Unit {0}
+IsLineStep (Up_lose k) = Unit {0}
+IsLineStep (Up_repeat k) = Unit {0}
+IsLineStep Down_deliver = ⊥
+IsLineStep (Down_lose k) = Unit {0}
+IsLineStep (Down_repeat k) = Unit {0}
+IsLineStep (Expire now) = ⊥
+IsLineStep Restart_client = ⊥
+IsLineStep Restart_instrument = ⊥
+IsLineStep Nothing = Unit {0}
 
 -- the wire once the two front requests reached the instrument as one line, which has this reply: it counts as the reply to the
--- first of them. If fewer than two are in flight, nothing happens
+-- first of them. Nothing counts as executed, and the instrument's state stays. If fewer than two are in flight, nothing happens
 abbrev pub joined : {State : Type 0} → Wire State → List (Numbered Request) → List ℕ → Wire State
 joined w (x ∷ y ∷ rest) line =
     let reply : Numbered (List ℕ) = record { number = x.number; line = line } in
@@ -70,19 +70,20 @@ module _ {Client State : Type 0} where
   moved ends rule (m ∷ ms) w = moved ends rule ms (moves ends rule w m)
 
   -- a move is possible in a world. What comes is the whole reply at the front of those in flight, or no reply with an id: an echo,
-  -- noise, or what is left of a line that was cut
+  -- noise, or what is left of a line that was cut. What the line does is a step of the line alone (`IsLineStep`), and the instrument
+  -- changes by itself only as `MayBecome` allows
   abbrev pub IsPossible : (State → Type 0) → (State → Option KeptReply) → World Client State → Move State → Type 0
   IsPossible Good kept w (Sends target call deadline) = Unit {0}
   IsPossible Good kept w (Tells now) = Unit {0}
   IsPossible Good kept w (Comes line) = (n : ℕ) × (rest : List (Numbered (List ℕ))) × (w.wire.down ≡ record { number = n; line = line } ∷ rest)
   IsPossible Good kept w (Foreign line) = heard line ≡ None
-  IsPossible Good kept w (OnLine step) = IsOfLine step
+  IsPossible Good kept w (OnLine step) = IsLineStep step
   IsPossible Good kept w Anew = Unit {0}
   IsPossible Good kept w (Changes state) = MayBecome Good kept w.wire.state state
   -- never, because a line feed arrives after the front of a request, before the next request does
   IsPossible Good kept w (Joins line) = ⊥
 
-  -- each of these moves is possible when its turn comes
+  -- each of these moves is possible in the world that the moves before it make
   abbrev pub ArePossible : Ends State → (State → Type 0) → (State → Option KeptReply) → Rule Client → List (Move State) → World Client State → Type 0
   ArePossible ends Good kept rule [] w = Unit {0}
   ArePossible ends Good kept rule (m ∷ ms) w = IsPossible Good kept w m × ArePossible ends Good kept rule ms (moves ends rule w m)
@@ -99,12 +100,10 @@ seen (Anew ∷ ms) = seen ms
 seen (Changes state ∷ ms) = seen ms
 seen (Joins line ∷ ms) = seen ms
 
--- no other request is sent between the first one and the first reply that comes. `out` says whether the first request was sent
--- already
+-- at most one request is sent before the first reply comes: none if the first request was sent before these moves (`out`)
 abbrev pub IsFirstAlone : {State : Type 0} → Bool → List (Move State) → Type 0
 IsFirstAlone out [] = Unit {0}
-IsFirstAlone false (Sends target call deadline ∷ ms) = IsFirstAlone true ms
-IsFirstAlone true (Sends target call deadline ∷ ms) = ⊥
+IsFirstAlone out (Sends target call deadline ∷ ms) = (out ≡ false) × IsFirstAlone true ms
 IsFirstAlone out (Tells now ∷ ms) = IsFirstAlone out ms
 IsFirstAlone out (Comes line ∷ ms) = Unit {0}
 IsFirstAlone out (Foreign line ∷ ms) = IsFirstAlone out ms

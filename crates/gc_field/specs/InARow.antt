@@ -12,7 +12,7 @@ use Rattle.gc_station.specs.Model.{Runs, opening}
 use Rattle.gc_field.specs.Simulator.{ends}
 use Rattle.gc_field.specs.World.{Ends}
 use Rattle.gc_field.specs.Begin.{IsWellFormed, Turn, UnderWay}
-use Rattle.gc_field.specs.Beginnings.{AreRuns, IsRow, Run, killed_if, left_by_run, after_turns}
+use Rattle.gc_field.specs.Beginnings.{AreRuns, HasRisingIds, Run, killed_if, left_by_run, after_turns}
 use Rattle.gc_field.specs.Instrument.{AnyState, IsAnInstrument}
 use Rattle.gc_field.specs.Laws.{kept_of}
 use Rattle.gc_field.specs.Runs.{IsRunFaithful}
@@ -52,7 +52,7 @@ module _ {State : Type 0} (ends : Ends State) where
 
   module _ (Good : State → Type 0) (kept : State → Option KeptReply) where
     -- a program is a run of its station over what is in flight, where `n` runs in a row were killed before while they
-    -- synchronized
+    -- synchronized; and counted with these, at most five in a row are (`AreFewKilledWithTurns`)
     pub record IsNextProgram (n : ℕ) (u : UnderWay State) (x : Program State) : Type 0 where
       pub runs : Runs x.plan x.commands (opening x.plan x.scope) x.acts
       pub shown : AreShownAs ends u x.runs (parts_of x.plan x.commands (opening x.plan x.scope) x.acts)
@@ -69,16 +69,16 @@ module _ {State : Type 0} (ends : Ends State) where
     AreFaithful u [] = Unit {0}
     AreFaithful u (x ∷ xs) = IsRunFaithful ends Good kept x.plan x.commands x.scope x.acts u x.runs × AreFaithful (left_over u x.runs) xs
 
--- for any instrument, after a run that had synchronized, or over a line with nothing in flight (`IsRow`): as long as fewer than
--- six runs in a row end while they synchronize, each program is a faithful run
+-- for any instrument, after a run that had synchronized, or over a line with nothing in flight (`HasRisingIds`): as long as fewer
+-- than six runs in a row end while they synchronize, each program is a faithful run
 abbrev pub StationsInARowAreFaithful : Type 0 → Type 0
 StationsInARowAreFaithful State =
     (ends : Ends State) (kept : State → Option KeptReply) → IsAnInstrument ends AnyState kept →
-    (u : UnderWay State) → IsWellFormed AnyState u → IsRow u →
+    (u : UnderWay State) → IsWellFormed AnyState u → HasRisingIds u →
     (xs : List (Program State)) → AreInARow ends AnyState kept 0 u xs → AreFaithful ends AnyState kept u xs
 
 -- `StationsInARowAreFaithful` for the simulated instrument: its `ends` and its retained reply, in any state that fits
 abbrev pub SimulatorsStationsInARowAreFaithful : Type 0
 SimulatorsStationsInARowAreFaithful =
-    (u : UnderWay State) → IsWellFormed IsFittingState u → IsRow u →
+    (u : UnderWay State) → IsWellFormed IsFittingState u → HasRisingIds u →
     (xs : List (Program State)) → AreInARow ends IsFittingState kept_of 0 u xs → AreFaithful ends IsFittingState kept_of u xs

@@ -92,7 +92,7 @@ module _ {State : Type 0} (ends : Ends State) where
 
 -- an instrument's state may change by itself between two requests, as by a hand at its keys, a clock, or the noise of a
 -- measurement: into any good state that retains the same line
-abbrev pub MayBecome : {State : Type 0} → (State → Type 0) → (State → Option KeptReply) → State → State → Type 0
+abbrev pub MayBecome : {State : Type 0} → (State → Type 0) → (State → Option KeptReply) → (before after : State) → Type 0
 MayBecome Good kept before after = Good after × (kept after ≡ kept before)
 
 -- any state is a good one
@@ -107,7 +107,8 @@ all_known call = true
 abbrev pub nothing : {State : Type 0} → State → Option KeptReply
 nothing state = None
 
--- what retains no reply and executes each request is an instrument, if each of its replies reads as one with its request's id
+-- what retains no reply and executes each request is an instrument, if the client reads its lines by the grammar of replies,
+-- and each of its replies reads as one with its request's id
 abbrev pub KeepingNothingSuffices : Type 0 → Type 0
 KeepingNothingSuffices State =
     (ends : Ends State) → ((line : List ℕ) → ends.heard line ≡ heard line) →

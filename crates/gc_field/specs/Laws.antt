@@ -30,56 +30,56 @@ WasExecuted executed m = (j : ℕ) × (slice_get executed j ≡ Some m)
 
 module _ {State : Type 0} (width : ℕ) (ends : Ends State) (state : State) (ms : List (Move State)) where
   -- the world after the moves, with the client that knows ids
-  abbrev pub left : World (ById Asked) State
-  left = moved ends (by_ids width ends) ms (ids_open state)
+  abbrev pub world_after : World (ById Asked) State
+  world_after = moved ends (by_ids width ends) ms (ids_open state)
 
   -- the wire after the moves, with the client that is given the number of each reply's request
   abbrev pub left_by_numbers : Wire State
   left_by_numbers = (moved ends (by_numbers width) ms (numbers_open state)).wire
 
-  -- what holds after the moves, for an instrument whose states are good ones
-  pub record IsFaithful (Good : State → Type 0) (kept : State → Option KeptReply) : Type 0 where
+  -- what holds after the moves of a new client that hasn't synchronized, for an instrument whose states are good ones (`Good`)
+  pub record IsFaithfulUnsynchronized (Good : State → Type 0) (kept : State → Option KeptReply) : Type 0 where
     -- a client that takes the steps of the moves settles what the world's client settled, and ends in the same state
-    pub settled : (course width begun (seen ms)).settlements ≡ left.wire.settled
-    pub stands : (course width begun (seen ms)).client ≡ left.client
+    pub settled : (course width begun (seen ms)).settlements ≡ world_after.wire.settled
+    pub stands : (course width begun (seen ms)).client ≡ world_after.client
     -- one for one: what was settled and what is outstanding are the requests that were sent, in order, each once; so settlement
     -- m has the target and the call of request m
-    pub accounted : map of_settled left.wire.settled ++ map of_pending left.client.waiting ≡ map asked left.wire.sent
-    pub one_for_one : IsOneForOne left.wire.sent left.wire.settled
+    pub accounted : map of_settled world_after.wire.settled ++ map of_pending world_after.client.waiting ≡ map asked world_after.wire.sent
+    pub one_for_one : IsOneForOne world_after.wire.sent world_after.wire.settled
     -- its own: an answer at place m is among the lines that the instrument made for request m, and is its reply to that very
     -- call. The first request is excepted: an instrument that retained an older reply with its id may have sent that reply again
     pub booked :
-        (m : ℕ) (s : Settlement Asked) → 0 < m → slice_get left.wire.settled m ≡ Some s → IsBooked ends Good left.wire.made m s
+        (m : ℕ) (s : Settlement Asked) → 0 < m → slice_get world_after.wire.settled m ≡ Some s → IsBooked ends Good world_after.wire.made m s
     -- and the instrument executed request m at one of these moves
     pub executed :
-        (m : ℕ) (s : Settlement Asked) (line : List ℕ) → 0 < m → slice_get left.wire.settled m ≡ Some s → s.outcome ≡ Answered line → WasExecuted left.wire.executed m
+        (m : ℕ) (s : Settlement Asked) (line : List ℕ) → 0 < m → slice_get world_after.wire.settled m ≡ Some s → s.outcome ≡ Answered line → WasExecuted world_after.wire.executed m
     -- made on it: its line was made on executing request m, by `WasMadeOn`
     pub made_on :
-        (m : ℕ) (s : Settlement Asked) (line : List ℕ) → 0 < m → slice_get left.wire.settled m ≡ Some s → s.outcome ≡ Answered line
+        (m : ℕ) (s : Settlement Asked) (line : List ℕ) → 0 < m → slice_get world_after.wire.settled m ≡ Some s → s.outcome ≡ Answered line
         → WasMadeOn width ends (ids_open state) ms m s.call line
     -- in order: requests are executed in the order of sending, over starts too
-    pub in_order : IsInOrder left.wire.executed
+    pub in_order : IsInOrder world_after.wire.executed
     -- late: the instrument executed the request, though its reply came too late
     pub late :
-        (m : ℕ) (s : Settlement Asked) → 0 < m → slice_get left.wire.settled m ≡ Some s → s.outcome ≡ Late
+        (m : ℕ) (s : Settlement Asked) → 0 < m → slice_get world_after.wire.settled m ≡ Some s → s.outcome ≡ Late
         → (line : List ℕ) × WasMadeOn width ends (ids_open state) ms m s.call line
     -- acts once: if the instrument retains its reply to each request that it knows, between two of its starts each of these is
     -- executed at most once
-    pub once : (knows : Asked → Bool) → KeepsItsReply ends Good kept knows → ActsOnce knows left.wire.sent left.wire.executed left.wire.starts
+    pub once : (knows : Asked → Bool) → KeepsItsReply ends Good kept knows → ActsOnce knows world_after.wire.sent world_after.wire.executed world_after.wire.starts
     -- agreement: all is as with a client that is given the number of each reply's request
-    pub agrees : left.wire ≡ left_by_numbers
+    pub agrees : world_after.wire ≡ left_by_numbers
     -- in time: a reply whose request isn't settled settles that request, and those before it as lost. The request is answered
     -- with that line, or late if it timed out
     pub first_reply :
-        (n : ℕ) (line : List ℕ) (rest : List (Numbered (List ℕ))) → left.wire.down ≡ record { number = n; line = line } ∷ rest → length left.wire.settled ≤ n →
-        (moves ends (by_ids width ends) left (Comes line)).wire.settled ≡ left.wire.settled ++ settle (n - length left.wire.settled) line left.client.waiting
+        (n : ℕ) (line : List ℕ) (rest : List (Numbered (List ℕ))) → world_after.wire.down ≡ record { number = n; line = line } ∷ rest → length world_after.wire.settled ≤ n →
+        (moves ends (by_ids width ends) world_after (Comes line)).wire.settled ≡ world_after.wire.settled ++ settle (n - length world_after.wire.settled) line world_after.client.waiting
 
 -- moves that meet `IsField` are faithful: for any instrument in any state, whatever reply it retains, and a client with a window
 -- of at most `WINDOW` requests
 abbrev pub AnswersAreTheirOwn : Type 0 → Type 0
 AnswersAreTheirOwn State =
     (ends : Ends State) (kept : State → Option KeptReply) → IsAnInstrument ends AnyState kept →
-    (width : ℕ) → width ≤ WINDOW → (state : State) (ms : List (Move State)) → IsField width ends AnyState kept state ms → IsFaithful width ends state ms AnyState kept
+    (width : ℕ) → width ≤ WINDOW → (state : State) (ms : List (Move State)) → IsField width ends AnyState kept state ms → IsFaithfulUnsynchronized width ends state ms AnyState kept
 
 -- the reply that the simulator retains
 abbrev pub kept_of : State → Option KeptReply
@@ -99,4 +99,4 @@ pub record SimulatorIsAnInstrument : Type 0 where
 abbrev pub SimulatorsAnswersAreTheirOwn : Type 0
 SimulatorsAnswersAreTheirOwn =
     (width : ℕ) → width ≤ WINDOW → (state : State) → IsFittingState state → (ms : List (Move State)) → IsField width ends IsFittingState kept_of state ms
-    → IsFaithful width ends state ms IsFittingState kept_of
+    → IsFaithfulUnsynchronized width ends state ms IsFittingState kept_of

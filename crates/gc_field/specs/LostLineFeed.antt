@@ -1,5 +1,5 @@
--- Why the line feed that clears half a request has to arrive, this project's own: if it is lost, that half and the next request
--- are one line, whose reply has the id of the request that was cut.
+-- Why the line feed that clears the front of a request has to arrive, this project's own: if it is lost, that front and the next
+-- request are one line, whose reply has the id of the request that was cut.
 use Rattle.std.specs.Prelude.{◌≡◌, ℕ, List, [], ◌∷◌, ◌++◌, take, codes, Some, Ok, slice_get}
 use Rattle.gc_lines.specs.Frames.{lines}
 use Rattle.gc_lines.specs.Lines.{with_end}

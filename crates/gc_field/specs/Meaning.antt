@@ -14,7 +14,7 @@ use Rattle.gc_links.specs.Acts.{Act, Told, Untold, Put, Cut, Gave, Silent, Ended
 use Rattle.gc_station.specs.Model.{lines_completed}
 
 -- these bytes are the line of a request that the client sends by this step
-pub record IsRequest (client : ById Asked) (bytes : List ℕ) (steps : List (Step Asked)) : Type 0 where
+pub record IsSentRequest (client : ById Asked) (bytes : List ℕ) (steps : List (Step Asked)) : Type 0 where
   pub target : ℕ
   pub call : Asked
   pub deadline : ℕ
@@ -26,7 +26,7 @@ pub record IsRequest (client : ById Asked) (bytes : List ℕ) (steps : List (Ste
 -- what bytes that are put mean to the client: a request that it sends; or a line feed, which clears the receiver and is no
 -- request
 abbrev pub IsPut : ById Asked → List ℕ → List (Step Asked) → Type 0
-IsPut client bytes steps = ((bytes ≡ 10 ∷ []) × (steps ≡ [])) ⊎ IsRequest client bytes steps
+IsPut client bytes steps = ((bytes ≡ 10 ∷ []) × (steps ≡ [])) ⊎ IsSentRequest client bytes steps
 
 -- what a piece that is heard means to a client: first the moment `m` is read, at which requests past their deadline have timed
 -- out; then each line that the piece completes is heard. `before` and `behind` are the bytes since the last line feed, before

@@ -43,7 +43,7 @@ pub record IsAllBut {State : Type 0} (x : Clause) (ends : Ends State) (Good : St
   pub starts_good : (x ≡ StartsGood) ⊎ StaysGoodOverStarts ends Good
 
 -- after a clean synchronization, with nothing in flight, these moves are possible, and request m of the client (from number 8
--- on), with this call, is answered with this line though it wasn't executed
+-- on), for target 7 and with this call, is answered with this line though it wasn't executed
 pub record IsBookedUnexecuted {State : Type 0} (ends : Ends State) (Good : State → Type 0) (kept : State → Option KeptReply) (state : State)
     (ms : List (Move State)) (m : ℕ) (call : Asked) (line : List ℕ) : Type 0 where
   pub beyond : 8 ≤ m
@@ -52,8 +52,8 @@ pub record IsBookedUnexecuted {State : Type 0} (ends : Ends State) (Good : State
   pub settled : slice_get (behind WINDOW ends (none_under_way state) ms).wire.settled m ≡ Some (record { target = 7; call = call; outcome = Answered line })
   pub executed : WasExecuted (behind WINDOW ends (none_under_way state) ms).wire.executed m → ⊥
 
--- the clause x is needed: this instrument meets every other one, and in these moves the client books its line as the answer to
--- request m, which it never executed
+-- the clause x is needed: this instrument meets every other one, and in these moves, from this good state on, the client books its line
+-- as the answer to request m, which it never executed
 pub record IsNeeded {State : Type 0} (x : Clause) (ends : Ends State) (Good : State → Type 0) (kept : State → Option KeptReply) (state : State)
     (ms : List (Move State)) (m : ℕ) (call : Asked) (line : List ℕ) : Type 0 where
   pub all_but : IsAllBut x ends Good kept
@@ -61,20 +61,20 @@ pub record IsNeeded {State : Type 0} (x : Clause) (ends : Ends State) (Good : St
   pub booked : IsBookedUnexecuted ends Good kept state ms m call line
 
 -- a reply with this id that gives this number
-abbrev pub value : ℕ → ℕ → List ℕ
-value id n = reply_text (record { rc_com = 0; id = Some id; rc = 0; params = decimal n })
+abbrev pub giving : (id n : ℕ) → List ℕ
+giving id n = reply_text (record { rc_com = 0; id = Some id; rc = 0; params = decimal n })
 
--- a reply with this id that refuses the request
+-- a reply with this id that refuses the request (communication code 3081)
 abbrev pub refusal : ℕ → List ℕ
 refusal id = reply_text (record { rc_com = 3081; id = Some id; rc = 0; params = [] })
 
 -- the moves by which this request is sent, reaches the instrument, and is answered with this line; and then the moves `ms`
-abbrev pub asks : {State : Type 0} → Asked → List ℕ → List (Move State) → List (Move State)
-asks call line ms = Sends 7 call 9 ∷ OnLine Up_deliver ∷ Comes line ∷ ms
+abbrev pub one_answered : {State : Type 0} → Asked → List ℕ → List (Move State) → List (Move State)
+one_answered call line ms = Sends 7 call 9 ∷ OnLine Up_deliver ∷ Comes line ∷ ms
 
 -- the moves by which two requests are sent, and the first of them reaches the instrument and is answered with this line
-abbrev pub asks_two : {State : Type 0} → List ℕ → List (Move State)
-asks_two line = Sends 7 (Table NullProc) 9 ∷ Sends 7 (Table InstrumentNo) 9 ∷ OnLine Up_deliver ∷ Comes line ∷ []
+abbrev pub two_asked : {State : Type 0} → List ℕ → List (Move State)
+two_asked line = Sends 7 (Table NullProc) 9 ∷ Sends 7 (Table InstrumentNo) 9 ∷ OnLine Up_deliver ∷ Comes line ∷ []
 
 -- Instruments that keep a reply.
 
@@ -85,7 +85,7 @@ Keeper = Option (ℕ × ℕ)
 -- the reply that is retained
 abbrev pub kept : Keeper → Option KeptReply
 kept None = None
-kept (Some x) = Some (record { id = x.0; line = value x.0 x.1 })
+kept (Some x) = Some (record { id = x.0; line = giving x.0 x.1 })
 
 -- the number that is retained for this id, if one is
 abbrev pub held : Keeper → ℕ → Option ℕ
@@ -95,10 +95,10 @@ held (Some x) id = if nat_eq x.0 id then Some x.1 else None
 -- what an instrument that retains a reply does with a request, by the number that it retains for the request's id: it sends that
 -- number again; or, if there is none (None), it executes the request, answers 0, and retains that reply
 abbrev pub again_or : ℕ → Keeper → Option ℕ → Handed Keeper
-again_or id k (Some n) = record { state = k; reply = value id n; executed = false }
-again_or id k None = record { state = Some (id, 0); reply = value id 0; executed = true }
+again_or id k (Some n) = record { state = k; reply = giving id n; executed = false }
+again_or id k None = record { state = Some (id, 0); reply = giving id 0; executed = true }
 
--- an instrument that meets every clause
+-- an instrument that meets every clause: it retains its last reply, for a request with the same id, until it starts again
 abbrev pub keeper : Ends Keeper
 keeper = record { handed = λ k id call. again_or id k (held k id); restarted = λ k. None; heard = heard; joint = true }
 
@@ -113,24 +113,17 @@ refuses_or false k id = record { state = k; reply = refusal id; executed = true 
 abbrev pub keeps_older : Ends Keeper
 keeps_older = record keeper { handed = λ k id call. refuses_or (nat_eq (asked_request None call).rpc 0) k id }
 
--- the moves of nine requests, each answered before the next one is sent: the first and the last, whose id is the same, are null
--- procedures, and the seven between are refused
-abbrev pub nine_requests : List (Move Keeper)
-nine_requests =
-    asks (Table NullProc) (value 0 0) (asks (Table InstrumentNo) (refusal 1) (asks (Table InstrumentNo) (refusal 2) (asks (Table InstrumentNo) (refusal 3) (asks (Table InstrumentNo) (refusal 4)
-    (asks (Table InstrumentNo) (refusal 5) (asks (Table InstrumentNo) (refusal 6) (asks (Table InstrumentNo) (refusal 7) (asks (Table NullProc) (value 0 0) []))))))))
-
 -- an instrument that knows the calls of the table alone: it refuses others, and still retains its reply to the last call of the
 -- table
 abbrev pub refuses_raws : Ends Keeper
 refuses_raws = record keeper { handed = λ k id call. refuses_or (is_of_table call) k id }
 
--- the moves of nine requests, each answered before the next one is sent: the first and the last, whose id is the same, are calls of
--- the table, and the seven between are this raw request, which is refused
-abbrev pub nine_raw : RawCall → List (Move Keeper)
-nine_raw raw =
-    asks (Table NullProc) (value 0 0) (asks (Raw raw) (refusal 1) (asks (Raw raw) (refusal 2) (asks (Raw raw) (refusal 3) (asks (Raw raw) (refusal 4)
-    (asks (Raw raw) (refusal 5) (asks (Raw raw) (refusal 6) (asks (Raw raw) (refusal 7) (asks (Table NullProc) (value 0 0) []))))))))
+-- the moves of nine requests, each answered before the next one is sent: the first and the last, whose id is the same, are null
+-- procedures, and the seven between are this one, which is refused
+abbrev pub nine_requests : Asked → List (Move Keeper)
+nine_requests call =
+    one_answered (Table NullProc) (giving 0 0) (one_answered call (refusal 1) (one_answered call (refusal 2) (one_answered call (refusal 3) (one_answered call (refusal 4)
+    (one_answered call (refusal 5) (one_answered call (refusal 6) (one_answered call (refusal 7) (one_answered (Table NullProc) (giving 0 0) []))))))))
 
 -- an instrument that retains an old reply, with id 1, after each start
 abbrev pub remembers : Ends Keeper
@@ -138,11 +131,11 @@ remembers = record keeper { restarted = λ k. Some (1, 27) }
 
 -- the moves of two requests, between which `remembers` starts
 abbrev pub start_between : List (Move Keeper)
-start_between = asks (Table NullProc) (value 0 0) (Anew ∷ asks (Table InstrumentNo) (value 1 27) [])
+start_between = one_answered (Table NullProc) (giving 0 0) (Anew ∷ one_answered (Table InstrumentNo) (giving 1 27) [])
 
 -- the moves of two requests, between which another client's request changes what the instrument retains
 abbrev pub changed_between : List (Move Keeper)
-changed_between = asks (Table NullProc) (value 0 0) (Changes (Some (1, 27)) ∷ asks (Table InstrumentNo) (value 1 27) [])
+changed_between = one_answered (Table NullProc) (giving 0 0) (Changes (Some (1, 27)) ∷ one_answered (Table InstrumentNo) (giving 1 27) [])
 
 -- Instruments that retain no reply: their state says whether they are out of order.
 
@@ -157,13 +150,13 @@ id_of false id = id
 id_of true id = other_id id
 
 -- what an instrument that may be out of order does with a request: it executes the request, and its reply has the request's id,
--- or another one if the instrument is out of order (`broken`). `behind` is its state afterwards
+-- or another one if the instrument is out of order (`broken`). `after` is its state afterwards
 abbrev pub answers_in : Bool → ℕ → Bool → Handed Bool
-answers_in broken id behind = record { state = behind; reply = value (id_of broken id) 0; executed = true }
+answers_in broken id after = record { state = after; reply = giving (id_of broken id) 0; executed = true }
 
 -- the good states: the instrument is in order
-abbrev pub InOrder : Bool → Type 0
-InOrder broken = broken ≡ false
+abbrev pub IsUnbroken : Bool → Type 0
+IsUnbroken broken = broken ≡ false
 
 -- an instrument that is always out of order
 abbrev pub mistaken : Ends Bool
@@ -174,8 +167,8 @@ abbrev pub misheard : Ends Bool
 misheard = record mistaken { handed = λ b id call. answers_in false id b; heard = λ line. option_map other_id (heard line) }
 
 -- an instrument that answers without having executed the request
-abbrev pub idle : Ends Bool
-idle = record mistaken { handed = λ b id call. record { state = b; reply = value id 0; executed = false } }
+abbrev pub pretends : Ends Bool
+pretends = record mistaken { handed = λ b id call. record { state = b; reply = giving id 0; executed = false } }
 
 -- an instrument that a request puts out of order
 abbrev pub wears_out : Ends Bool
@@ -194,7 +187,7 @@ sound = record mistaken { handed = λ b id call. answers_in b id b }
 -- the moves by which a null procedure is sent and answered, and then one request is sent, is repeated by the line, and reaches the
 -- instrument twice
 abbrev pub repeated_request : {State : Type 0} → List (Move State)
-repeated_request = asks (Table NullProc) (value 0 0) (Sends 7 (Table InstrumentNo) 9 ∷ OnLine (Up_repeat 0) ∷ OnLine Up_deliver ∷ OnLine Up_deliver ∷ [])
+repeated_request = one_answered (Table NullProc) (giving 0 0) (Sends 7 (Table InstrumentNo) 9 ∷ OnLine (Up_repeat 0) ∷ OnLine Up_deliver ∷ OnLine Up_deliver ∷ [])
 
 -- an instrument that retains its reply, but executes also a request that comes again
 abbrev pub deals_anew : Ends Keeper
@@ -204,8 +197,9 @@ deals_anew = record keeper { handed = λ k id call. again_or id k None }
 abbrev pub forgets : Ends Bool
 forgets = record mistaken { handed = λ b id call. answers_in false id b }
 
--- `ends` is an instrument that meets every clause, and yet, if one request reaches it twice without a start between (the moves
--- `repeated_request`), it executes that request both times
+-- `ends` is an instrument that meets every clause, and yet, from this good state on, after a clean synchronization with nothing
+-- in flight: if one request reaches it twice without a start between (the moves `repeated_request`, which are possible), it
+-- executes that request both times
 pub record IsExecutedTwice {State : Type 0} (ends : Ends State) (Good : State → Type 0) (kept : State → Option KeptReply) (state : State) : Type 0 where
   pub instrument : IsAnInstrument ends Good kept
   pub good : Good state
@@ -218,23 +212,23 @@ pub record IsExecutedTwice {State : Type 0} (ends : Ends State) (Good : State �
 -- each clause of what is asked of an instrument (`IsAnInstrumentFor`) is needed; and so are the rule when a client sends, the limits
 -- of what may change by itself, and both clauses of `KeepsItsReply`
 pub record IsAllNeeded : Type 0 where
-  pub hears : IsNeeded Hears misheard AnyState nothing false (asks (Table NullProc) (value 0 0) (asks_two (value 1 0))) 10 (Table InstrumentNo) (value 1 0)
-  pub replies : IsNeeded Replies mistaken AnyState nothing false (asks (Table NullProc) (value 0 0) (asks_two (value 2 0))) 10 (Table InstrumentNo) (value 2 0)
-  pub repeats : IsNeeded Repeats idle AnyState nothing false (asks (Table NullProc) (value 0 0) (asks (Table InstrumentNo) (value 1 0) [])) 9 (Table InstrumentNo) (value 1 0)
-  pub keeps : IsNeeded Keeps keeps_older AnyState kept None nine_requests 16 (Table NullProc) (value 0 0)
-  pub starts : IsNeeded Starts remembers AnyState kept None start_between 9 (Table InstrumentNo) (value 1 27)
-  pub stays_good : IsNeeded StaysGood wears_out InOrder nothing false (asks (Table NullProc) (value 0 0) (asks_two (value 2 0))) 10 (Table InstrumentNo) (value 2 0)
-  pub starts_good : IsNeeded StartsGood starts_broken InOrder nothing false (asks (Table NullProc) (value 0 0) (Anew ∷ asks_two (value 2 0))) 10 (Table InstrumentNo) (value 2 0)
+  pub hears : IsNeeded Hears misheard AnyState nothing false (one_answered (Table NullProc) (giving 0 0) (two_asked (giving 1 0))) 10 (Table InstrumentNo) (giving 1 0)
+  pub replies : IsNeeded Replies mistaken AnyState nothing false (one_answered (Table NullProc) (giving 0 0) (two_asked (giving 2 0))) 10 (Table InstrumentNo) (giving 2 0)
+  pub repeats : IsNeeded Repeats pretends AnyState nothing false (one_answered (Table NullProc) (giving 0 0) (one_answered (Table InstrumentNo) (giving 1 0) [])) 9 (Table InstrumentNo) (giving 1 0)
+  pub keeps : IsNeeded Keeps keeps_older AnyState kept None (nine_requests (Table InstrumentNo)) 16 (Table NullProc) (giving 0 0)
+  pub starts : IsNeeded Starts remembers AnyState kept None start_between 9 (Table InstrumentNo) (giving 1 27)
+  pub stays_good : IsNeeded StaysGood wears_out IsUnbroken nothing false (one_answered (Table NullProc) (giving 0 0) (two_asked (giving 2 0))) 10 (Table InstrumentNo) (giving 2 0)
+  pub starts_good : IsNeeded StartsGood starts_broken IsUnbroken nothing false (one_answered (Table NullProc) (giving 0 0) (Anew ∷ two_asked (giving 2 0))) 10 (Table InstrumentNo) (giving 2 0)
   -- when a client sends is needed, too: an instrument meets every clause, and the last request, which wasn't sent after the
   -- table (`IsBehindTheTable`), has an answer booked though it was never executed
   pub rule_is : IsAnInstrument refuses_raws AnyState kept
-  pub rule : (raw : RawCall) → IsBookedUnexecuted refuses_raws AnyState kept None (nine_raw raw) 16 (Table NullProc) (value 0 0)
+  pub rule : (raw : RawCall) → IsBookedUnexecuted refuses_raws AnyState kept None (nine_requests (Raw raw)) 16 (Table NullProc) (giving 0 0)
   -- two limits of what may change by itself are needed: what is retained may not change, as it does if another client sends;
   -- and the new state has to be a good one
   pub shared_is : IsAnInstrument keeper AnyState kept
-  pub changes_kept : IsBookedUnexecuted keeper AnyState nothing None changed_between 9 (Table InstrumentNo) (value 1 27)
-  pub sound_is : IsAnInstrument sound InOrder nothing
-  pub changes_good : IsBookedUnexecuted sound AnyState nothing false (asks (Table NullProc) (value 0 0) (Changes true ∷ asks_two (value 2 0))) 10 (Table InstrumentNo) (value 2 0)
+  pub changes_kept : IsBookedUnexecuted keeper AnyState nothing None changed_between 9 (Table InstrumentNo) (giving 1 27)
+  pub sound_is : IsAnInstrument sound IsUnbroken nothing
+  pub changes_good : IsBookedUnexecuted sound AnyState nothing false (one_answered (Table NullProc) (giving 0 0) (Changes true ∷ two_asked (giving 2 0))) 10 (Table InstrumentNo) (giving 2 0)
   -- an instrument that retains its reply executes a request that comes twice only once (`ActsOnce`), and both clauses on that
   -- are needed: here are an instrument that lacks the first clause and has the second, and one that lacks the second and has
   -- the first

@@ -7,7 +7,7 @@ use Rattle.gc_world.specs.Order.{Each}
 use Rattle.gc_field.specs.World.{Sent}
 
 -- the instrument didn't start between executions j and k: each start had at most j executions before it, or more than k
-abbrev pub HasNoStart : List ℕ → ℕ → ℕ → Type 0
+abbrev pub HasNoStart : List ℕ → (j k : ℕ) → Type 0
 HasNoStart starts j k = Each (λ s. (s ≤ j) ⊎ (k < s)) starts
 
 -- executions are in the order of sending, also over starts: of any two, the later one is of the same request, or of one that
@@ -17,7 +17,7 @@ IsInOrder executed = (j k m n : ℕ) → j < k → slice_get executed j ≡ Some
 
 -- of two executions with no start between them, the later one is of a request that was sent later, if it is of a request that the
 -- instrument knows (`knows`)
-abbrev pub ActsOnce : (Asked → Bool) → List Sent → List ℕ → List ℕ → Type 0
+abbrev pub ActsOnce : (Asked → Bool) → List Sent → (executed starts : List ℕ) → Type 0
 ActsOnce knows sent executed starts =
     (j k m n : ℕ) (r : Sent) → j < k → HasNoStart starts j k → slice_get executed j ≡ Some m → slice_get executed k ≡ Some n →
     slice_get sent n ≡ Some r → knows r.call ≡ true → m < n

@@ -24,7 +24,7 @@ use Rattle.gc_station.specs.declared.plan.Plan.{Plan}
 use Rattle.gc_field.specs.Simulator.{ends}
 use Rattle.gc_field.specs.Begin.{UnderWay}
 use Rattle.gc_field.specs.Beginnings.{Run}
-use Rattle.gc_field.specs.Chains.{HasEffect, IsChainedTo, IsUndisturbed, behind}
+use Rattle.gc_field.specs.Chains.{HasEffect, IsChainedTo, IsUndisturbed, stretch_wire}
 use Rattle.gc_field.specs.Laws.{kept_of}
 use Rattle.gc_field.specs.Runs.{IsInField}
 use Rattle.gc_field.specs.Shown.{Stretch, stretches}
@@ -45,8 +45,8 @@ turns_telescope (Table (ChangeFace pos_mode atr_mode dummy)) = true
 turns_telescope (Table (FineAdjust area_hz area_v dummy)) = true
 turns_telescope _ = false
 
--- no command from place a up to place b turns the telescope
-abbrev pub AreStill : List Task → ℕ → ℕ → Type 0
+-- no command of the places between a and b turns the telescope
+abbrev pub AreStill : List Task → (a b : ℕ) → Type 0
 AreStill commands a b = (p : ℕ) (task : Task) → a < p → p < b → slice_get commands p ≡ Some task → turns_telescope task.command.call ≡ false
 
 -- in two states of an instrument the telescope points in the same direction, in the same face
@@ -59,15 +59,16 @@ pub record PointsAs (s t : State) : Type 0 where
 -- was before
 pub record IsMeasuredWhereItPointed (reads : Asked → List ℕ → Reading) (commands : List Task) (ps : List Part) (ss : List (Stretch State))
     (records : List Record) (a : ℕ) (b : Record) (line : List ℕ) (h : IsChainedTo ends IsFittingState kept_of reads commands ps ss records a b line) : Type 0 where
-  pub as_left : PointsAs (behind ends h.stretch h.executed.second.front).state (after_call (behind ends h.stretch h.executed.first.front).state h.record_a.command.call)
+  pub as_left : PointsAs (stretch_wire ends h.stretch h.executed.second.front).state (after_call (stretch_wire ends h.stretch h.executed.first.front).state h.record_a.command.call)
   pub as_commanded :
       (hz v : Decimal) (pos_mode atr_mode dummy : _) → h.record_a.command.call ≡ Table (Position hz v pos_mode atr_mode dummy)
-      → ((behind ends h.stretch h.executed.second.front).state.pointing ≡ record { hz = hz; v = v })
-      × ((behind ends h.stretch h.executed.second.front).state.face ≡ (behind ends h.stretch h.executed.first.front).state.face)
+      → ((stretch_wire ends h.stretch h.executed.second.front).state.pointing ≡ record { hz = hz; v = v })
+      × ((stretch_wire ends h.stretch h.executed.second.front).state.face ≡ (stretch_wire ends h.stretch h.executed.first.front).state.face)
 
--- if the command of record b, of a cycle, was answered, and is chained to the command of its cycle at place a, it was executed
--- after the latter. If no command of the places between turns the telescope, and the instrument neither started again nor
--- changed by itself between the two executions, it was executed with the telescope as the latter had left it
+-- if the command of record b, of a cycle and not of the setup, was answered, and is chained to the command of its cycle at
+-- place a, it was executed after the latter. If no command of the places between turns the telescope, and the instrument
+-- neither started again nor changed by itself between the two executions, it was executed with the telescope as the latter had
+-- left it
 abbrev pub IsPointedInChain : Plan → List Task → Scope → List Act → UnderWay State → List (Run State) → Record → Type 0
 IsPointedInChain plan commands scope acts u rs b =
     (line : List ℕ) (a : ℕ) → answer_of b.end ≡ Some line → 0 < b.cycle → plan.setup ≤ a → a < b.place → AreChained commands a b.place

@@ -22,7 +22,7 @@ use Rattle.gc_station.specs.Begun.{AreBegun, heard_in}
 use Rattle.gc_station.specs.Deciding.{has_begun}
 use Rattle.gc_station.specs.EachOnce.{EachOnce}
 use Rattle.gc_station.specs.Marks.{records_of}
-use Rattle.gc_station.specs.Parts.{Part, MarksAsk, acting, mark_of, parts_of, sent_at, sent_of, timeless}
+use Rattle.gc_station.specs.Parts.{Part, MarksAsk, part_of_act, mark_of, parts_of, sent_at, sent_of, timeless}
 use Rattle.gc_station.specs.Records.{Record}
 use Rattle.gc_station.specs.Requests.{asked_at}
 use Rattle.gc_station.specs.Runs.{state_after}
@@ -88,25 +88,24 @@ module _ {State : Type 0} (ends : Ends State) where
       records_of reads 0 p.marks (own_settled s ++ map lost (world s).client.waiting) ++ written_over reads (q ∷ ps) (t ∷ ss)
   written_over reads _ _ = []
 
--- the part p is what an act means, which takes the station from the model s to t. While the station synchronizes (`false`) the
--- part has turns, and the turn of the next null procedure comes exactly if the one before it is answered. Once it has
--- synchronized (`true`) the part has steps of the client, as `Means` says: a request that is sent is one whose line the bytes
--- are
+-- the part p is what an act means that takes the station from the model s to t. While the station synchronizes (`false`), the part
+-- has turns, as `MeansTurns` says, and the lines heard in them decide which ids of the word are left in t. Once it has
+-- synchronized (`true`), the part has steps of the client, as `Means` says: a request is sent as the bytes of its line
 abbrev pub IsMeant : Bool → Model → Act → Part → Model → Type 0
 IsMeant true s act p t = (p.turns ≡ []) × Means s.client s.rest act p.steps t.rest
 IsMeant false s act p t = (p.steps ≡ []) × MeansTurns s.progress.word s.rest act p.turns t.rest × (t.progress.word ≡ unanswered_after s.progress.word (heard_in p.turns))
 
--- each act of a run means what the parts of the run count for it (`acting`)
+-- each act of a run means what the parts of the run count for it (`part_of_act`)
 abbrev pub AreMeant : Plan → List Task → Model → List Act → Type 0
 AreMeant plan commands s [] = Unit {0}
 AreMeant plan commands s (act ∷ acts) =
-    IsMeant (has_begun s.progress) s act (acting plan commands s (action_at plan s) act) (after plan commands s act) × AreMeant plan commands (after plan commands s act) acts
+    IsMeant (has_begun s.progress) s act (part_of_act plan commands s (action_at plan s) act) (after plan commands s act) × AreMeant plan commands (after plan commands s act) acts
 
 module _ {State : Type 0} (ends : Ends State) (Good : State → Type 0) (kept : State → Option KeptReply) where
   -- a run of a station, and for each of its parts what happens on the line and to an instrument: first while it synchronizes,
-  -- then once it has synchronized. In flight at its start may be anything in which the word isn't a subsequence of the ids; and
-  -- each part is over what the one before it left. What these happenings show to the station and its client are the turns and
-  -- steps of its acts
+  -- then once it has synchronized. In flight at its start may be anything well formed (`IsWellFormed`) in which the word isn't
+  -- a subsequence of the ids; and each part is over what the one before it left. What these happenings show to the station and
+  -- its client are the turns and steps of its acts
   pub record IsInField (plan : Plan) (commands : List Task) (scope : Scope) (acts : List Act) (u : UnderWay State) (rs : List (Run State)) : Type 0 where
     pub runs : Runs plan commands (opening plan scope) acts
     pub lines : IsWellFormed Good u
@@ -178,8 +177,8 @@ module _ {State : Type 0} (ends : Ends State) (Good : State → Type 0) (kept : 
     pub own : AllByRecursion (IsOwnAnswer commands (parts_of plan commands (opening plan scope) acts) (stretches ends u rs)) (state_after plan commands scope acts).records
     -- and if a reply came too late, the instrument executed the request all the same
     pub late : AllByRecursion (LateHasExecution commands (parts_of plan commands (opening plan scope) acts) (stretches ends u rs)) (state_after plan commands scope acts).records
-    -- one for one: the records and what is outstanding are the commands sent, and those recorded without being sent, in order,
-    -- each once
+    -- one for one: the records and what is outstanding, of cycles, are the commands of cycles that had their turn, sent or not,
+    -- in order, each once, but for those of further attempts that were left out
     pub one_for_one : EachOnce plan commands scope acts
     -- the requests of the stretches are these commands, and null procedures; and the records, but for those of commands that
     -- weren't sent, are how they ended there, answered, late or lost

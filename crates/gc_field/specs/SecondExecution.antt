@@ -33,7 +33,8 @@ moves =
     ∷ Comes (codes "%R1P,0,2:0,0")
     ∷ []
 
--- the third request is executed twice, and its answer is the second execution's, in the state after the start
+-- these moves are possible after a synchronization that left nothing in flight; the third request is executed twice, and its
+-- answer is the second execution's, in the state after the start
 pub record IsExecutedAgain : Type 0 where
   pub possible : ArePossible ends IsFittingState kept_of (by_ids WINDOW ends) moves (ids_begun (none_under_way simulator_opening))
   pub executed : (behind WINDOW ends (none_under_way simulator_opening) moves).wire.executed ≡ 8 ∷ 9 ∷ 10 ∷ 10 ∷ []

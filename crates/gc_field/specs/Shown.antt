@@ -9,7 +9,7 @@ use Rattle.gc_field.specs.Begin.{InFlight, Model, Turn, Asks, Comes, Foreign, Re
 use Rattle.gc_field.specs.Beginnings.{Run, left_by_run}
 use Rattle.gc_field.specs.Field.{Move, seen}
 
--- the turn at which the front one of these replies is heard; none if there is none
+-- the turn at which the front one of these replies is heard; no turn if there is no reply
 abbrev pub first_heard : List (InFlight (List ℕ)) → List part.Turn
 first_heard [] = []
 first_heard (x ∷ rest) = part.Hears x.line ∷ []

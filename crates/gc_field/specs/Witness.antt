@@ -58,7 +58,7 @@ replies = codes "%R1P,0,6:0" ∷ codes "%R1P,0,5:0" ∷ codes "%R1P,0,4:0" ∷ c
 
 -- the acts by which each of these lines is sent at the moment `now`, and its reply, the next of the second list, comes; and
 -- then `acts`
-abbrev pub exchanged : ℕ → List (List ℕ) → List (List ℕ) → List Act → List Act
+abbrev pub exchanged : ℕ → (requests answers : List (List ℕ)) → List Act → List Act
 exchanged now (line ∷ others) (reply ∷ later) acts = Put (with_end line) ∷ Told (at now) ∷ Gave (with_end reply) (at now) ∷ exchanged now others later acts
 exchanged now _ _ acts = acts
 

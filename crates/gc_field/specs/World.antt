@@ -22,7 +22,7 @@ abbrev pub Wire : Type 0 → Type 0
 Wire State = Worlds.Wire Asked State
 
 -- a wire with its client
-abbrev pub World : Type 0 → Type 0 → Type 0
+abbrev pub World : (Client State : Type 0) → Type 0
 World Client State = Worlds.World Asked Client State
 
 -- Its two ends.

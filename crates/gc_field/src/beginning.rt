@@ -3,7 +3,7 @@
 //! come for each. Each function does nothing: its contract is the law.
 
 ghost use Rattle.gc_field.specs.BeginWitness.{AreSomeRuns, IsBookedFromBefore};
-ghost use Rattle.gc_field.specs.Beginnings.{RowsHaveNotTheWord, RunsAreTheirOwn, RunsLeaveRows, SimulatorsRunsAreTheirOwn};
+ghost use Rattle.gc_field.specs.Beginnings.{RisingIdsLackTheWord, RunsAreTheirOwn, RunsLeaveRisingIds, SimulatorsRunsAreTheirOwn};
 ghost use Rattle.gc_field.specs.Begun.{AnswersAreTheirOwnOnceBegun, BeginsCleanly, SimulatorsAnswersAreTheirOwnOnceBegun};
 
 /// For any instrument, whatever the line loses or repeats, and whatever is in flight when a synchronization begins, unless the
@@ -16,8 +16,8 @@ pub fn begins_cleanly<State>()
 
 /// After a clean synchronization each answer that a new client settles was made on executing that very request, from its first
 /// request on, however many are sent at once, if all are calls of the table, or the instrument retains after each request its
-/// own reply or none, or one of the seven requests before it is a call of the table that a reply ended (`IsSafe`); and the rest
-/// of what `answers_are_their_own` says holds as well.
+/// own reply or none, or one of the seven requests before it is a call of the table that a reply ended, or the synchronization's
+/// eighth null procedure (`IsSafe`); and the rest of what `answers_are_their_own` says holds as well.
 pub fn answers_are_their_own_once_begun<State>()
     ensures { AnswersAreTheirOwnOnceBegun State }
 {}
@@ -27,21 +27,22 @@ pub fn simulators_answers_are_their_own_once_begun()
     ensures { SimulatorsAnswersAreTheirOwnOnceBegun }
 {}
 
-/// The ids of an `IsRow`, which a run has in flight once it has synchronized, don't have the word 6 5 4 3 2 1 0 7 as a
-/// subsequence. So a synchronization within a run, or after a run that had synchronized, needs no premise on the word.
-pub fn rows_have_not_the_word<State>()
-    ensures { RowsHaveNotTheWord State }
+/// Ids that rise as `HasRisingIds` says, which a run has in flight once it has synchronized, don't have the word
+/// 6 5 4 3 2 1 0 7 as a subsequence. So a synchronization within a run, or after a run that had synchronized, needs no premise
+/// on the word.
+pub fn rising_ids_lack_the_word<State>()
+    ensures { RisingIdsLackTheWord State }
 {}
 
-/// After a clean synchronization, what is in flight at any time is an `IsRow`: in the order of the line, its ids are numbers
-/// that never fall, modulo 8, and all of them lie within eight consecutive numbers.
-pub fn runs_leave_rows<State>()
-    ensures { RunsLeaveRows State }
+/// After a clean synchronization, `HasRisingIds` holds of what is in flight at any time: in the order of the line, the ids are
+/// numbers that never fall, modulo 8, and all of these numbers lie within eight consecutive ones.
+pub fn runs_leave_rising_ids<State>()
+    ensures { RunsLeaveRisingIds State }
 {}
 
 /// One run after the other, each killed at any time. At the start nothing is in flight, or what a run that had synchronized may
-/// leave (`IsRow`). As long as fewer than six in a row end while they synchronize, each run that has synchronized has done so
-/// cleanly, and all that `answers_are_their_own_once_begun` says holds of it.
+/// leave (`HasRisingIds`). As long as fewer than six in a row end while they synchronize, each run that has synchronized has
+/// done so cleanly, and all that `answers_are_their_own_once_begun` says holds of it.
 pub fn runs_are_their_own<State>()
     ensures { RunsAreTheirOwn State }
 {}
@@ -52,7 +53,8 @@ pub fn simulators_runs_are_their_own()
 {}
 
 /// The premises of [`simulators_runs_are_their_own`] can be met, here by two runs: one is killed while it synchronizes; the
-/// next one starts among replies to it and to requests from before, and sends two commands at once, both of which are answered.
+/// next one starts with two of that one's null procedures in flight, and two requests from before, and sends two commands at
+/// once, both of which are answered.
 pub fn some_runs_are_their_own()
     ensures { AreSomeRuns }
 {}

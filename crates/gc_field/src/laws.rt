@@ -23,8 +23,8 @@ ghost use Rattle.gc_field.specs.SecondExecution.{IsExecutedAgain};
 ghost use Rattle.gc_field.specs.Witness.{SomeRunIsInField};
 
 /// For any instrument, and a client that doesn't synchronize, as that of `geocom ask`, with nothing in flight: over any number
-/// of connections, and whenever the client sends calls of the table, each answer that it settles was made on executing that
-/// very request. The first request is excepted, and is sent alone. The instrument executed each request that is late;
+/// of connections, and whenever the client sends calls of the table, apart from its first request, which is sent alone: each
+/// answer that it settles was made on executing that very request, and the instrument executed each request that is late. Also
 /// executions are in the order of sending; and if the instrument retains its reply to each request that it knows, it executes
 /// each of these at most once between two of its restarts.
 pub fn answers_are_their_own<State>()
@@ -33,7 +33,8 @@ pub fn answers_are_their_own<State>()
 
 /// For any instrument, and the acts of a station that has synchronized cleanly: each answer, from the first request on, was made
 /// on executing its very request, if all requests are calls of the table, or the instrument retains after each request its own
-/// reply or none, or one of the seven requests before it is a call of the table that a reply ended (`IsSafe`).
+/// reply or none, or one of the seven requests before it is a call of the table that a reply ended, or the synchronization's
+/// eighth null procedure (`IsSafe`).
 pub fn stations_answers_are_their_own<State>()
     ensures { StationsAnswersAreTheirOwn State }
 {}
@@ -43,17 +44,20 @@ pub fn stations_answers_are_their_own<State>()
 /// have the word 6 5 4 3 2 1 0 7 as a subsequence. The run synchronizes cleanly, at first and wherever it resynchronizes. Each
 /// answer that it records, from its first command on, also one that is unreadable or elsewhere, was made on executing the very
 /// request of that cycle and place. The instrument executed each request that is late. The records and the outstanding commands
-/// are the commands that had their turn, one for one. And each stretch from one synchronization to the next is faithful: its
-/// settlements and what is outstanding are its requests, one for one and in order; requests are executed in the order of
-/// sending; and if the instrument retains its reply to each request that it knows, it executes each of these at most once
-/// between two of its restarts.
+/// of cycles are the commands of cycles that had their turn, one for one, but for further attempts that were left out. The bytes
+/// that the station sends are the lines of its requests, and its records are how these ended on the line; the first reply to a
+/// request that isn't settled settles it. And each stretch from one synchronization to the next is faithful: its settlements
+/// and what is outstanding are its requests, one for one and in order; requests are executed in the order of sending; and if
+/// the instrument retains its reply to each request that it knows, it executes each of these at most once between two of its
+/// restarts.
 pub fn runs_are_faithful<State>()
     ensures { RunsAreFaithful State }
 {}
 
 /// Stations run one after the other over a line that outlives them, each with its own plan and commands, and each killed at any
-/// time. At the start nothing is in flight, or what a run that had synchronized may leave (`IsRow`). As long as fewer than six
-/// in a row end while they synchronize, all that `runs_are_faithful` says holds of each, without the premise on the word.
+/// time. At the start nothing is in flight, or what a run that had synchronized may leave (`HasRisingIds`). As long as fewer
+/// than six in a row end while they synchronize, all that `runs_are_faithful` says holds of each, without the premise on the
+/// word.
 pub fn stations_in_a_row_are_faithful<State>()
     ensures { StationsInARowAreFaithful State }
 {}
@@ -63,19 +67,19 @@ pub fn simulators_stations_in_a_row_are_faithful()
     ensures { SimulatorsStationsInARowAreFaithful }
 {}
 
-/// In every run that `runs_are_faithful` speaks of, for any instrument: a command of a chain that is answered was executed
-/// after each earlier command of the chain, in the same stretch, and the answers of both are the replies to these executions.
-/// If the instrument didn't restart between the two executions, each request that it executed between them, and to which it
-/// retains its reply, was sent between them. If it didn't change by itself either, its state at the later execution is what the
-/// executions from the earlier one on made of it.
+/// In every run that `runs_are_faithful` speaks of, for any instrument: a command of a chain that is answered, of a cycle and
+/// not of the setup, was executed after each earlier command of the chain, in the same stretch, and the answers of both are the
+/// replies to these executions. If the instrument didn't restart between the two executions, each request that it executed
+/// between them, and to which it retains its reply, was sent between them. If it didn't change by itself either, its state at
+/// the later execution is what the executions from the earlier one on made of it.
 pub fn chains_are_executed<State>()
     ensures { ChainsAreExecuted State }
 {}
 
-/// In every such run over the simulator, of two commands of a chain that are answered: if no command between them turns the
-/// telescope, and the simulator neither restarted nor changed by itself between their executions, the telescope pointed, when
-/// the later one was executed, where the earlier one had left it. If that one was a positioning, this is the direction that it
-/// commanded, in the same face.
+/// In every such run over the simulator, of two commands of a chain of a cycle that are answered: if no command between them
+/// turns the telescope, and the simulator neither restarted nor changed by itself between their executions, the telescope
+/// pointed, when the later one was executed, where the earlier one had left it. If that one was a positioning, this is the
+/// direction that it commanded, in the same face.
 pub fn chains_are_measured_where_they_pointed()
     ensures { ChainsAreMeasuredWhereTheyPointed }
 {}
@@ -107,19 +111,21 @@ pub fn simulators_runs_are_faithful()
     ensures { SimulatorsRunsAreFaithful }
 {}
 
-/// An instrument that retains no reply meets all that is asked of an instrument, if each of its replies has its request's id.
+/// An instrument that retains no reply and executes each request meets all that is asked of an instrument, if the client reads
+/// its lines by the grammar of replies, and each of its replies has its request's id.
 pub fn keeping_nothing_suffices<State>()
     ensures { KeepingNothingSuffices State }
 {}
 
-/// Each clause of what is asked of an instrument is needed: there is an instrument that fails that clause alone and a run in
-/// which it has an answer booked for a request that it never executed, or executes a request twice.
+/// Each clause of what is asked of an instrument is needed, and so are the rule when a client sends and the limits of what may
+/// change by itself: where one of these alone fails, there is an instrument and a run in which an answer is booked for a request
+/// that was never executed, or, for the clauses of `KeepsItsReply`, in which a request is executed twice.
 pub fn what_is_asked_is_needed()
     ensures { IsAllNeeded }
 {}
 
-/// A request that is cut reaches the instrument complete or not at all: no front of it with a line feed after it is a request,
-/// and no tail.
+/// A request that is cut reaches the instrument complete or not at all: no front of it without the CR is a request with a line
+/// feed after it, and no tail is one; the front with the CR and a line feed after it is the whole request.
 pub fn cut_requests_are_whole_or_nothing()
     ensures { CutRequestsAreWholeOrNothing }
 {}

@@ -9,7 +9,7 @@ use Rattle.gc_files.specs.Sinks.{known_content}
 use Rattle.gc_files.proofs.Moments.{behind_two}
 use Rattle.gc_files.specs.Files.{Step, Append, Cut, Sync, Life, has_sync, content, later_by, Adds}
 use Rattle.gc_files.specs.Runs.{synced}
-use Rattle.gc_files.specs.Rows.{whole, is_empty, mended, cuts_none, appended, Ran, IsFront, Opens, OpensInPart, PutsAll}
+use Rattle.gc_files.specs.Rows.{whole, is_empty, mended, cuts_none, appended, MendedAndPut, IsFront, Opens, OpensInPart, PutsAll}
 
 -- adding the steps `xs` to a life, and then `ys`, is adding `xs ++ ys`
 pub later_two : (xs ys : List Step) (life : Life) → later_by ys (later_by xs life) ≡ later_by (xs ++ ys) life
@@ -96,9 +96,9 @@ opens_whole head old new end more ends adds life is = (
   },
 )
 
--- a file that was mended, and to which these bytes were then appended, has added to its life such steps as `Ran` asks for
+-- a file that was mended, and to which these bytes were then appended, has added to its life such steps as `MendedAndPut` asks for
 pub ran_more : (old mid new : Option Life) (bytes : List ℕ) → ((known : Life) → old ≡ Some known → Adds old mid (mended (content known)))
-    → PutsAll mid new bytes → (life : Life) → old ≡ Some life → (steps : List Step) × (new ≡ Some (later_by steps life)) × Ran (content life) steps bytes
+    → PutsAll mid new bytes → (life : Life) → old ≡ Some life → (steps : List Step) × (new ≡ Some (later_by steps life)) × MendedAndPut (content life) steps bytes
 ran_more old mid new bytes adds puts life is =
     let second = puts (later_by (mended (content life)) life) (adds life is life is) in (
       mended (content life) ++ second.0,
@@ -111,7 +111,7 @@ pub opens_head : (head : List ℕ) (old mid new : Option Life) (end : ℕ) → e
     → ((known : Life) → old ≡ Some known → Adds old mid (mended (content known))) → PutsAll mid new head → Opens head old new
 opens_head head old mid new end none ends adds puts life is =
     let ran = ran_more old mid new head adds puts life is in
-    (ran.0, ran.1, subst (λ (bytes : List ℕ). Ran (content life) ran.0 bytes) (sym (head_without_rows head (whole (content life)) (omega (arith, none, ends life is)))) ran.2)
+    (ran.0, ran.1, subst (λ (bytes : List ℕ). MendedAndPut (content life) ran.0 bytes) (sym (head_without_rows head (whole (content life)) (omega (arith, none, ends life is)))) ran.2)
 
 -- a file that was mended, in part or whole, was opened as far as the opening came (`OpensInPart`)
 pub opens_part : (head : List ℕ) (old new : Option Life) → ((known : Life) → old ≡ Some known → (count : ℕ) × Adds old new (take count (mended (content known)))) → OpensInPart head old new

@@ -2,14 +2,14 @@
 use Rattle.std.proofs.Common.{◌≡◌, inl, inr, ℕ, ◌≤◌, true, false, List, [], ◌∷◌, ◌++◌, length, take, refl, sym, ◌∙◌, ap, subst, arith, append_assoc, Option}
 use Rattle.std.proofs.lemmas.List.{append-nil}
 use Rattle.gc_files.specs.Files.{Step, Append, Cut, Sync, Life, has_sync, held_after, content, later_by}
-use Rattle.gc_files.specs.Rows.{table, start_of, mended, cuts_none, appended, Puts, Ran, IsFront, ComesTo}
+use Rattle.gc_files.specs.Rows.{table, start_of, mended, cuts_none, appended, Puts, MendedAndPut, IsFront, ComesTo}
 use Rattle.gc_files.specs.Runs.{synced, Run, lines, AreRows, IsHead, WereKept, IsRun, life_after, life_once_ended, HasRows, IsKilled, AreKilled}
 use Rattle.gc_files.proofs.Adding.{cuts_two, appended_two, synced_all}
 use Rattle.gc_files.proofs.Lasting.{RunHas, run_moments, has_more}
 use Rattle.gc_files.proofs.Moments.{may_stay, behind_two, two_steps, mend_synced}
 
 -- a sync after a run keeps all that the run appended
-pub ran_synced : (held : List ℕ) (steps : List Step) (bytes : List ℕ) → Ran held steps bytes → synced (steps ++ Sync ∷ []) ≡ bytes
+pub ran_synced : (held : List ℕ) (steps : List Step) (bytes : List ℕ) → MendedAndPut held steps bytes → synced (steps ++ Sync ∷ []) ≡ bytes
 ran_synced held steps bytes ran =
     let at : steps ++ Sync ∷ [] ≡ take 2 (mended held) ++ (ran.later ++ Sync ∷ []) =
     ap (λ (xs : List Step). xs ++ Sync ∷ []) ran.split ∙ append_assoc (mended held) ran.later (Sync ∷ []) ∙ ap (λ (xs : List Step). xs ++ (ran.later ++ Sync ∷ [])) (sym (two_steps held)) in
@@ -17,7 +17,7 @@ ran_synced held steps bytes ran =
 
 -- an opening, and after it appends and syncs of a front of the lines of some rows, are a run of these rows
 pub calls_opened : (head held : List ℕ) (opening later : List Step) (front : List ℕ) (rows : List (List ℕ)) (kept : ℕ) (left : Option (List ℕ))
-    → Ran held opening (start_of head held) → Puts later front → IsFront front (lines rows) → AreRows rows → kept ≤ length rows
+    → MendedAndPut held opening (start_of head held) → Puts later front → IsFront front (lines rows) → AreRows rows → kept ≤ length rows
     → WereKept head held rows kept (opening ++ later)
     → IsRun head held (record { rows = rows; steps = opening ++ later; kept = kept; left = left })
 calls_opened head held opening later front rows kept left ran puts is_front are few were = record {
@@ -55,7 +55,7 @@ calls_failed head held steps left comes = record {
 abbrev synced_run : Run → Run
 synced_run run = record run { steps = run.steps ++ Sync ∷ [] }
 
--- a file after a run that ended by itself or by a kill has the run's rows, at least all that went out whole
+-- a file after a run that ended by itself or by a kill has first rows of the run, at least those that went out whole (`RunHas`)
 killed_has : (head held : List ℕ) (run : Run) → IsHead head → IsKilled head held run → RunHas head held run (held_after held run.steps)
 killed_has head held run heads one = elim one.written [
   | inl none ↦ run_moments head held run (held_after held run.steps) heads (record { rows = one.rows; steps = one.steps; few = one.few; kept = inl none }) (may_stay held run.steps)
@@ -90,17 +90,13 @@ killed_has head held run heads one = elim one.written [
       }
 ]
 
--- after a run, a file holds what the run's steps make of what it held before
-left_by : (life : Life) (run : Run) → content (later_by run.steps life) ≡ held_after (content life) run.steps
-left_by life run = behind_two life.start life.steps run.steps
-
 -- runs that end by themselves or by a kill add their rows, one after the other
 killed_runs_add_rows : (head before : List ℕ) → IsHead head → (done runs : List Run) (life : Life) → HasRows head before done (content life) → AreKilled head life runs
     → HasRows head before (done ++ runs) (content (life_after life runs))
 killed_runs_add_rows head before heads done [] life has killed = subst (λ (rs : List Run). HasRows head before rs (content life)) (sym (append-nil done)) has
 killed_runs_add_rows head before heads done (run ∷ runs) life has killed =
     let one = killed_has head (content life) run heads killed.0 in
-    let left = subst (λ (held : List ℕ). RunHas head (content life) run held) (sym (left_by life run)) one in
+    let left = subst (λ (held : List ℕ). RunHas head (content life) run held) (sym (behind_two life.start life.steps run.steps)) one in
     let more = has_more head before done run (content life) (content (later_by run.steps life)) has left in
     let all = killed_runs_add_rows head before heads (done ++ run ∷ []) runs (later_by run.steps life) more killed.1 in
     subst (λ (rs : List Run). HasRows head before rs (content (life_after life (run ∷ runs)))) (append_assoc done (run ∷ []) runs)

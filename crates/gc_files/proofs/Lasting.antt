@@ -1,13 +1,13 @@
 -- Over runs and crashes a table stays. A table is the head and the whole rows of a file; `held` is what the file held before a
 -- run, and `left` what is found in it at some moment of the run or after it.
 use Rattle.std.proofs.Common.{◌≡◌, ◌⊎◌, inl, inr, ℕ, zero, suc, ◌≤◌, Bool, true, false, List, [], ◌∷◌, ◌++◌, length, take, refl, sym, ◌∙◌, ap, subst, arith, append_assoc, length-append, if◌then◌else◌, Option, Some, None}
-use Rattle.std.proofs.lemmas.Bool.{cases_Bool, cases_lt}
-use Rattle.std.proofs.lemmas.List.{append-nil, take_all, take_at, take-append-le}
+use Rattle.std.proofs.lemmas.Bool.{cases_Bool}
+use Rattle.std.proofs.lemmas.List.{append-nil}
 use Rattle.gc_files.specs.Files.{Step, Append, Cut, Sync, Life, settled, has_sync, content, later_by, MayLeave}
-use Rattle.gc_files.specs.Rows.{whole, line, is_empty, start_of, table, mended, appended, Ran, IsFront}
+use Rattle.gc_files.specs.Rows.{whole, line, is_empty, start_of, table, mended, appended, MendedAndPut, IsFront}
 use Rattle.gc_files.specs.Runs.{synced, Run, lines, AreRows, IsHead, IsRun, life_once_ended, CrashMayLeave, Happen, life_after, rows_of, AreRowCounts, HasRows}
 use Rattle.gc_files.proofs.Whole.{whole_whole, whole_more, within}
-use Rattle.gc_files.proofs.Moments.{may_stay, leaves_two, no_sync, mended_leaves_whole, mend_moments, two_steps, mend_synced, put_moments}
+use Rattle.gc_files.proofs.Moments.{may_stay, leaves_two, no_sync, mended_leaves_whole, mend_moments, two_steps, mend_synced, front_take, put_moments}
 
 -- `left` has some of these rows after what was there before, at least all those that end within the first k bytes
 pub record Has (head held : List ℕ) (rows : List (List ℕ)) (k : ℕ) (left : List ℕ) : Type 0 where
@@ -72,7 +72,7 @@ behind_nothing held rows k left are none is =
       least = λ m few le. w.least m few (subst (λ (l : List ℕ). length (l ++ lines (take m rows)) ≤ k) start le);
     }
   where
-    -- a choice between equal lists is that list
+    -- a choice between a list and the same list is that list
     either_same : (e : List ℕ) (t : Bool) → (if t then e else e) ≡ e
     either_same e true = refl
     either_same e false = refl
@@ -171,14 +171,6 @@ no_row_kept head held run left one nothing =
 same_table : (head left held : List ℕ) → whole left ≡ whole held → table head left ≡ table head held
 same_table head left held same = ap (λ (l : List ℕ). l ++ (if is_empty l then head else [])) same
 
--- the first k bytes of a front are the first `count` bytes of the whole, and `count` is at least k or at least the front's
--- length
-front_take : (held all bytes : List ℕ) (k : ℕ) (f : IsFront bytes all) → (count : ℕ) × (k ≤ count ⊎ length bytes ≤ count) × (held ++ take k bytes ≡ held ++ take count all)
-front_take held all bytes k f = elim (cases_lt k (length bytes)) [
-  | inl less ↦ (k, inl (omega arith), ap (λ (l : List ℕ). held ++ l) (sym (take-append-le k bytes f.rest (omega (arith, less))) ∙ ap (take k) (sym f.split)))
-  | inr more ↦ (length bytes, inr (omega arith), ap (λ (l : List ℕ). held ++ l) (take_all k bytes more ∙ sym (take_at bytes f.rest (length bytes) refl) ∙ ap (take (length bytes)) (sym f.split)))
-]
-
 -- no more is synced than was appended
 pub synced_length : (steps : List Step) → length (synced steps) ≤ length (appended steps)
 synced_length [] = omega arith
@@ -189,7 +181,7 @@ synced_length (Append bytes ∷ steps) = elim (cases_Bool (has_sync steps)) [
 synced_length (Sync ∷ steps) = synced_length steps
 synced_length (Cut size ∷ steps) = synced_length steps
 
--- whatever a crash leaves of a run has its rows
+-- whatever a crash leaves of a run has first rows of it, at least the kept ones (`RunHas`)
 pub run_moments : (head held : List ℕ) (run : Run) (left : List ℕ) → IsHead head → IsRun head held run → MayLeave held run.steps left → RunHas head held run left
 run_moments head held run left heads one may = elim one.steps [
   | inl mending ↦
@@ -199,9 +191,9 @@ run_moments head held run left heads one may = elim one.steps [
   | inr all ↦ ran_moments all.0 all.1 all.2
 ]
   where
-    -- whatever a crash leaves of a run that mended the file, and then appended a front of the head and its rows, has the run's
-    -- rows
-    ran_moments : (bytes : List ℕ) → Ran held run.steps bytes → IsFront bytes (start_of head held ++ lines run.rows) → RunHas head held run left
+    -- whatever a crash leaves of a run that mended the file, and then appended a front of the head and its rows, has first rows of
+    -- the run, at least the kept ones (`RunHas`)
+    ran_moments : (bytes : List ℕ) → MendedAndPut held run.steps bytes → IsFront bytes (start_of head held ++ lines run.rows) → RunHas head held run left
     ran_moments bytes ran front =
         let steps = mended held ++ ran.later in
         let here = subst (λ (steps : List Step). MayLeave held steps left) ran.split may in

@@ -8,4 +8,3 @@ pub mod Killing
 pub mod Failing
 pub mod Needing
 pub mod Feeds
-mod Walks

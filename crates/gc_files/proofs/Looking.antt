@@ -21,7 +21,7 @@ pub fits_none : (sign : List ℕ) → fits sign [] ≡ true
 fits_none [] = refl
 fits_none (a ∷ sign) = refl
 
--- where the first k bytes are the same, the bytes after them decide
+-- where a file and a sign have the same first k bytes, the file fits the sign exactly if what follows in it fits the rest of the sign
 pub fits_from : (k : ℕ) (sign held : List ℕ) → take k sign ≡ take k held → fits sign held ≡ fits (drop k sign) (drop k held)
 fits_from k sign held same =
     ap (λ (s : List ℕ). fits s held) (sym (take-append-drop k sign)) ∙ ap (λ (h : List ℕ). fits (take k sign ++ drop k sign) h)
@@ -39,7 +39,7 @@ fits_not (suc k) (a ∷ sign) (b ∷ held) one two differ = elim (cases_Bool (a 
   | inr isnt ↦ ap (λ t. t && fits sign held) isnt
 ]
 
--- where a piece of the file is as in the sign, the bytes after it decide
+-- where the next k bytes of the file are those of the sign, the file fits the sign from there exactly if it does from k bytes later
 pub looked_on : (at k : ℕ) (sign held rest : List ℕ) → rest ≡ drop at sign → take k rest ≡ take k (drop at held) → fits (drop at sign) (drop at held) ≡ fits (drop (at + k) sign) (drop (at + k) held)
 looked_on at k sign held rest is same =
     fits_from k (drop at sign) (drop at held) (ap (take k) (sym is) ∙ same)
@@ -51,7 +51,7 @@ pub looked_not : (at k : ℕ) (sign held rest : List ℕ) → rest ≡ drop at s
 looked_not at k sign held rest is one two differ =
     ap (λ (s : List ℕ). fits s (drop at held)) (sym is) ∙ fits_not k rest (drop at held) one (omega (arith, two, length-drop at held)) differ
 
--- at the end of the file nothing can differ any more
+-- a file of which all bytes were looked at fits the sign from there on
 pub looked_all : (at : ℕ) (sign held : List ℕ) → length held ≤ at → fits (drop at sign) (drop at held) ≡ true
 looked_all at sign held past = ap (fits (drop at sign)) (drop_all at held past) ∙ fits_none (drop at sign)
 
@@ -100,23 +100,19 @@ some_feed (b ∷ xs) (suc k) less is = elim (cases_Bool (b == 10)) [
   | inr isnt ↦ rw (isnt) (some_feed xs k (omega (arith, less)) is)
 ]
 
+-- where there is a line feed, the first byte is in the whole rows: they have one byte more than those of the bytes after it
+whole_first : (b : ℕ) (xs : List ℕ) → has_feed (b ∷ xs) ≡ true → length (whole (b ∷ xs)) ≡ suc (length (whole xs))
+whole_first b xs some = rw (some) refl
+
 -- the last line feed ends the whole rows
 last_feed : (xs : List ℕ) (k : ℕ) → k < length xs → (slice_index xs k == 10) ≡ true → ((j : ℕ) → k < j → j < length xs → (slice_index xs j == 10) ≡ true → ⊥) → suc k ≡ length (whole xs)
 last_feed [] k less is none = absurd (omega (arith, less))
 last_feed (b ∷ xs) zero less is none =
     let nothing : whole xs ≡ [] = whole_none xs (none_feed xs (λ j below. none (suc j) (omega arith) (omega (arith, below)))) in
     sym (whole_first b xs (some_feed (b ∷ xs) zero less is) ∙ ap (λ (l : List ℕ). suc (length l)) nothing)
-  where
-    -- where there is a line feed, the first byte is in the whole rows
-    whole_first : (b : ℕ) (xs : List ℕ) → has_feed (b ∷ xs) ≡ true → length (whole (b ∷ xs)) ≡ suc (length (whole xs))
-    whole_first b xs some = rw (some) refl
 last_feed (b ∷ xs) (suc k) less is none =
     let rest = last_feed xs k (omega (arith, less)) is (λ j above below. none (suc j) (omega (arith, above)) (omega (arith, below))) in
     sym (whole_first b xs (some_feed (b ∷ xs) (suc k) less is) ∙ ap suc (sym rest))
-  where
-    -- where there is a line feed, the first byte is in the whole rows
-    whole_first : (b : ℕ) (xs : List ℕ) → has_feed (b ∷ xs) ≡ true → length (whole (b ∷ xs)) ≡ suc (length (whole xs))
-    whole_first b xs some = rw (some) refl
 
 -- the whole rows of a block end with the last line feed that was found
 pub last_some : (block : List ℕ) (last : ℕ) → IsLastByte (is_byte 10) block (Some last) → last + 1 ≡ length (whole block)
@@ -143,7 +139,7 @@ none_whole xs none = elim (cases_Bool (has_feed xs)) [
     -- bytes with a line feed have a whole row
     first : (xs : List ℕ) → has_feed xs ≡ true → length (whole xs) ≡ 0 → ⊥
     first [] some none = let wrong : false ≡ true = some in cc
-    first (b ∷ xs) some none = let is : length (whole (b ∷ xs)) ≡ suc (length (whole xs)) = rw (some) refl in omega (arith, none, is)
+    first (b ∷ xs) some none = omega (arith, none, whole_first b xs some)
 
 -- bytes with a whole row have a line feed
 some_whole : (xs : List ℕ) → 0 < length (whole xs) → has_feed xs ≡ true
@@ -190,7 +186,7 @@ put_part old mid new bytes done puts same = (
 pub size_of : (k : ℕ) (buf block : List ℕ) → k ≤ length buf → length block ≡ length (take k buf) → length block ≡ k
 size_of k buf block within same = same ∙ length-take-le k buf within
 
--- a file without a line feed has no whole row
+-- where no line feed comes after the first `end` bytes of a file, and `end` is 0, the file has no whole row
 pub nothing_whole : (held : List ℕ) (end : ℕ) → end ≤ 0 → has_feed (drop end held) ≡ false → 0 ≡ length (whole held)
 nothing_whole held zero none feed = sym (ap length (whole_none held feed))
 nothing_whole held (suc end) none feed = absurd (omega (arith, none))

@@ -1,10 +1,10 @@
 -- What a file holds at each moment of a run. To mend a file is to cut off what follows its last line feed, and to sync that.
 use Rattle.std.proofs.Common.{◌≡◌, ◌⊎◌, inl, inr, ℕ, zero, suc, ◌+◌, ◌≤◌, ◌==◌, true, false, List, [], ◌∷◌, ◌++◌, length, take, refl, sym, ◌∙◌, ap, subst, arith, append_assoc, length-append}
 use Rattle.std.proofs.Math.Seq.{take-append-add}
-use Rattle.std.proofs.lemmas.Bool.{cases_Bool, cases_lt, eqb-true}
+use Rattle.std.proofs.lemmas.Bool.{cases_Bool, cases_lt, eqb-true, true≢false}
 use Rattle.std.proofs.lemmas.List.{append-nil, take_all, take_at, take-append-le}
 use Rattle.gc_files.specs.Files.{Step, Append, Cut, Sync, stepped, held_after, has_sync, MayLeave}
-use Rattle.gc_files.specs.Rows.{whole, mended, cuts_none, appended}
+use Rattle.gc_files.specs.Rows.{whole, mended, cuts_none, appended, IsFront}
 use Rattle.gc_files.specs.Runs.{synced}
 use Rattle.gc_files.proofs.Whole.{Torn, torn_of, whole_take}
 
@@ -18,20 +18,16 @@ pub behind_two : (held : List ℕ) (xs ys : List Step) → held_after held (xs +
 behind_two held [] ys = refl
 behind_two held (step ∷ xs) ys = behind_two (stepped held step) xs ys
 
--- no steps have no first steps
+-- the first n of no steps are no steps
 take_nil : (n : ℕ) → take {A = Step} n [] ≡ []
 take_nil n = take_all n [] (omega arith)
-
--- true isn't false
-true_is_not_false : true ≡ false → ⊥
-true_is_not_false e = cc
 
 -- where there is no sync in `xs ++ ys`, there is none in `xs`, and none in `ys`
 sync_two : (xs ys : List Step) → has_sync (xs ++ ys) ≡ false → (has_sync xs ≡ false) × (has_sync ys ≡ false)
 sync_two [] ys none = (refl, none)
 sync_two (Append bytes ∷ xs) ys none = sync_two xs ys none
 sync_two (Cut size ∷ xs) ys none = sync_two xs ys none
-sync_two (Sync ∷ xs) ys none = absurd (true_is_not_false none)
+sync_two (Sync ∷ xs) ys none = absurd (true≢false none)
 
 -- what a crash may leave after the steps `xs ++ ys` is what it may leave after `xs` alone, where `ys` have no sync, or what it
 -- may leave after `ys` of the file that `xs` made
@@ -50,7 +46,7 @@ pub no_sync : (steps : List Step) → has_sync steps ≡ false → synced steps 
 no_sync [] none = refl
 no_sync (Append bytes ∷ steps) none = rw (none) refl
 no_sync (Cut size ∷ steps) none = no_sync steps none
-no_sync (Sync ∷ steps) none = absurd (true_is_not_false none)
+no_sync (Sync ∷ steps) none = absurd (true≢false none)
 
 -- mending a file leaves its whole rows
 pub mended_leaves_whole : (held : List ℕ) → held_after held (mended held) ≡ whole held
@@ -58,17 +54,13 @@ mended_leaves_whole held = elim (cases_Bool (length (whole held) == length held)
   | inl same ↦
       let t = torn_of held in
       let none : mended held ≡ [] = rw (same) refl in
-      ap (held_after held) none ∙ all held t (eq_of same)
+      ap (held_after held) none ∙ all held t (eqb-true (length (whole held)) (length held) same)
   | inr less ↦
       let two : mended held ≡ Cut (length (whole held)) ∷ Sync ∷ [] = rw (less) refl in
       let t = torn_of held in
       ap (held_after held) two ∙ ap (take (length (whole held))) t.split ∙ take_at (whole held) t.torn (length (whole held)) refl
 ]
   where
-    -- numbers that test as equal are equal
-    eq_of : {a b : ℕ} → (a == b) ≡ true → a ≡ b
-    eq_of e = eqb-true _ _ e
-
     -- a file whose whole rows have its length is its whole rows
     all : (held : List ℕ) (t : Torn held) → length (whole held) ≡ length held → held ≡ whole held
     all held t same = sym (take_all (length held) held (omega arith)) ∙ ap
@@ -79,8 +71,8 @@ cut_moments : (held : List ℕ) (count : ℕ) (left : List ℕ) → MayLeave hel
 cut_moments held zero left may = ap whole may
 cut_moments held (suc zero) left (inl now) = ap whole now.1.2 ∙ whole_take held now.1.0 now.1.1
 cut_moments held (suc zero) left (inr next) = ap whole next ∙ whole_take held (length (whole held)) (omega arith)
-cut_moments held (suc (suc n)) left (inl now) = absurd (true_is_not_false now.0)
-cut_moments held (suc (suc n)) left (inr (inl now)) = absurd (true_is_not_false now.0)
+cut_moments held (suc (suc n)) left (inl now) = absurd (true≢false now.0)
+cut_moments held (suc (suc n)) left (inr (inl now)) = absurd (true≢false now.0)
 cut_moments held (suc (suc n)) left (inr (inr next)) =
     ap whole (subst (λ (steps : List Step). MayLeave (take (length (whole held)) held) steps left) (take_nil n) next) ∙ whole_take held (length (whole held)) (omega arith)
 
@@ -126,19 +118,20 @@ pub record Reached (held all least left : List ℕ) : Type 0 where
   pub is : left ≡ held ++ take count all
   pub enough : length least ≤ count
 
--- the first bytes of a front are some first bytes of the whole
-front_of_front : (held bytes rest : List ℕ) (k : ℕ) → (count : ℕ) × (held ++ take k bytes ≡ held ++ take count (bytes ++ rest))
-front_of_front held bytes rest k = elim (cases_lt k (length bytes)) [
-  | inl less ↦ (k, ap (λ (l : List ℕ). held ++ l) (sym (take-append-le k bytes rest (omega (arith, less)))))
-  | inr more ↦ (length bytes, ap (λ (l : List ℕ). held ++ l) (take_all k bytes more ∙ sym (take_at bytes rest (length bytes) refl)))
+-- the first k bytes of a front are the first `count` bytes of the whole, and `count` is at least k or at least the front's
+-- length
+pub front_take : (held all bytes : List ℕ) (k : ℕ) (f : IsFront bytes all) → (count : ℕ) × (k ≤ count ⊎ length bytes ≤ count) × (held ++ take k bytes ≡ held ++ take count all)
+front_take held all bytes k f = elim (cases_lt k (length bytes)) [
+  | inl less ↦ (k, inl (omega arith), ap (λ (l : List ℕ). held ++ l) (sym (take-append-le k bytes f.rest (omega (arith, less))) ∙ ap (take k) (sym f.split)))
+  | inr more ↦ (length bytes, inr (omega arith), ap (λ (l : List ℕ). held ++ l) (take_all k bytes more ∙ sym (take_at bytes f.rest (length bytes) refl) ∙ ap (take (length bytes)) (sym f.split)))
 ]
 
 -- steps that cut nothing leave, at each moment, a front of what they append, and at least what was synced of it
 pub put_moments : (steps : List Step) (held left : List ℕ) → cuts_none steps ≡ true → MayLeave held steps left → Reached held (appended steps) (synced steps) left
 put_moments [] held left none may = record { count = 0; is = may ∙ sym (append-nil held); enough = omega arith }
 put_moments (Append bytes ∷ steps) held left none (inl now) =
-    let at = front_of_front held bytes (appended steps) now.1.0 in
-    record { count = at.0; is = now.1.1 ∙ at.1; enough = subst (λ (l : List ℕ). length l ≤ at.0) (sym (no_sync (Append bytes ∷ steps) now.0)) (omega arith) }
+    let at = front_take held (bytes ++ appended steps) bytes now.1.0 (record { rest = appended steps; split = refl }) in
+    record { count = at.0; is = now.1.1 ∙ at.2; enough = subst (λ (l : List ℕ). length l ≤ at.0) (sym (no_sync (Append bytes ∷ steps) now.0)) (omega arith) }
 put_moments (Append bytes ∷ steps) held left none (inr next) =
     let rest = put_moments steps (held ++ bytes) left none next in
     record {
@@ -149,6 +142,6 @@ put_moments (Append bytes ∷ steps) held left none (inr next) =
         | inr isnt ↦ rw (isnt) (omega arith)
       ];
     }
-put_moments (Sync ∷ steps) held left none (inl now) = absurd (true_is_not_false now.0)
+put_moments (Sync ∷ steps) held left none (inl now) = absurd (true≢false now.0)
 put_moments (Sync ∷ steps) held left none (inr next) = put_moments steps held left none next
-put_moments (Cut size ∷ steps) held left none may = absurd (true_is_not_false (sym none))
+put_moments (Cut size ∷ steps) held left none may = absurd (true≢false (sym none))

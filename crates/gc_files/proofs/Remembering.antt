@@ -1,6 +1,8 @@
 -- What a file in memory remembers: its calls, as the steps of its life. A file is kept where a crash leaves all that it holds
 -- (`IsKept`).
-use Rattle.std.proofs.Common.{◌≡◌, inl, inr, ℕ, true, false, List, [], ◌∷◌, ◌++◌, refl, sym, ◌∙◌, ap, Option, None, Some, subst, Result, Ok, Err, OnOk}
+use Rattle.std.proofs.Common.{◌≡◌, inl, inr, ℕ, List, [], ◌∷◌, ◌++◌, refl, sym, ◌∙◌, ap, Option, None, Some, subst, Result, Ok, Err, OnOk}
+use Rattle.std.proofs.lemmas.Bool.{true≢false}
+use Rattle.std.proofs.lemmas.Option.{same_Some}
 use Rattle.gc_files.specs.declared.memory_file.Call.{Call}
 use Rattle.gc_files.specs.Calls.{step_of, steps_of, life_by}
 use Rattle.gc_files.specs.Files.{Step, Sync, Life, stepped, held_after, content, MayLeave, IsKept, later_by, Adds, Makes}
@@ -36,40 +38,27 @@ noted_step start calls new c is life same =
     after None = None
     after (Some l) = Some (later_by (step_of c ∷ []) l)
 
--- after a sync a crash leaves what is there
+-- where the last step was a sync, a crash leaves what the file holds, and nothing else
 sync_keeps : (start : List ℕ) (steps : List Step) (left : List ℕ) → MayLeave start (steps ++ Sync ∷ []) left → left ≡ held_after start (steps ++ Sync ∷ [])
 sync_keeps start steps left may = elim (leaves_two start steps (Sync ∷ []) left may) [
-  | inl old ↦ absurd (is_not old.0)
+  | inl old ↦ absurd (true≢false old.0)
   | inr new ↦ last new
 ]
   where
-    -- true isn't false
-    is_not : true ≡ false → ⊥
-    is_not e = cc
-
     -- what a crash leaves after the last sync is what the file holds
     last : MayLeave (held_after start steps) (Sync ∷ []) left → left ≡ held_after start (steps ++ Sync ∷ [])
-    last (inl now) = absurd (is_not now.0)
+    last (inl now) = absurd (true≢false now.0)
     last (inr rest) = rest ∙ sym (behind_two start steps (Sync ∷ []))
 
--- after a sync a file in memory is kept
+-- where the last step was a sync, the file is kept
 pub kept_behind : (old : Life) → IsKept (later_by (Sync ∷ []) old)
 kept_behind old left may = sync_keeps old.start old.steps left may
 
 -- where a sync was added to the life of a file, and its life is known to be `known`, the file is kept
 pub kept_of : (old known : Life) (now : Option Life) → Adds (Some old) now (Sync ∷ []) → now ≡ Some known → IsKept known
-kept_of old known now adds is = subst IsKept (inside (sym (adds old refl) ∙ is)) (kept_behind old)
-  where
-    -- the life that there is, or `other`
-    out : Life → Option Life → Life
-    out other None = other
-    out other (Some l) = l
+kept_of old known now adds is = subst IsKept (same_Some (later_by (Sync ∷ []) old) known (sym (adds old refl) ∙ is)) (kept_behind old)
 
-    -- equal lives within `Some` are equal
-    inside : {x y : Life} → Some x ≡ Some y → x ≡ y
-    inside {x} {y} same = ap (λ (o : Option Life). out x o) same
-
--- after a sync that went well a file in memory is kept
+-- where the call was a sync that went well, the file is kept
 pub kept_result : {X E : Type 0} (old : Life) (now : Option Life) (r : Result X E) → Makes (Some old) now r (λ _. Sync) → OnOk r ((known : Life) → now ≡ Some known → IsKept known)
 kept_result old now (Ok x) makes = λ known is. kept_of old known now makes is
 kept_result old now (Err e) makes = tt

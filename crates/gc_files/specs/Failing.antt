@@ -14,9 +14,9 @@ abbrev pub feeds : List ℕ → ℕ
 feeds [] = 0
 feeds (b ∷ bs) = feed_of b + feeds bs
 
--- if the life of the file is known, so many line feeds are among the bytes that it holds
-abbrev pub IsFeedsIn : Option Life → (count : ℕ) → Type 0
-IsFeedsIn life count = (known : Life) → life ≡ Some known → count ≡ feeds (content known)
+-- `count` is how many line feeds are among the bytes that the file holds, if its life is known
+abbrev pub IsFeedCount : Option Life → (count : ℕ) → Type 0
+IsFeedCount life count = (known : Life) → life ≡ Some known → count ≡ feeds (content known)
 
 -- The two sides of a file. What a read returns comes of one life, and what a crash may leave of the other. They are one until a sync fails:
 -- the system may have dropped bytes that it couldn't write, still return them, and count them as written.
@@ -95,7 +95,7 @@ TablesLastWhere goes = (head held : List ℕ) → IsHead head → (events : List
     → (left : List ℕ) → IsFound (sides_after (same_sides (settled held)) events) left → HasRows head (table head held) (runs_of events) left
 
 -- a file is trusted with further rows: it isn't in doubt
-abbrev pub IsTrusted : Bool → Type 0
+abbrev pub IsTrusted : (doubted : Bool) → Type 0
 IsTrusted doubted = doubted ≡ false
 
 -- tables last over failed syncs, where no run goes on in a file in doubt

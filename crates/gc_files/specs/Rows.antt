@@ -60,7 +60,7 @@ pub record Puts (steps : List Step) (bytes : List ℕ) : Type 0 where
   pub all : appended steps ≡ bytes
 
 -- the steps mended a file that held `held`, and then appended these bytes
-pub record Ran (held : List ℕ) (steps : List Step) (bytes : List ℕ) : Type 0 where
+pub record MendedAndPut (held : List ℕ) (steps : List Step) (bytes : List ℕ) : Type 0 where
   pub later : List Step
   pub split : steps ≡ mended held ++ later
   pub puts : Puts later bytes
@@ -78,11 +78,11 @@ pub record IsFront (front all : List ℕ) : Type 0 where
 -- what a run did, as far as it came, to a file that held `held`: it mended the file, in part or whole, and did nothing else; or
 -- it mended the file whole, and then appended a front of `all`
 abbrev pub ComesTo : (held all : List ℕ) → List Step → Type 0
-ComesTo held all steps = Mending held steps ⊎ ((bytes : List ℕ) × Ran held steps bytes × IsFront bytes all)
+ComesTo held all steps = Mending held steps ⊎ ((bytes : List ℕ) × MendedAndPut held steps bytes × IsFront bytes all)
 
 -- an opening mended the file, and wrote the head where no whole row was there
 abbrev pub Opens : (head : List ℕ) (old new : Option Life) → Type 0
-Opens head old new = (life : Life) → old ≡ Some life → (steps : List Step) × (new ≡ Some (later_by steps life)) × Ran (content life) steps (start_of head (content life))
+Opens head old new = (life : Life) → old ≡ Some life → (steps : List Step) × (new ≡ Some (later_by steps life)) × MendedAndPut (content life) steps (start_of head (content life))
 
 -- an opening did a front of what an opening does, as far as it came: it mended the file, in part or whole, and did nothing else;
 -- or it mended the file whole, and then wrote a front of the head, where no whole row was there
@@ -95,20 +95,20 @@ PutsAll old new bytes = (life : Life) → old ≡ Some life → (steps : List St
 
 -- The file with this life, if that is known.
 
--- so many bytes are in the file
+-- `len` is how many bytes the file holds
 abbrev pub IsLengthOf : Option Life → (len : ℕ) → Type 0
 IsLengthOf life len = (known : Life) → life ≡ Some known → len ≡ length (content known)
 
--- so many bytes are in the whole rows of the file
+-- `end` is how many bytes the whole rows of the file have
 abbrev pub IsEndOfRows : Option Life → (end : ℕ) → Type 0
 IsEndOfRows life end = (known : Life) → life ≡ Some known → end ≡ length (whole (content known))
 
--- so many bytes follow the whole rows of the file
+-- `torn` is how many bytes follow the whole rows of the file
 abbrev pub IsTorn : Option Life → (torn : ℕ) → Type 0
 IsTorn life torn = (known : Life) → life ≡ Some known → length (content known) ≡ length (whole (content known)) + torn
 
 -- the file begins with the sign or holds a front of it (true), or neither (false)
-abbrev pub Fits : (sign : List ℕ) → Option Life → Bool → Type 0
+abbrev pub Fits : (sign : List ℕ) → Option Life → (is : Bool) → Type 0
 Fits sign life is = (known : Life) → life ≡ Some known → fits sign (content known) ≡ is
 
 -- What was done to a file.

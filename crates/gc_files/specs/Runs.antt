@@ -2,7 +2,7 @@
 use Rattle.std.specs.Prelude.{◌≡◌, ◌⊎◌, ℕ, ◌≤◌, false, List, [], ◌∷◌, ◌++◌, length, take, Option, Some, None, if◌then◌else◌}
 use Rattle.std.specs.List.{AllByRecursion}
 use Rattle.gc_files.specs.Files.{Step, Append, Cut, Sync, Life, settled, has_sync, content, later_by, MayLeave}
-use Rattle.gc_files.specs.Rows.{has_feed, line, table, start_of, Puts, Ran, IsFront, ComesTo}
+use Rattle.gc_files.specs.Rows.{has_feed, line, table, start_of, Puts, MendedAndPut, IsFront, ComesTo}
 
 -- what these steps appended before their last sync
 abbrev pub synced : List Step → List ℕ
@@ -37,7 +37,8 @@ IsHead head = (head ≡ []) ⊎ ((row : List ℕ) × (has_feed row ≡ false) ×
 abbrev pub WereKept : (head held : List ℕ) (rows : List (List ℕ)) (kept : ℕ) → List Step → Type 0
 WereKept head held rows kept steps = (kept ≡ 0) ⊎ IsFront (start_of head held ++ lines (take kept rows)) (synced steps)
 
--- what a run can be, as far as it came, over a file that held this; those of its rows that count as kept were kept
+-- what a run can be over a file that held `held`: it mended the file, and then wrote the head where no whole row was there, and its rows,
+-- as far as it came; and those of its rows that count as kept were kept
 pub record IsRun (head held : List ℕ) (run : Run) : Type 0 where
   pub rows : AreRows run.rows
   pub steps : ComesTo held (start_of head held ++ lines run.rows) run.steps
@@ -96,7 +97,7 @@ TablesLast = (head held : List ℕ) → IsHead head → (runs : List Run) → Ha
 abbrev pub WereWritten : (head held : List ℕ) (rows : List (List ℕ)) (count : ℕ) → List Step → Type 0
 WereWritten head held rows count steps =
     (count ≡ 0)
-    ⊎ ((bytes : List ℕ) × Ran held steps bytes × IsFront bytes (start_of head held ++ lines rows) × IsFront (start_of head held ++ lines (take count rows)) bytes)
+    ⊎ ((bytes : List ℕ) × MendedAndPut held steps bytes × IsFront bytes (start_of head held ++ lines rows) × IsFront (start_of head held ++ lines (take count rows)) bytes)
 
 -- a run that ended by itself or by a kill, with the machine going on; its rows count as kept where they went out whole
 pub record IsKilled (head held : List ℕ) (run : Run) : Type 0 where
@@ -121,9 +122,9 @@ KillsLoseNothing = (head : List ℕ) → IsHead head → (life : Life) (runs : L
 -- `failed`: an opening that failed. `kept`: a sync after an opening and writes keeps all that was appended.
 pub record CallsAreRuns : Type 0 where
   pub opened : (head held : List ℕ) (opening later : List Step) (front : List ℕ) (rows : List (List ℕ)) (kept : ℕ) (left : Option (List ℕ))
-      → Ran held opening (start_of head held) → Puts later front → IsFront front (lines rows) → AreRows rows → kept ≤ length rows
+      → MendedAndPut held opening (start_of head held) → Puts later front → IsFront front (lines rows) → AreRows rows → kept ≤ length rows
       → WereKept head held rows kept (opening ++ later)
       → IsRun head held (record { rows = rows; steps = opening ++ later; kept = kept; left = left })
   pub failed : (head held : List ℕ) (steps : List Step) (left : Option (List ℕ)) → ComesTo held (start_of head held) steps
       → IsRun head held (record { rows = []; steps = steps; kept = 0; left = left })
-  pub kept : (held : List ℕ) (steps : List Step) (bytes : List ℕ) → Ran held steps bytes → synced (steps ++ Sync ∷ []) ≡ bytes
+  pub kept : (held : List ℕ) (steps : List Step) (bytes : List ℕ) → MendedAndPut held steps bytes → synced (steps ++ Sync ∷ []) ≡ bytes

@@ -44,7 +44,7 @@ impl Beside {
         }
     }
 
-    // Whether the mark is there.
+    // Whether the mark is there. `Failed`: the system doesn't say.
     fn is_marked<R: Files<File = File>>(&self, rt: &R) -> Result<bool, Unfit> {
         match fs::metadata(rt, self.mark.as_str()) {
             Ok(_) => Ok(true),
@@ -53,7 +53,8 @@ impl Beside {
         }
     }
 
-    // Makes the mark, and syncs it and its folder, so that the mark and all names in the folder are on the disk.
+    // Makes the mark, if it isn't there, and syncs it and its folder, so that the mark and all names in the folder are on the disk.
+    // `Failed`: a call of the system failed; a mark may be there then.
     fn make_mark<R: Files<File = File>>(&self, rt: &R) -> Result<(), Unfit> {
         let opened = OpenOptions::new()
             .write(true)
@@ -73,7 +74,7 @@ impl Beside {
         let _ = fs::remove_file(rt, self.mark.as_str());
     }
 
-    // Returns the file that was opened, and puts it in doubt where the mark is there.
+    // Returns the file that was opened, and puts it in doubt where the mark is there. `Failed`: the system doesn't say whether it is.
     fn doubt_if_marked<R: Files<File = File>>(
         &self,
         rt: &R,
@@ -86,7 +87,7 @@ impl Beside {
     }
 
     // Where the file is in doubt, a copy of it takes its place: returns the copy, whose name may not be on the disk yet, and how
-    // many lines were copied. Any other file is returned as it is, with 0 lines.
+    // many lines were copied. Any other file is returned as it is, with 0 lines. Where that fails, the file was not touched.
     fn replace_if_doubted<R: Files<File = File>>(
         &self,
         rt: &R,
@@ -99,7 +100,7 @@ impl Beside {
         }
         // A copy that an earlier start didn't finish.
         let _ = fs::remove_file(rt, self.copy.as_str());
-        let fresh = file.fresh(rt, self.copy.as_str())?;
+        let fresh = file.create_for_copy(rt, self.copy.as_str())?;
         match self.replace(rt, file, fresh) {
             Ok(renewed) => Ok(renewed),
             Err(why) => {
@@ -110,7 +111,8 @@ impl Beside {
     }
 
     // Copies a file into a fresh one, which then takes its place. It returns the fresh one, and how many lines were copied.
-    // Both are locked, so that no other program gets in between.
+    // Both are locked, so that no other program gets in between. `Held`: another program holds the fresh one. `Failed`: a call failed, or
+    // the path leads to another file now. The old file was not touched then.
     fn replace<R: Files<File = File>>(
         &self,
         rt: &R,
@@ -134,7 +136,7 @@ impl Beside {
     }
 }
 
-// Syncs the folder of a path, so that the file's name is on the disk.
+// Syncs the folder of a path, so that the file's name is on the disk. `Failed`: the folder can't be opened or synced.
 fn sync_folder<R: Files<File = File>>(rt: &R, path: &str) -> Result<(), Unfit> {
     let folder = match Path::new(path).parent() {
         Some(parent) if !parent.as_os_str().is_empty() => parent,
@@ -149,7 +151,7 @@ fn sync_folder<R: Files<File = File>>(rt: &R, path: &str) -> Result<(), Unfit> {
     }
 }
 
-// Syncs the folder that a symbolic link is in, where the path is one.
+// Syncs the folder that a symbolic link is in, where the path is one; else does nothing. `Failed`: a call of the system failed.
 fn sync_link<R: Files<File = File>>(rt: &R, path: &str) -> Result<(), Unfit> {
     match fs::symlink_metadata(rt, path) {
         Ok(found) if found.is_symlink() => sync_folder(rt, path),
@@ -180,7 +182,7 @@ fn check_for_torn_row<F: Appending>(file: &F, sign: &[u8]) -> Result<bool, Refus
 }
 
 // How many of a file's lines are rows: all but the head's, where the head isn't empty.
-fn rows_of(lines: u64, head: &[u8]) -> u64 {
+fn row_count(lines: u64, head: &[u8]) -> u64 {
     match head {
         [] => lines,
         _ => lines.saturating_sub(1),
@@ -192,11 +194,13 @@ fn rows_of(lines: u64, head: &[u8]) -> u64 {
 ///
 /// With `sync` the file's name is on the disk before anything is written into the file, also where the file was there
 /// already, because whoever made it may not have synced its name. A mark beside the file, `FILE.open`, is made and is on the
-/// disk by then, too; [`end_at`] removes it.
+/// disk by then, too; [`end_at`] removes it. Without `sync` the mark is there only while this call mends or copies the file.
 ///
-/// Where a mark is found, an earlier run was killed, or one of its syncs failed. Then what the file holds is copied to a new one,
-/// which is synced and takes its place. The second result is how many rows were copied. A copy takes as much room as the file
-/// has.
+/// Where a mark is found, an earlier run was ended by a kill or a crash, or one of its syncs failed. Then what the file holds is
+/// copied to a new one, which is synced and takes its place. The second result is how many rows were copied, 0 where no copy was
+/// made. A copy takes as much room as the file has.
+///
+/// Why it fails, and what stands then, [`Unfit`] says. A mark that was made stays.
 pub fn open_at<R: Files<File = File>>(
     rt: &R,
     alloc: Global,
@@ -232,7 +236,7 @@ pub fn open_at<R: Files<File = File>>(
     if is_marked && !sync {
         beside.remove_mark(rt);
     }
-    Ok((rows, rows_of(lines, head)))
+    Ok((rows, row_count(lines, head)))
 }
 
 /// Ends the appending to a file that [`open_at`] opened at this path. A file opened without `sync` is only closed. One opened
@@ -244,7 +248,7 @@ pub fn end_at<R: Files<File = File>>(
     path: &str,
     rows: RowsFile<SystemFile>,
 ) {
-    if !rows.is_synced() {
+    if !rows.asks_sync() {
         return;
     }
     let (file, is_kept) = rows.finish();

@@ -1,7 +1,7 @@
 //! A synced copy of a file of rows: after a sync of the file failed, further rows go into the copy.
 
 ghost use Rattle.std.specs.Prelude.{◌≡◌, ◌≤◌, length, IfOk, OnOk};
-ghost use Rattle.gc_files.specs.Failing.{IsFeedsIn, feed_of, feeds};
+ghost use Rattle.gc_files.specs.Failing.{IsFeedCount, feed_of, feeds};
 ghost use Rattle.gc_files.specs.Files.{IsKeptFile};
 ghost use Rattle.gc_files.specs.Rows.{CopiesAll};
 
@@ -34,11 +34,11 @@ fn feeds_in(block: &[u8]) -> u64
 }
 
 /// Appends all that `old` holds to `fresh`, syncs `fresh`, and returns how many lines were copied, each ended by a line feed. It
-/// fails where a call of a file failed, or where `fresh` is in doubt. `old` is as it was.
+/// fails where a call of a file failed, or where `fresh` is in doubt; `fresh` may hold a front of it then. `old` is as it was.
 pub fn copy_lines<F: Appending, G: Appending>(old: &F, fresh: &mut G) -> Result<u64, PortFailed>
     ensures copied { OnOk result (CopiesAll (F.life old.now) (G.life fresh.old) (G.life fresh.new)) }
     ensures kept { OnOk result (IsKeptFile (G.life fresh.new)) }
-    ensures lines { IfOk result (λ lines. IsFeedsIn (F.life old.now) lines) }
+    ensures lines { IfOk result (λ lines. IsFeedCount (F.life old.now) lines) }
 {
     let len = old.len()?;
     let mut buf = [0u8; BLOCK];

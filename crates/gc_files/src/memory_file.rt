@@ -143,7 +143,7 @@ impl Appending for MemoryFile {
         }
     }
 
-    // Fails, and leaves the file in doubt, where its syncs were made to fail, or memory was refused.
+    // Notes a sync. It fails, and leaves the file in doubt, where its syncs were made to fail, or memory was refused.
     fn sync(&mut self) -> Result<(), PortFailed> {
         let next = self.bytes.to_vec(self.alloc);
         let (false, Ok(next)) = (self.fails, next) else {

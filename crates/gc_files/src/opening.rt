@@ -21,7 +21,7 @@ pub enum Refused {
     /// It is no file of such rows: it neither begins with the sign nor is a front of it. It was not touched.
     Foreign,
     /// A call of the file failed, or the file is in doubt. The whole rows that it held are still there. What followed them
-    /// may be cut off. In an empty file a front of the head may be written. The next opening repairs both.
+    /// may be cut off. Where it held no whole row, a front of the head may be written. The next opening repairs both.
     Failed,
 }
 
@@ -63,7 +63,7 @@ pub(crate) fn read_all<F: Appending>(file: &F, at: u64, buf: &mut [u8]) -> Resul
     Ok(())
 }
 
-// Whether a file of `len` bytes begins with the sign, or is a front of it.
+// Whether a file of `len` bytes begins with the sign, or is a front of it. It fails where a read of the file does.
 pub(crate) fn has_sign<F: Appending>(file: &F, len: u64, sign: &[u8]) -> Result<bool, PortFailed>
     requires { IsLengthOf (F.life file.now) len }
     ensures { IfOk result (λ b. (known : Life) → F.life file.now ≡ Some known → b ≡ fits sign.now (content known)) }
@@ -99,7 +99,7 @@ fn whole_len(block: &[u8]) -> usize
 }
 
 // Where the last whole row of a file of `len` bytes ends: after its last line feed, or at 0 without one. The blocks are read
-// from the end.
+// from the end. It fails where a read of the file does.
 pub(crate) fn end_of_rows<F: Appending>(file: &F, len: u64) -> Result<u64, PortFailed>
     requires { IsLengthOf (F.life file.now) len }
     ensures within { IfOk result (λ end. end ≤ len) }
@@ -125,7 +125,7 @@ pub(crate) fn end_of_rows<F: Appending>(file: &F, len: u64) -> Result<u64, PortF
 }
 
 // Cuts a file of `len` bytes to its first `end` bytes, and syncs that cut before anything is appended. Where `end` is `len`, it
-// does nothing.
+// does nothing. Where it fails, the file may be cut already.
 fn repair<F: Appending>(file: &mut F, len: u64, end: u64) -> Result<(), PortFailed>
     requires len { IsLengthOf (F.life file.old) len }
     requires end { IsEndOfRows (F.life file.old) end }
@@ -155,7 +155,8 @@ pub(crate) fn append_all<F: Appending>(file: &mut F, bytes: &[u8]) -> Result<(),
     Ok(())
 }
 
-// Cuts off what follows the last whole row, and writes the head where there is no whole row.
+// Cuts off what follows the last whole row, and writes the head where there is no whole row. Where it fails, a part of that may be
+// done.
 fn mend<F: Appending>(file: &mut F, len: u64, end: u64, head: &[u8]) -> Result<(), PortFailed>
     requires len { IsLengthOf (F.life file.old) len }
     requires end { IsEndOfRows (F.life file.old) end }
@@ -177,7 +178,8 @@ fn mend<F: Appending>(file: &mut F, len: u64, end: u64, head: &[u8]) -> Result<(
 }
 
 // Checks that a file has the sign or is a front of it, cuts off what follows the last whole row, and writes the head where there
-// is no whole row. It returns how many bytes were cut off.
+// is no whole row. It returns how many bytes were cut off. `Foreign`: the file has neither, and was not touched. `Failed`: a call of the
+// file failed, and a part of the mending may be done.
 fn check_and_mend<F: Appending>(file: &mut F, head: &[u8], sign: &[u8]) -> Result<u64, Refused>
     ensures opened { OnOk result (Opens head.now (F.life file.old) (F.life file.new)) }
     ensures torn { IfOk result (λ torn. IsTorn (F.life file.old) torn) }

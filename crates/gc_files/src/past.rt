@@ -39,7 +39,7 @@ impl Past {
         Past {}
     }
 
-    /// The past with the call `_done` added at its end. The calls are ghost, so there is nothing to copy.
+    /// The past with the call or the calls of `_done` added at its end. The calls are ghost, so there is nothing to copy.
     pub fn then(&self, _done: &Done<'_>) -> Past
         ensures { result.steps ≡ self.now.steps ++ steps_done _done.now }
     {

@@ -84,7 +84,7 @@ impl<F: Appending> RowsFile<F> {
     }
 
     /// Whether the file was opened with `sync`, so that each sync of the sink syncs it.
-    pub fn is_synced(&self) -> bool
+    pub fn asks_sync(&self) -> bool
         ensures { result ≡ asks_sync self.now }
     {
         self.sync
@@ -187,7 +187,8 @@ impl<F: Appending> Durable for RowsFile<F> {
     /// Syncs what was appended, where the file was opened with `sync`: after `Ok` a crash leaves all that was taken. It does
     /// nothing where nothing was appended since the last time, or where the file was opened without `sync`.
     ///
-    /// It fails where the file failed in this call or has failed before, or is in doubt.
+    /// It fails where the sink has failed before, or where it would sync the file, and that fails or the file is in doubt. From then on
+    /// the sink counts as failed.
     fn sync(&mut self) -> Result<(), PortFailed>
         ensures is_durable { OnOk result (is_durable self.new ≡ true) }
         ensures same { Keeps (Some (taken_in self.old)) (Some (taken_in self.new)) }

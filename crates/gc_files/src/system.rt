@@ -22,8 +22,8 @@ pub enum Unfit {
     Held,
     /// It holds something else than such rows. It was not touched.
     Foreign,
-    /// A call of the system failed: the file could not be locked, read, cut, written or synced. Each whole row is still
-    /// there.
+    /// A call of the system failed: the file could not be locked, read, cut, written or synced, or its mark, its copy or its folder
+    /// could not be used. Each whole row is still there.
     Failed,
 }
 
@@ -67,8 +67,8 @@ impl SystemFile {
     }
 
     // Makes a new file at a path, for a copy of this one: with this one's mode and, where the system allows it, its owner.
-    // `Failed`: the path isn't free, or a call of the system failed.
-    pub(crate) fn fresh<R: Files<File = File>>(
+    // `Failed`: the path isn't free, or a call of the system failed; an empty file may be left at the path then.
+    pub(crate) fn create_for_copy<R: Files<File = File>>(
         &self,
         rt: &R,
         path: &str,
@@ -91,7 +91,7 @@ impl SystemFile {
         }
     }
 
-    /// Whether a path leads to this file now, and not to another one or to none.
+    /// Whether a path leads to this file now, and not to another one or to none. `false` where the system doesn't say.
     pub fn is_at<R: Files<File = File>>(&self, rt: &R, path: &str) -> bool {
         match (self.file.metadata(), fs::metadata(rt, path)) {
             (Ok(own), Ok(found)) => own.dev() == found.dev() && own.ino() == found.ino(),

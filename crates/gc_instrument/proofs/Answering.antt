@@ -1,9 +1,9 @@
 -- What the code wrote for a request is the reply that the definitions give to it (`AnswersRequest`, `IsReplied`, `handed`), and
 -- it reads as the outcome of carrying out the call (`IsAnswered`).
-use Rattle.std.proofs.Common.{◌≡◌, ◌≢◌, ◌⊎◌, inl, inr, ℕ, zero, suc, ◌<◌, arith, List, cond, ◌==◌, if◌then◌else◌, Some, None, Result, Ok, Err, refl, sym, ap, ◌∙◌, subst, Bool, [], true, false, Option}
+use Rattle.std.proofs.Common.{◌≡◌, ◌≢◌, ◌⊎◌, inl, inr, ℕ, ◌<◌, arith, List, cond, ◌==◌, if◌then◌else◌, Some, None, Result, Ok, Err, refl, sym, ap, ◌∙◌, subst, Bool, [], true, false, Option}
 use Rattle.std.specs.Prelude.{unwrap_or}
 use Rattle.gc_lines.specs.Lines.{IsPlain}
-use Rattle.std.proofs.lemmas.Bool.{ne_eqb}
+use Rattle.std.proofs.lemmas.Bool.{cases_eq, ne_eqb}
 use Rattle.gc_lines.specs.Answering.{AppendsAnswer}
 use Rattle.gc_lines.specs.Headers.{Gives}
 use Rattle.gc_lines.specs.Requests.{RequestFields, IsRequest}
@@ -50,11 +50,6 @@ pub silence_replied : (state : State) (line bytes : List ℕ) (fault : LineFault
 silence_replied state line bytes fault view same only =
     silent (λ q is. let wrong : ◌≡◌ {A = Result RequestFields LineFault} (Ok q) (Err fault) = only q (subst (λ (x : List ℕ). IsRequest x q) (sym same) is) in cc) refl refl
 
--- a number is 0 or isn't
-zero_or_more : (n : ℕ) → (n ≡ 0) ⊎ (n ≢ 0)
-zero_or_more zero = inl refl
-zero_or_more (suc n) = inr (λ h. omega (arith, h))
-
 -- a choice by whether n is 0 gives a, where n is 0
 at_zero : (n : ℕ) (a b : Reading) → n ≡ 0 → (if n == 0 then a else b) ≡ a
 at_zero n a b h = ap (λ (m : ℕ). if m == 0 then a else b) h
@@ -77,7 +72,7 @@ reads_as before number call x reading e same back = record {
 pub reads_executed : (before : State) (number : ℕ) (call : Call) (x : Executed) → exec before call ≡ x
     → (x.rc ≡ 0 → ReadsBackAnswer call number x.rc x.answer x.state.precision (Value (rounded_answer x.state.precision x.answer)))
     → (x.rc ≢ 0 → ReadsBackAnswer call number x.rc x.answer x.state.precision (Refused x.rc)) → IsAnswered before number call (executed_line number x)
-reads_executed before number call x e done refused = elim (zero_or_more x.rc) [
+reads_executed before number call x e done refused = elim (cases_eq x.rc 0) [
   | inl h ↦ reads_as before number call x (Value (rounded_answer x.state.precision x.answer)) e (at_zero x.rc _ _ h) (done h)
   | inr h ↦ reads_as before number call x (Refused x.rc) e (past_zero x.rc _ _ h) (refused h)
 ]
@@ -162,8 +157,8 @@ handed_answered s id call good small fits new =
 own_request : (id : ℕ) (call : Call) → id < 8 → IsFitting call → IsRequest (request_line (Some id) call) (request_of (Some id) call)
 own_request id call small fits = request_found (request_line (Some id) call) (request_of (Some id) call) (call_again (Some id) call small fits).line
 
--- where a line is the request line of this call, what an instrument does with the request that it reads as is as `IsExchanged`
--- has it
+-- where a line is the request line of this call, and an instrument did with its request what `AnswersRequest` says, and its reply is plain
+-- and reads as the outcome, `IsExchanged` holds of the call
 pub line_exchanged : (before after : State) (line bytes : List ℕ) (q : RequestFields) (id : ℕ) (call : Call) (text : List ℕ) → bytes ≡ line
     → IsRequest bytes q → id < 8 → IsFitting call → line ≡ request_line (Some id) call
     → AnswersRequest before q after text → ((d : Call) → IsCall q.rpc q.params d → IsPlain text)
@@ -173,7 +168,7 @@ line_exchanged before after line bytes q id call text same is small fits own mad
     let call_is : IsCall q.rpc q.params call = subst (λ (p : RequestFields). IsCall p.rpc p.params call) (sym q_is) (call_again (Some id) call small fits).is_call in
     exchanged before after q id call text (ap (λ (p : RequestFields). p.id) q_is) call_is made (plain call call_is) (answered call call_is)
 
--- a line that doesn't read as a request isn't a call's request line, so `IsExchanged` holds of it for lack of a case
+-- a line that doesn't read as a request isn't a call's request line: the premises contradict each other, so `IsExchanged` follows
 pub silence_exchanged : (state : State) (line bytes : List ℕ) (fault : LineFault) (view : Request → RequestFields) (id : ℕ) (call : Call) → bytes ≡ line
     → ((q : RequestFields) → IsRequest bytes q → Gives view (Err fault) (Ok q)) → id < 8 → IsFitting call → line ≡ request_line (Some id) call → IsExchanged state id call state None
 silence_exchanged state line bytes fault view id call same only small fits own =

@@ -1,5 +1,5 @@
--- The outcome of every call is sound (`IsSoundOutcome`): the serial number, the name and the scene stay, the values are in range, and a code
--- other than 0 has no answer. Below, a state *fits* if `IsFittingState` holds of it.
+-- The outcome of every call is sound (`IsSoundOutcome`): the serial number, the name and the scene stay, the values are in range, and a
+-- code other than 0 has no answer. Below, a state *fits* if `IsFittingState` holds of it.
 use Rattle.std.proofs.Common.{◌≡◌, ℕ, ℤ, pos, negsuc, ◌<◌, ◌≤◌, ◌&&◌, ◌||◌, Bool, true, false, cond, Option, Some, None, refl, subst, arith}
 use Rattle.std.proofs.lemmas.Bool.{and_parts, leb-true}
 use Rattle.std.specs.Prelude.{int_lt, int_le, nat_le, unsigned_abs}
@@ -24,6 +24,7 @@ use Rattle.gc_instrument.specs.Targets.{first_within}
 use Rattle.gc_instrument.specs.declared.face.Face.{Face}
 use Rattle.gc_instrument.specs.declared.face.Face.TheVariants.{Normal, Turned}
 use Rattle.gc_instrument.specs.declared.target.Target.{Target}
+use Rattle.gc_instrument.proofs.Keeping.{commanded_by_tests}
 
 -- an outcome with code 0 is sound if serial number, name and scene stay, the values fit, and the answer is one of the call
 done_outcome : (s t : State) (call : Call) (a : Answer) → opening_of t ≡ opening_of s → (IsFittingState s → IsFittingState t) → IsAnswerOf call a
@@ -69,29 +70,29 @@ set_outcome : (b : Bool) (s t : State) (call : Call) → opening_of t ≡ openin
 set_outcome true s t call same fits of_call = done_outcome s t call Nothing same (fits refl) of_call (λ _ _. tt)
 set_outcome false s t call same fits of_call = refused_outcome s s call 2 refl (λ f. f) (omega arith) (omega arith)
 
--- the outcome of a call that answers with the distance d, or is refused if there is none, is sound if serial number, name and scene stay, and
--- the values fit
+-- the outcome of a call that answers with the distance d, or is refused if there is none, is sound if serial number, name and scene stay,
+-- and the values fit
 with_outcome : (s t : State) (call : Call) (answer_with : Decimal → Answer) (d : Option Decimal) → opening_of t ≡ opening_of s → (IsFittingState s → IsFittingState t)
     → ((x : Decimal) → IsAnswerOf call (answer_with x)) → ((x : Decimal) → IsFitting call → IsFittingAnswer (answer_with x)) → IsSoundOutcome s call (distance_outcome t answer_with d)
 with_outcome s t call answer_with (Some d) same fits of_call answer_fits = done_outcome s t call (answer_with d) same fits (of_call d) (λ _ c. answer_fits d c)
 with_outcome s t call answer_with None same fits of_call answer_fits = refused_outcome s t call 1285 same fits (omega arith) (omega arith)
 
--- the outcome of a measuring command is sound
+-- the outcome of a measuring command is sound, for a call that is answered without values
 commanded_outcome : (s : State) (call : Call) (command : ℤ) → IsAnswerOf call Nothing → IsSoundOutcome s call (commanded s command)
 commanded_outcome s call command of_call = by_tests (int_eq command (pos 0)) (int_eq command (pos 1)) (int_eq command (pos 3)) where
   -- whichever outcome the three tests of the command choose, it is sound
-  by_tests : (a b c : Bool) → IsSoundOutcome s call (cond a (done s Nothing) (cond b (done (measured s) Nothing) (cond c (done (unmeasured s) Nothing) (refused s 2))))
+  by_tests : (a b c : Bool) → IsSoundOutcome s call (commanded_by_tests s a b c)
   by_tests true b c = answered_outcome s call Nothing of_call (λ _ _. tt)
   by_tests false true c = done_outcome s (measured s) call Nothing refl (fits_likewise s (measured s) refl refl refl refl refl refl) of_call (λ _ _. tt)
   by_tests false false true = done_outcome s (unmeasured s) call Nothing refl (fits_likewise s (unmeasured s) refl refl refl refl refl refl) of_call (λ _ _. tt)
   by_tests false false false = refused_outcome s s call 2 refl (λ f. f) (omega arith) (omega arith)
 
--- the outcome of a search that found a target, or none, is sound
+-- the outcome of a search that found a target, or none, is sound, for a call that is answered without values
 adjusted_outcome : (s : State) (call : Call) (t : Option Target) → IsAnswerOf call Nothing → IsSoundOutcome s call (adjusted s t)
 adjusted_outcome s call (Some t) of_call = done_outcome s (pointed s t.hz t.v) call Nothing refl (fits_likewise s (pointed s t.hz t.v) refl refl refl refl refl refl) of_call (λ _ _. tt)
 adjusted_outcome s call None of_call = refused_outcome s s call 8710 refl (λ f. f) (omega arith) (omega arith)
 
--- the outcome of a search within areas is sound
+-- the outcome of a search within areas is sound, for a call that is answered without values
 searched_outcome : (s : State) (call : Call) (area_hz area_v : Decimal) → IsAnswerOf call Nothing → IsSoundOutcome s call (searched s area_hz area_v)
 searched_outcome s call area_hz area_v of_call = by_test (int_lt area_hz.digits (pos 0) || int_lt area_v.digits (pos 0)) where
   -- whether an area is below zero (true) or none is, the outcome is sound

@@ -3,7 +3,9 @@ use Rattle.std.proofs.Common.{◌≡◌, ℕ, ◌+◌, ◌<◌, List, [], ◌∷
 use Rattle.std.specs.List.{filter_map}
 use Rattle.std.specs.Option.{option_map, option_to_list}
 use Rattle.std.proofs.lemmas.List.{length-map}
+use Rattle.std.proofs.lemmas.Option.{none-some}
 use Rattle.std.proofs.lemmas.List.Elements.{filter_map-append}
+use Rattle.std.proofs.lemmas.List.Folds.{flat_map-map}
 use Rattle.gc_lines.specs.Answering.{AnswersInOrder, AnswersAll, AnswersPart, AnswersFrames, AppendsAnswer, all_of}
 use Rattle.gc_lines.specs.Frames.{frames, line_in, lines, rest_of, rest_behind}
 use Rattle.gc_lines.specs.Lines.{with_end}
@@ -82,11 +84,6 @@ heard_frames s t (Cleared ∷ later) texts h = heard_same_lines s t later (Clear
 heard_frames s t (Overlong ∷ later) texts h = heard_same_lines s t later (Overlong ∷ later) texts refl (heard_silence s h.0 t h.1 later h.2 texts h.3.0 h.3.1 (heard_frames h.0 t later h.2 h.4) h.5)
 heard_frames s t (More ∷ later) texts h = heard_same_lines s t later (More ∷ later) texts refl (heard_silence s h.0 t h.1 later h.2 texts h.3.0 h.3.1 (heard_frames h.0 t later h.2 h.4) h.5)
 
--- replies with their CR LF, one after the other, are the replies as they are written
-written_as : (replies : List (List ℕ)) → all_of (map with_end replies) ≡ replies_text replies
-written_as [] = refl
-written_as (reply ∷ later) = ap (λ (bytes : List ℕ). with_end reply ++ bytes) (written_as later)
-
 -- frames that were all answered are lines that were all served
 all_serves : (s t : State) (seen : List Frame) (a b : Option (List ℕ)) (i j : ℕ) → AnswersAll AnswersFrame s t seen a b i j → ServesAll s t (lines_of seen) a b i j
 all_serves s t seen a b i j all =
@@ -95,7 +92,7 @@ all_serves s t seen a b i j all =
       replies = h.replies;
       hears = h.hears;
       counts = all.counts ∙ ap (λ (texts : List (List ℕ)). i + length texts) h.texts_are ∙ ap (λ n. i + n) (length-map h.replies with_end);
-      took = Appends-is a b _ _ (ap all_of h.texts_are ∙ written_as h.replies) all.took;
+      took = Appends-is a b _ _ (ap all_of h.texts_are ∙ flat_map-map (λ (text : List ℕ). text) with_end h.replies) all.took;
     }
 
 -- the frame is a line with a reply, and the text is that reply with its CR LF
@@ -112,22 +109,18 @@ replied_line : (s t : State) (line : List ℕ) (reply : Option (List ℕ)) (text
 replied_line s t line None text replied is = let wrong : ⊥ = cc in absurd wrong
 replied_line s t line (Some reply) text replied is = record { line = line; reply = reply; is_line = λ later. refl; replied = replied; text_is = cc }
 
--- `Some text` isn't `None`
-some_is_not_none : (text : List ℕ) → ◌≡◌ {A = Option (List ℕ)} (Some text) None → ⊥
-some_is_not_none text is = cc
-
 -- a frame whose text is sent is a line with a reply
 replied_frame : (s t : State) (frame : Frame) (text : List ℕ) → AnswersFrame s frame t (Some text) → RepliedLine s t frame text
 replied_frame s t (Line line) text h = replied_line s t line.items h.0 text h.1 h.2
-replied_frame s t Cleared text h = absurd (some_is_not_none text h.1)
-replied_frame s t Overlong text h = absurd (some_is_not_none text h.1)
-replied_frame s t More text h = absurd (some_is_not_none text h.1)
+replied_frame s t Cleared text h = absurd (none-some text (sym h.1))
+replied_frame s t Overlong text h = absurd (none-some text (sym h.1))
+replied_frame s t More text h = absurd (none-some text (sym h.1))
 
 -- frames that were answered up to a part of a text are lines that were served up to a part of a reply
 part_serves : (s t : State) (seen : List Frame) (a b : Option (List ℕ)) (i j bytes : ℕ) → AnswersPart AnswersFrame s t seen a b i j bytes → ServesPart s t (lines_of seen) a b i j bytes
 part_serves s t seen a b i j bytes part =
     let h = heard_frames s part.state part.earlier part.texts part.answers in
-    let d = replied_frame part.state t part.frame part.text part.draws in
+    let d = replied_frame part.state t part.frame part.text part.gives in
     record {
       earlier = lines_of part.earlier;
       line = d.line;
@@ -137,10 +130,10 @@ part_serves s t seen a b i j bytes part =
       replies = h.replies;
       hears = h.hears;
       reply = d.reply;
-      draws = d.replied;
+      gives = d.replied;
       counts = part.counts ∙ ap (λ (texts : List (List ℕ)). i + length texts) h.texts_are ∙ ap (λ n. i + n) (length-map h.replies with_end);
       not_all = subst (λ (text : List ℕ). bytes < length text) d.text_is part.not_all;
-      took = Appends-is a b _ _ (ap (λ (xs : List ℕ). xs ++ take bytes part.text) (ap all_of h.texts_are ∙ written_as h.replies)
+      took = Appends-is a b _ _ (ap (λ (xs : List ℕ). xs ++ take bytes part.text) (ap all_of h.texts_are ∙ flat_map-map (λ (text : List ℕ). text) with_end h.replies)
           ∙ ap (λ (xs : List ℕ). replies_text h.replies ++ take bytes xs) d.text_is) part.took;
     }
 

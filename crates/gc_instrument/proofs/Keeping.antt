@@ -37,19 +37,19 @@ none_kept None asked line e = refl
 none_kept (Some n) asked line e = let never : ⊥ = cc in absurd never
 
 -- where b is c, a choice by c is the choice by b
-by_test : (b : Bool) (o p : Option (List ℕ)) (c : Bool) → b ≡ c → cond c o p ≡ cond b o p
-by_test b o p c e = ap (λ x. cond x o p) (sym e)
+cond_same : (b : Bool) (o p : Option (List ℕ)) (c : Bool) → b ≡ c → cond c o p ≡ cond b o p
+cond_same b o p c e = ap (λ x. cond x o p) (sym e)
 
 -- where the id asked for is the stored one, the stored line is found
 pub same_kept : (id asked : Option ℕ) (k n : ℕ) (line : List ℕ) → id ≡ Some k → asked ≡ Some n → eqb k n ≡ true → Some line ≡ kept_line (kept_in id line) asked
 same_kept id asked k n line e f same =
     subst (λ o. Some line ≡ kept_line (kept_in o line) asked) (sym e) (subst (λ o. Some line ≡ kept_line (Some (record { id = k; line = line })) o) (sym f)
-    (by_test (eqb k n) (Some line) None true same))
+    (cond_same (eqb k n) (Some line) None true same))
 
 -- where the id asked for isn't the stored one, no stored line is found
 pub other_kept : (id asked : Option ℕ) (k n : ℕ) (line : List ℕ) → id ≡ Some k → asked ≡ Some n → eqb k n ≡ false → None ≡ kept_line (kept_in id line) asked
 other_kept id asked k n line e f other =
-    subst (λ o. None ≡ kept_line (kept_in o line) asked) (sym e) (subst (λ o. None ≡ kept_line (Some (record { id = k; line = line })) o) (sym f) (by_test (eqb k n) (Some line) None false other))
+    subst (λ o. None ≡ kept_line (kept_in o line) asked) (sym e) (subst (λ o. None ≡ kept_line (Some (record { id = k; line = line })) o) (sym f) (cond_same (eqb k n) (Some line) None false other))
 
 -- The outcome of a call doesn't depend on the stored reply. Each equation has that outcome on its left, by which the search finds it.
 
@@ -64,8 +64,8 @@ distance_apart : (s : State) (kept : Option KeptReply) (answer_with : Decimal �
 distance_apart s kept answer_with None = refl
 distance_apart s kept answer_with (Some d) = refl
 
--- the outcomes of a measuring command by which of its tests holds
-abbrev commanded_by_tests : State → Bool → Bool → Bool → Executed
+-- the outcome of a measuring command by its three tests: whether it is 0 (`a`), 1 (`b`) or 3 (`c`)
+abbrev pub commanded_by_tests : State → (a b c : Bool) → Executed
 commanded_by_tests t a b c = cond a (done t Nothing) (cond b (done (measured t) Nothing) (cond c (done (unmeasured t) Nothing) (refused t 2)))
 
 -- carrying out a measuring command doesn't depend on the stored reply
@@ -108,7 +108,7 @@ executes_apart s kept call = sym (by_rows s kept call)
 -- What is stored of an execution.
 
 -- carrying out a call leaves the stored reply as it is
-kept_stays : (s : State) (call : Call) → (exec s call).state.kept ≡ s.kept
+pub kept_stays : (s : State) (call : Call) → (exec s call).state.kept ≡ s.kept
 kept_stays s call = ap (λ (x : Executed). x.state.kept) (executes_apart s s.kept call)
 
 -- the bytes from the old length on are what was appended

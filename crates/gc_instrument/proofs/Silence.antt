@@ -1,6 +1,5 @@
 -- Lines that are no requests change nothing.
 use Rattle.std.proofs.Common.{◌≡◌, inl, inr, ℕ, List, [], ◌∷◌, ◌++◌, Option, None, refl, sym, ap, ◌∙◌, subst}
-use Rattle.std.specs.List.{AllByRecursion}
 use Rattle.std.specs.Option.{option_to_list}
 use Rattle.gc_lines.specs.Frames.{lines, rest_of}
 use Rattle.gc_lines.specs.Requests.{RequestFields, IsRequest}
@@ -8,12 +7,8 @@ use Rattle.gc_lines.proofs.Cutting.{rest-append}
 use Rattle.gc_instrument.specs.State.{State}
 use Rattle.gc_instrument.specs.Replying.{IsReplied, silent, answers}
 use Rattle.gc_instrument.specs.Hearing.{Hears, IsOutput}
-use Rattle.gc_instrument.specs.Laws.{IsWhole, ForeignLinesAreSilent}
+use Rattle.gc_instrument.specs.Laws.{AreForeign, IsWhole, ForeignLinesAreSilent}
 use Rattle.gc_instrument.proofs.HeardFrames.{lines-next}
-
--- none of these lines reads as a request
-abbrev AreForeign : List (List ℕ) → Type 0
-AreForeign heard = AllByRecursion (λ line. (q : RequestFields) → ¬ IsRequest line q) heard
 
 -- with lines that are no requests put in front, lines have the same replies, and lead to the same state
 put_in : (s t : State) (foreign later ps : List (List ℕ)) → AreForeign foreign → Hears s later t ps → Hears s (foreign ++ later) t ps

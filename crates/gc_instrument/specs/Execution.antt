@@ -30,7 +30,7 @@ refused s code = record { state = s; rc = code; answer = answer.Nothing }
 
 -- the outcome of a call that sets values: the new state if these are allowed (true), else the old state and code 2, the manual's "invalid
 -- parameter"
-abbrev pub set_if : Bool → State → State → Executed
+abbrev pub set_if : (allowed : Bool) (old new : State) → Executed
 set_if true old new = done new answer.Nothing
 set_if false old new = refused old 2
 

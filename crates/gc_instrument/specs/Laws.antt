@@ -29,8 +29,8 @@ pub record Restarts : Type 0 where
 abbrev pub OneReply : Type 0
 OneReply = (s t u : State) (line : List ℕ) (p q : Option (List ℕ)) → IsReplied s line t p → IsReplied s line u q → (t ≡ u) × (p ≡ q)
 
--- a call's request line gets the reply that `handed` gives (`replied`); if the id isn't the stored one, that reply reads as the outcome of the
--- call (`answered`)
+-- the request line of a call whose values are in range, with an id below 8, gets the reply that `handed` gives (`replied`); if the id isn't
+-- the stored one, and the values of the state are in range, that reply reads as the outcome of the call (`answered`)
 pub record ExchangesCalls : Type 0 where
   pub replied : (s : State) (id : ℕ) (call : Call) → id < 8 → IsFitting call → IsReplied s (request_line (Some id) call) (handed s id call).state (Some (handed s id call).reply)
   pub answered : (s : State) (id : ℕ) (call : Call) → IsFittingState s → id < 8 → IsFitting call → kept_line s.kept (Some id) ≡ None → IsAnswered s id call (handed s id call).reply
@@ -48,11 +48,16 @@ pub record AnswersInTurn : Type 0 where
 abbrev pub IsWhole : List ℕ → Type 0
 IsWhole stream = (stream ≡ []) ⊎ ((front : List ℕ) × (stream ≡ front ++ 10 ∷ []))
 
+-- none of these lines reads as a request
+abbrev pub AreForeign : List (List ℕ) → Type 0
+AreForeign heard = AllByRecursion (λ line. (q : RequestFields) → ¬ IsRequest line q) heard
+
 -- no line of a stream reads as a request
 abbrev pub HasNoRequest : List ℕ → Type 0
-HasNoRequest stream = AllByRecursion (λ line. (q : RequestFields) → ¬ IsRequest line q) (lines stream)
+HasNoRequest stream = AreForeign (lines stream)
 
--- lines that are no requests change nothing: what is written for a stream, and the state after it, are the same without them
+-- complete lines that are no requests, inserted after complete lines of a stream, change nothing: what is written for the stream, and the
+-- state after it, are the same without them
 abbrev pub ForeignLinesAreSilent : Type 0
 ForeignLinesAreSilent = (s t : State) (front foreign back bytes : List ℕ) → IsWhole front → IsWhole foreign → HasNoRequest foreign
     → IsOutput s (front ++ (foreign ++ back)) t bytes ↔ IsOutput s (front ++ back) t bytes

@@ -1,4 +1,5 @@
--- The reply to a line: what the instrument does with each line that it gets. The communication codes are the manual's, the rest is this project's own.
+-- The reply to a line: what the instrument does with each line that it gets. The communication codes are the manual's, the rest is this
+-- project's own.
 use Rattle.std.specs.Prelude.{◌≡◌, ◌<◌, ℕ, List, [], ◌++◌, Bool, true, false, Option, Some, None, if◌then◌else◌, ◌==◌, nat_eq, unwrap_or}
 use Rattle.gc_lines.specs.Answering.{AppendsAnswer}
 use Rattle.gc_lines.specs.Lines.{IsPlain}
@@ -20,7 +21,8 @@ use Rattle.gc_instrument.specs.Execution.{Executed, exec}
 abbrev pub reply_id : RequestFields → ℕ
 reply_id q = unwrap_or q.id 0
 
--- the communication code of a request that names no call: 3081 for a procedure that isn't in the catalogue, 3080 for parameters that can't be read
+-- the communication code of a request that names no call: 3081 for a procedure that isn't in the catalogue, 3080 for parameters that can't
+-- be read
 abbrev pub com_code : CallFault → ℕ
 com_code Unknown = 3081
 com_code (Parameters _) = 3080
@@ -80,8 +82,8 @@ pub record Handed (State : Type 0) : Type 0 where
   pub reply : List ℕ
   pub executed : Bool
 
--- what an instrument does with a call's request line: it sends the line that is stored for the id again, and carries out nothing; or, if there
--- is no such line, it carries out the call and stores the reply
+-- what an instrument does with a call's request line: it sends the line that is stored for the id again, and carries out nothing; or, if
+-- there is no such line, it carries out the call and stores the reply
 abbrev pub again_or_new : State → ℕ → Call → Option (List ℕ) → Handed State
 again_or_new s number call (Some line) = record { state = s; reply = line; executed = false }
 again_or_new s number call None =
@@ -103,15 +105,16 @@ pub record IsAnswered (before : State) (number : ℕ) (call : Call) (line : List
   pub same_id : fields.id ≡ Some number
   pub reading : IsReading call fields (reading_of (exec before call))
 
--- the request line of a call led to the state and the reply of `handed`; the reply is one line, and if the request's id isn't the stored one,
--- it reads as the outcome of carrying out the call
+-- the request line of a call led to the state and the reply of `handed`; the reply is one line, and if the request's id isn't the stored
+-- one, it reads as the outcome of carrying out the call
 pub record IsExchanged (before : State) (number : ℕ) (call : Call) (after : State) (reply : Option (List ℕ)) : Type 0 where
   pub state : after ≡ (handed before number call).state
   pub line : reply ≡ Some (handed before number call).reply
   pub plain : IsPlain (handed before number call).reply
   pub answered : kept_line before.kept (Some number) ≡ None → IsAnswered before number call (handed before number call).reply
 
--- the call was carried out, and its reply, with this id, was appended to `old`; the reply reads as the outcome of carrying out the call
+-- the call was carried out, and its reply, with this id and without CR or LF, was appended to `old`; the reply reads as the outcome of
+-- carrying out the call
 pub record AppendsExecuted (before : State) (number : ℕ) (call : Call) (after : State) (old new : List ℕ) : Type 0 where
   pub text : List ℕ
   pub appended : new ≡ old ++ text
@@ -120,7 +123,8 @@ pub record AppendsExecuted (before : State) (number : ℕ) (call : Call) (after 
   pub line : text ≡ executed_line number (exec before call)
   pub says : IsAnswered before number call text
 
--- the reply to a call was appended to `old`; if the call's id isn't the stored one, the reply reads as the outcome of carrying out the call
+-- the reply to a call, without CR or LF, was appended to `old`; if the call's id isn't the stored one, the reply reads as the outcome of
+-- carrying out the call
 pub record AppendsCall (before : State) (id : Option ℕ) (call : Call) (after : State) (old new : List ℕ) : Type 0 where
   pub text : List ℕ
   pub appended : new ≡ old ++ text
@@ -128,8 +132,8 @@ pub record AppendsCall (before : State) (id : Option ℕ) (call : Call) (after :
   pub answers : AnswersCall before id call after text
   pub says : kept_line before.kept id ≡ None → IsAnswered before (unwrap_or id 0) call text
 
--- the reply to a request was appended to `old`; if the request names a call, and its id isn't the stored one, the reply reads as the outcome
--- of carrying out the call
+-- the reply to a request was appended to `old`; if the request names a call, the reply has neither CR nor LF, and, if its id isn't the
+-- stored one, reads as the outcome of carrying out the call
 pub record AppendsReply (before : State) (q : RequestFields) (after : State) (old new : List ℕ) : Type 0 where
   pub text : List ℕ
   pub appended : new ≡ old ++ text
@@ -138,7 +142,7 @@ pub record AppendsReply (before : State) (q : RequestFields) (after : State) (ol
   pub says : (call : Call) → IsCall q.rpc q.params call → kept_line before.kept q.id ≡ None → IsAnswered before (reply_id q) call text
 
 -- if the line is the request line of a call with an id, the reply was appended to `old`, and the states before and after are those of
--- `IsExchanged`; `told` is whether there is a reply
-abbrev pub AppendsExchange : State → (line : List ℕ) → State → (old new : List ℕ) → (told : Bool) → Type 0
-AppendsExchange before line after old new told = (id : ℕ) (call : Call) → id < 8 → IsFitting call
-    → line ≡ request_line (Some id) call → AppendsAnswer (IsExchanged before id call after) old new told
+-- `IsExchanged`; `has_reply` is whether there is a reply
+abbrev pub AppendsExchange : State → (line : List ℕ) → State → (old new : List ℕ) → (has_reply : Bool) → Type 0
+AppendsExchange before line after old new has_reply = (id : ℕ) (call : Call) → id < 8 → IsFitting call
+    → line ≡ request_line (Some id) call → AppendsAnswer (IsExchanged before id call after) old new has_reply

@@ -14,24 +14,24 @@ use Rattle.gc_instrument.specs.State.{State}
 use Rattle.gc_instrument.specs.Replying.{IsReplied}
 use Rattle.gc_instrument.specs.Hearing.{Hears, replies_text}
 
--- what an instrument does with a frame, where `text` is what it sends: the reply to a line with its CR LF, and nothing for a frame that is no
--- line
+-- what an instrument does with a frame, where `text` is what it sends: the reply to a line with its CR LF, and nothing for a frame that is
+-- no line
 abbrev pub AnswersFrame : State → Frame → State → Option (List ℕ) → Type 0
 AnswersFrame before (Line line) after text = (reply : Option (List ℕ)) × IsReplied before line.items after reply × (text ≡ option_map with_end reply)
 AnswersFrame before Cleared after text = (after ≡ before) × (text ≡ None)
 AnswersFrame before Overlong after text = (after ≡ before) × (text ≡ None)
 AnswersFrame before More after text = (after ≡ before) × (text ≡ None)
 
--- the instrument answered all lines `heard`, and their replies were written whole: the sink had taken `old` before and `new` after, `before`
--- replies had been written earlier, and `count` have been with these
+-- the instrument answered all lines `heard`, and their replies were written whole: the sink had taken `old` before and `new` after,
+-- `before` replies had been written earlier, and `count` have been with these
 pub record ServesAll (from to : State) (heard : List (List ℕ)) (old new : Option (List ℕ)) (before count : ℕ) : Type 0 where
   pub replies : List (List ℕ)
   pub hears : Hears from heard to replies
   pub counts : count ≡ before + length replies
   pub took : Appends old new (replies_text replies)
 
--- the instrument answered the lines `heard` up to one, `line`, of whose reply only the first `bytes` bytes were written; later lines weren't
--- handed over. `before` replies had been written earlier, and `count` have been written whole with these
+-- the instrument answered the lines `heard` up to one, `line`, of whose reply only the first `bytes` bytes were written; later lines
+-- weren't handed over. `before` replies had been written earlier, and `count` have been written whole with these
 pub record ServesPart (from to : State) (heard : List (List ℕ)) (old new : Option (List ℕ)) (before count bytes : ℕ) : Type 0 where
   -- the lines whose replies were written whole, the one whose reply was cut, and those after it
   pub earlier : List (List ℕ)
@@ -44,7 +44,7 @@ pub record ServesPart (from to : State) (heard : List (List ℕ)) (old new : Opt
   pub hears : Hears from earlier state replies
   -- the reply that was cut
   pub reply : List ℕ
-  pub draws : IsReplied state line to (Some reply)
+  pub gives : IsReplied state line to (Some reply)
   pub counts : count ≡ before + length replies
   pub not_all : bytes < length (with_end reply)
   pub took : Appends old new (replies_text replies ++ take bytes (with_end reply))

@@ -71,8 +71,8 @@ abbrev pub origin : Station
 origin = record { e0 = zero; n0 = zero; h0 = zero; hi = zero }
 
 -- the pointing at the start: both angles are 0.0
-abbrev pub ahead : Pointing
-ahead = record { hz = zero; v = zero }
+abbrev pub first_pointing : Pointing
+first_pointing = record { hz = zero; v = zero }
 
 -- the date at the start: 1996-07-25 16:19:47
 abbrev pub first_date : DateTime
@@ -88,7 +88,7 @@ opening number letters targets = record {
   station = origin;
   height = zero;
   face = Normal;
-  pointing = ahead;
+  pointing = first_pointing;
   distance = None;
   date = first_date;
   prism = pos 0;

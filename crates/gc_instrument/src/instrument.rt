@@ -77,9 +77,9 @@ impl Instrument {
     ghost use Rattle.std.specs.Option.{option_map};
     ghost use Rattle.gc_instrument.specs.Targets.{nowhere};
 
-    /// An instrument with this serial number, name and scene, in the opening state: precision 15,
-    /// all values 0.0, the normal face, no distance, the date 1996-07-25 16:19:47, and prism type 0
-    /// (this project's own). It has no stored reply. A scene of more than 32 targets is refused.
+    /// An instrument with this serial number, name and scene, in the opening state: precision 15, the station, the reflector's height and
+    /// the pointing 0.0, the normal face, no distance, the date 1996-07-25 16:19:47, and prism type 0 (this project's own). It has no
+    /// stored reply. A scene of more than 32 targets is refused.
     pub fn new(serial: i32, name: Text, scene: &[Target]) -> Result<Instrument, SceneFull>
         ensures opening { IfOk result (λ i. i ≡ opening serial name scene.now) }
         ensures fits { IfOk result (λ i. IsFittingState i) }
@@ -158,16 +158,16 @@ impl Instrument {
         self.settings.pointing
     }
 
-    /// The slope distance that was measured last, in metres. `None`: none was measured, or a call or a
-    /// restart has cleared it.
+    /// The slope distance that was measured last, in metres. `None`: none was measured, the last measurement met no target, or a call or a
+    /// restart has cleared the distance.
     pub fn distance(&self) -> Option<Decimal>
         ensures { result ≡ self.now.distance }
     {
         self.settings.distance
     }
 
-    /// The id of the last request that carried one and was executed since the instrument was made or
-    /// restarted. A request with this id is answered by the stored reply. `None`: there was no such request.
+    /// The id of the last request that carried one and was executed since the instrument was made or restarted. A request that names a
+    /// call and carries this id is answered by the stored reply. `None`: there was no such request.
     pub fn kept_id(&self) -> Option<u8>
         ensures { result ≡ option_map (λ k. k.id) self.now.kept }
     {

@@ -2,8 +2,9 @@
 
 ghost use Rattle.gc_instrument.specs.Laws.{OutcomesAreSound, ExecutesApart, Restarts, OneReply, ExchangesCalls, AnswersInTurn, ForeignLinesAreSilent};
 
-/// Every call leaves the instrument's serial number, name and scene as they are, and gives an answer of its own with the return
-/// code 0, or `Answer::Nothing` with another code. The values of the state and of the answer stay in the ranges of their types.
+/// Every call leaves the instrument's serial number, name and scene as they are. With the return code 0 its answer has the shape of
+/// the call's answers, and with another code, below 65536, it is `Answer::Nothing`. If the values of the state and of the call lie in the
+/// ranges of their types, so do those of the state after the call and of the answer.
 pub fn outcomes_are_sound()
     ensures { OutcomesAreSound }
 {}
@@ -23,8 +24,8 @@ pub fn one_reply()
     ensures { OneReply }
 {}
 
-/// A call's request line gets the reply that the definition `handed` computes. If the line's id isn't that of the stored reply,
-/// the reply reads as the outcome of executing the call.
+/// A call's request line, with an id below 8, gets the reply that the definition `handed` computes. If the line's id isn't that of the
+/// stored reply, the reply reads as the outcome of executing the call.
 pub fn exchanges_calls()
     ensures { ExchangesCalls }
 {}
@@ -36,8 +37,8 @@ pub fn answers_in_turn()
     ensures { AnswersInTurn }
 {}
 
-/// Noise, other programs' lines and halves of lines change nothing: if complete lines that are no requests are inserted into a
-/// stream, between two of its lines, its output and the state after it stay the same.
+/// Noise and other programs' lines change nothing: if lines that are no requests, each with its line feed, are inserted into a stream, at
+/// its start or after one of its line feeds, its output and the state after it stay the same.
 pub fn foreign_lines_are_silent()
     ensures { ForeignLinesAreSilent }
 {}

@@ -1,6 +1,4 @@
-//! Rows of a synchronization by null procedures, one after the other, as `Beginning` of gc_client plays it. A row is `do
-//! WORD WHAT -> CAME`. What comes of it is written to `came`, a text that is then compared with CAME. `what` is WHAT as it
-//! is, and `bytes` are the bytes for which it stands.
+//! Rows of a synchronization by null procedures, one after the other, as `Beginning` of gc_client plays it.
 
 use gc_cases::{Rows, Told};
 use gc_client::Beginning;

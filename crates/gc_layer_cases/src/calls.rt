@@ -1,5 +1,4 @@
-//! Rows of calls and answers on the line. A row is `do WORD WHAT -> CAME`. What comes of it is written to `came`, a text
-//! that is then compared with CAME. `what` is WHAT as it is, and `bytes` are the bytes for which it stands.
+//! Rows of calls and answers on the line.
 
 use gc_cases::{Rows, Told, cut_word};
 use gc_catalogue::{
@@ -16,9 +15,9 @@ impl Rows for Calls {
     // Plays a row: `call` with a request's line, or `reading` or `answer` with the lines of a request and a reply.
     fn play(&mut self, _alloc: Global, word: &str, what: &str, bytes: &[u8], came: &mut Told) {
         match word {
-            "call" => call_again(bytes, came),
+            "call" => rewrite_call(bytes, came),
             "reading" => tell_reading(what, came),
-            "answer" => answer_again(what, came),
+            "answer" => rewrite_answer(what, came),
             _ => came.text("an unknown word"),
         }
     }
@@ -40,7 +39,7 @@ fn tell_fault(fault: CallFault, came: &mut Told) {
 }
 
 // Reports the call that a request's line asks for, and after it that call's line, written again; or why there is no call.
-fn call_again(line: &[u8], came: &mut Told) {
+fn rewrite_call(line: &[u8], came: &mut Told) {
     let Ok(request) = read_request(line) else {
         return came.text("no request");
     };
@@ -65,7 +64,7 @@ fn reading_of(words: &str) -> Option<Reading> {
     }
 }
 
-// Reports the reading of a reply, the second word, for the call of a request, the first one.
+// Reports the reading of a reply, the second word, for the call of a request, the first one; or that there is none (`reading_of`).
 fn tell_reading(words: &str, came: &mut Told) {
     match reading_of(words) {
         Some(reading) => came.debug(&reading),
@@ -75,8 +74,8 @@ fn tell_reading(words: &str, came: &mut Told) {
 
 // Reads a reply, the second word, for the call of a request, the first one (`reading_of`), and reports the reply line that
 // an instrument would write with what was read, for id 4 at precision 3. A reading that is neither a value nor a refusal has
-// none.
-fn answer_again(words: &str, came: &mut Told) {
+// none, and neither have words without a reading: `no answer` is reported.
+fn rewrite_answer(words: &str, came: &mut Told) {
     match reading_of(words) {
         Some(Reading::Value(answer)) => { came.bytes(encode_answer(4, 0, &answer, 3).as_slice()) }
         Some(Reading::Refused(code)) => came.bytes(encode_answer(

@@ -1,6 +1,4 @@
-//! Rows of a client: what happens to the client, and what it gives. A case is played twice, over each kind of window. A row
-//! is `do WORD WHAT -> CAME`. What comes of it is written to `came`, a text that is then compared with CAME. `what` is WHAT
-//! as it is, and `bytes` are the bytes for which it stands.
+//! Rows of a client: what happens to the client, and what it gives. A case is played twice, over each kind of window.
 
 ghost use Rattle.std.specs.Prelude.{◌≤◌};
 ghost use Rattle.gc_client.specs.declared.window.TheConstants.{WINDOW};
@@ -15,14 +13,15 @@ use std::alloc::Global;
 
 // What plays these rows: a client; the call that it sends; and the line and the list of settlements into which all rows write.
 #[derive(Drop)]
-struct Played<W: Window<Asked = Call>> {
+struct Clients<W: Window<Asked = Call>> {
     client: Client<W>,
     call: Call,
     line: Line,
     settled: ArrayVec<Settlement<Call>, WINDOW>,
 }
 
-/// Plays a case twice: with a client over a window in fixed places, and with one over a ring.
+/// Plays a case twice: with a client over a window in fixed places, and with one over a ring. Where the ring gets no memory, `wrong`
+/// notes that it lacks a part.
 pub fn play_clients(alloc: Global, case: &Case<'_>, wrong: &mut Told) {
     play_over(alloc, case, Slots::new(), wrong);
     match Ring::new(alloc) {
@@ -33,13 +32,13 @@ pub fn play_clients(alloc: Global, case: &Case<'_>, wrong: &mut Told) {
 
 // Plays a case with a client over this window.
 fn play_over<W: Window<Asked = Call>>(alloc: Global, case: &Case<'_>, window: W, wrong: &mut Told) {
-    let mut played = Played {
+    let mut clients = Clients {
         client: Client::with_width(window, width_of(case)),
         call: Call::NullProc,
         line: Line::new(),
         settled: ArrayVec::new(),
     };
-    play_rows(alloc, case, &mut played, wrong);
+    play_rows(alloc, case, &mut clients, wrong);
 }
 
 // How many requests may wait for their replies: two if the case says so, otherwise seven.
@@ -50,7 +49,7 @@ fn width_of(case: &Case<'_>) -> u8
     if case.has("width", "2") { 2 } else { 7 }
 }
 
-impl<W: Window<Asked = Call>> Rows for Played<W> {
+impl<W: Window<Asked = Call>> Rows for Clients<W> {
     // Plays a row, and reports what it gives, how many requests wait, and the next id.
     fn play(&mut self, _alloc: Global, word: &str, what: &str, bytes: &[u8], came: &mut Told) {
         self.play_word(word, what, bytes, came);
@@ -59,21 +58,23 @@ impl<W: Window<Asked = Call>> Rows for Played<W> {
     }
 }
 
-impl<W: Window<Asked = Call>> Played<W> {
-    // Makes the call of the client that the row's word names, and reports what it gives.
+impl<W: Window<Asked = Call>> Clients<W> {
+    // Does with the client what the row's word says, and reports what that gives: `call` or `hear` with a line, `send` with a target and
+    // a deadline, `expire` with a moment, `restart` or `deadline`.
     fn play_word(&mut self, word: &str, what: &str, bytes: &[u8], came: &mut Told) {
         match word {
             "call" => self.take_call(bytes, came),
             "send" => self.send(what, came),
             "hear" => self.hear(bytes, came),
             "expire" => self.expire(number_or(what, 0), came),
-            "restart" => tell_all(self.client.restart().as_slice(), came),
+            "restart" => tell_settlements(self.client.restart().as_slice(), came),
             "deadline" => came.debug(&self.client.next_deadline()),
             _ => came.text("an unknown word"),
         }
     }
 
-    // Takes the call of this request's line as the one that is sent from now on. Reports only that the line has no call.
+    // Takes the call of this request's line as the one that is sent from now on. A line without a call is reported, and the call that
+    // was taken before stays.
     fn take_call(&mut self, line: &[u8], came: &mut Told) {
         match call_of(line) {
             Some(call) => self.call = call,
@@ -82,11 +83,10 @@ impl<W: Window<Asked = Call>> Played<W> {
     }
 
     // Sends the call to the target of the first word, to be answered before the moment of the second one. Reports the line, or that it was
-    // refused. A word that is no number stands for 0.
+    // refused.
     fn send(&mut self, words: &str, came: &mut Told) {
-        let (target, deadline) = cut_word(words);
-        let target = u32::try_from(number_or(target, 0)).unwrap_or(0);
-        let (deadline, line) = (number_or(deadline, 0), &mut self.line);
+        let (target, deadline) = target_and_deadline(words);
+        let line = &mut self.line;
         match self.client.send_into(target, &self.call, deadline, line) {
             Ok(()) => came.bytes(self.line.as_slice()),
             Err(full) => came.titled("refused: ", &full),
@@ -101,7 +101,7 @@ impl<W: Window<Asked = Call>> Played<W> {
             Hearing::Stray => came.text("stray"),
             Hearing::Unread(fault) => came.titled("unread ", &fault.number()),
         }
-        tell_all(self.settled.as_slice(), came)
+        tell_settlements(self.settled.as_slice(), came)
     }
 
     // Hands the client a moment, and reports the targets of the requests that it times out.
@@ -112,8 +112,16 @@ impl<W: Window<Asked = Call>> Played<W> {
     }
 }
 
+/// The target that the first word says, and the deadline that the second one says, a moment. A word that is no number, or is above 32 bits
+/// for the target, stands for 0.
+pub fn target_and_deadline(words: &str) -> (u32, u64) {
+    let (target, deadline) = cut_word(words);
+    let target = u32::try_from(number_or(target, 0)).unwrap_or(0);
+    (target, number_or(deadline, 0))
+}
+
 // Reports settlements: each with its target, and how its request ended.
-fn tell_all(settled: &[Settlement<Call>], came: &mut Told) {
+fn tell_settlements(settled: &[Settlement<Call>], came: &mut Told) {
     for settlement in settled {
         came.display(&settlement.target);
         tell_outcome(&settlement.outcome, came);

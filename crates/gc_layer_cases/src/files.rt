@@ -1,6 +1,5 @@
 //! Rows of a file of rows, in memory: what opening it leaves of the bytes that it held, and what it holds of those that are
-//! written. A row is `do WORD WHAT -> CAME`. What comes of it is written to `came`, a text that is then compared with CAME.
-//! `what` is WHAT as it is, and `bytes` are the bytes for which it stands.
+//! written.
 
 use gc_cases::{Rows, Told, bytes_of, cut_word};
 use gc_files::{MemoryFile, Refused, RowsFile, copy_lines, open_rows};
@@ -19,12 +18,12 @@ pub struct Files {
 }
 
 impl Files {
-    /// No file is open.
+    /// At first no file is open.
     pub fn new() -> Files {
         Files { rows: None }
     }
 
-    // Opens a file that has room for as many bytes as the first word says and holds the bytes of the other words, and
+    // Opens a new file that holds the bytes of the other words and has room for as many more as the first word says (`file_of`), and
     // reports what opening it gave. `is_synced`: what is written is on the disk after each sync.
     fn open(&mut self, alloc: Global, is_synced: bool, words: &str, came: &mut Told) {
         match file_of(alloc, words) {
@@ -33,7 +32,7 @@ impl Files {
         }
     }
 
-    // Opens a file as `open` does, but one whose syncs fail.
+    // Opens a file as `open` does with `is_synced`, but one whose syncs fail.
     fn open_failing(&mut self, alloc: Global, words: &str, came: &mut Told) {
         match file_of(alloc, words) {
             Ok(mut file) => {
@@ -48,14 +47,14 @@ impl Files {
     fn open_file(&mut self, file: MemoryFile, is_synced: bool, came: &mut Told) {
         match open_rows(file, HEAD, HEAD, is_synced) {
             Ok(rows) => {
-                tell_rows(&rows, came);
+                tell_opened(&rows, came);
                 self.rows = Some(rows);
             }
             Err((why, file)) => tell_refused(why, &file, came),
         }
     }
 
-    // Copies the file that is open into a new one with room for 1000 bytes, and opens that one.
+    // Copies the file that is open into a new one with room for 1000 bytes, and opens that one (`copy_into`).
     fn copy(&mut self, alloc: Global, came: &mut Told) {
         match MemoryFile::new(alloc, b"", 1000) {
             Some(fresh) => self.copy_into(fresh, came),
@@ -63,8 +62,8 @@ impl Files {
         }
     }
 
-    // Copies all that the open file holds into this one, and reports how many lines that were, or that no file is open. Then
-    // opens this one.
+    // Copies all that the open file holds into this one, and reports how many lines that were, that copying failed, or that no file is
+    // open. In each case it then opens this one, and reports what that gave.
     fn copy_into(&mut self, mut fresh: MemoryFile, came: &mut Told) {
         match &self.rows {
             Some(rows) => tell_copy(copy_lines(rows.file(), &mut fresh), came),
@@ -74,30 +73,30 @@ impl Files {
     }
 
     // Plays a row on the file that is open, or reports that none is.
-    fn use_open(&mut self, word: &str, bytes: &[u8], came: &mut Told) {
+    fn play_on_open(&mut self, word: &str, bytes: &[u8], came: &mut Told) {
         match &mut self.rows {
-            Some(rows) => use_rows(rows, word, bytes, came),
+            Some(rows) => play_on_rows(rows, word, bytes, came),
             None => came.text("no file is open"),
         }
     }
 }
 
 impl Rows for Files {
-    // Plays a row: `open`, `open_synced` or `open_failing` with a count of bytes and what the file holds, `copy`, or a word of
-    // `use_rows`.
+    // Plays a row: `open`, `open_synced` or `open_failing` with a room in bytes and what the file holds, `copy`, or a word of
+    // `play_on_rows`.
     fn play(&mut self, alloc: Global, word: &str, what: &str, bytes: &[u8], came: &mut Told) {
         match word {
             "open" => self.open(alloc, false, what, came),
             "open_synced" => self.open(alloc, true, what, came),
             "open_failing" => self.open_failing(alloc, what, came),
             "copy" => self.copy(alloc, came),
-            _ => self.use_open(word, bytes, came),
+            _ => self.play_on_open(word, bytes, came),
         }
     }
 }
 
-// A file that has room for as many bytes as the first word says, up to 1000 (0 for more, or for no number), and holds the bytes of the
-// rest. `Err`: memory ran out.
+// A file that holds the bytes of all words but the first, and has room for as many more as the first word says: at most 1000, and 0
+// where it says more, or is no number. `Err`: memory ran out.
 fn file_of(alloc: Global, words: &str) -> Result<MemoryFile, AllocError> {
     let (room, held) = cut_word(words);
     let held = bytes_of(alloc, held)?;
@@ -114,7 +113,7 @@ fn tell_copy(copied: Result<u64, PortFailed>, came: &mut Told) {
 }
 
 // Reports how many bytes opening the file cut off, and what it holds.
-fn tell_rows(rows: &RowsFile<MemoryFile>, came: &mut Told) {
+fn tell_opened(rows: &RowsFile<MemoryFile>, came: &mut Told) {
     came.counted(&rows.torn(), " cut off, holds ");
     came.bytes(rows.file().bytes());
 }
@@ -126,8 +125,8 @@ fn tell_refused(why: Refused, file: &MemoryFile, came: &mut Told) {
     came.bytes(file.bytes());
 }
 
-// Syncs what was written, writes, or reports what the file holds, as the word says.
-fn use_rows(rows: &mut RowsFile<MemoryFile>, word: &str, bytes: &[u8], came: &mut Told) {
+// Syncs what was written (`keep`), writes the bytes (`write`), or reports what the file holds (`holds`), as the word says.
+fn play_on_rows(rows: &mut RowsFile<MemoryFile>, word: &str, bytes: &[u8], came: &mut Told) {
     match word {
         "keep" => sync_rows(rows, came),
         "write" => write_to(rows, bytes, came),

@@ -1,6 +1,4 @@
-//! Rows of a simulated instrument: lines and calls that it takes, and its scene. A row is `do WORD WHAT -> CAME`. What comes
-//! of it is written to `came`, a text that is then compared with CAME. `what` is WHAT as it is, and `bytes` are the bytes
-//! for which it stands.
+//! Rows of a simulated instrument: lines and calls that it takes, and its scene.
 
 use crate::calls::call_of;
 use crate::embedded::tell_embedded;
@@ -74,14 +72,14 @@ impl Instruments {
         }
     }
 
-    // Reports the height, the precision and the prism type.
+    // Reports the reflector's height in metres, the precision and the prism type.
     fn tell_settings(&self, came: &mut Told) {
         came.titled("height ", &self.instrument.height());
         came.titled(" precision ", &self.instrument.precision());
         came.titled(" prism ", &self.instrument.prism());
     }
 
-    // Reports where the telescope points.
+    // Reports where the telescope points, in radians.
     fn tell_pointing(&self, came: &mut Told) {
         let pointing = self.instrument.pointing();
         came.titled("hz ", &pointing.hz);
@@ -109,17 +107,14 @@ impl Rows for Instruments {
 fn target_of(words: &str) -> Option<Target> {
     let (hz, rest) = cut_word(words);
     let (v, distance) = cut_word(rest);
-    match (
-        Decimal::read(hz.as_bytes()),
-        Decimal::read(v.as_bytes()),
-        Decimal::read(distance.as_bytes()),
-    ) {
-        (Ok(hz), Ok(v), Ok(distance)) => Some(Target { hz, v, distance }),
-        _ => None,
-    }
+    Some(Target {
+        hz: Decimal::read(hz.as_bytes()).ok()?,
+        v: Decimal::read(v.as_bytes()).ok()?,
+        distance: Decimal::read(distance.as_bytes()).ok()?,
+    })
 }
 
-/// Hands in a line, and reports the reply and the id whose reply the instrument has stored then.
+/// Hands in a line, and reports the reply (`tell_reply`) and the id whose reply the instrument has stored then, or that it has none.
 pub fn hand_in(instrument: &mut Instrument, bytes: &[u8], came: &mut Told) {
     tell_reply(instrument, bytes, came);
     match instrument.kept_id() {
@@ -128,7 +123,7 @@ pub fn hand_in(instrument: &mut Instrument, bytes: &[u8], came: &mut Told) {
     }
 }
 
-// Hands in a line, and reports the reply.
+// Hands in a line, and reports the reply, or that there is none. More bytes than a line has aren't handed in, which is reported.
 fn tell_reply(instrument: &mut Instrument, bytes: &[u8], came: &mut Told) {
     let mut line = Line::new();
     if line.try_extend_from_slice(bytes).is_err() {

@@ -1,6 +1,4 @@
-//! Rows of lines: requests and replies read and written again, headers, and what an assembler makes of a piece. A row is `do
-//! WORD WHAT -> CAME`. What comes of it is written to `came`, a text that is then compared with CAME. `what` is WHAT as it
-//! is, and `bytes` are the bytes for which it stands.
+//! Rows of lines: requests and replies read and written again, headers, and what an assembler makes of a piece.
 
 use gc_cases::{Rows, Told, cut_word, number_or};
 use gc_lines::{
@@ -29,8 +27,8 @@ impl Rows for Lines {
     // the start of a line?
     fn play(&mut self, _alloc: Global, word: &str, what: &str, bytes: &[u8], came: &mut Told) {
         match word {
-            "request" => request_again(bytes, came),
-            "reply" => reply_again(bytes, came),
+            "request" => rewrite_request(bytes, came),
+            "reply" => rewrite_reply(bytes, came),
             "header" => tell_header(what, came),
             "piece" => hand_in_piece(&mut self.assembler, bytes, came),
             "start" => came.display(&self.assembler.at_start()),
@@ -48,7 +46,7 @@ fn tell_written(written: Result<Line, LineFault>, came: &mut Told) {
 }
 
 // Reads a request, and reports its line, written again; the fault; or that its parameters aren't plain.
-fn request_again(line: &[u8], came: &mut Told) {
+fn rewrite_request(line: &[u8], came: &mut Told) {
     match read_request(line) {
         Ok(request) if is_plain(request.params) => tell_written(write_request(&request), came),
         Ok(_) => came.text("not plain"),
@@ -57,7 +55,7 @@ fn request_again(line: &[u8], came: &mut Told) {
 }
 
 // Reads a reply, and reports its line, written again; the fault; or that its parameters aren't plain.
-fn reply_again(line: &[u8], came: &mut Told) {
+fn rewrite_reply(line: &[u8], came: &mut Told) {
     match read_reply(line) {
         Ok(reply) if is_plain(reply.params) => tell_written(write_reply(&reply), came),
         Ok(_) => came.text("not plain"),
@@ -66,12 +64,12 @@ fn reply_again(line: &[u8], came: &mut Told) {
 }
 
 // The number of 16 bits that a word writes. `None`: it writes none.
-fn number(word: &str) -> Option<u16> {
+fn u16_of(word: &str) -> Option<u16> {
     u16::try_from(number_or(word, u64::MAX)).ok()
 }
 
-// Reports the header of a request, if there is one word, its procedure number; or of a reply, if there are three, its communication code,
-// its id and its return code.
+// Reports a header: of a request if there is one word, the procedure number; of a reply if there are three, the communication code, the
+// id and the return code. Reports that there is no header for other words.
 fn tell_header(words: &str, came: &mut Told) {
     match header_of(words) {
         Some(line) => came.bytes(line.as_slice()),
@@ -82,18 +80,18 @@ fn tell_header(words: &str, came: &mut Told) {
 // The header that `tell_header` reports. `None`: a word is no number of 16 bits, or the id is above 7.
 fn header_of(words: &str) -> Option<Line> {
     let (first, rest) = cut_word(words);
-    let first = number(first)?;
+    let first = u16_of(first)?;
     let mut line = Line::new();
     if rest.is_empty() {
         push_request(&mut line, first, None);
         return Some(line);
     }
     let (id, code) = cut_word(rest);
-    let id = u8::try_from(number(id)?).ok()?;
+    let id = u8::try_from(u16_of(id)?).ok()?;
     if id > 7 {
         return None;
     }
-    push_reply(&mut line, first, id, number(code)?);
+    push_reply(&mut line, first, id, u16_of(code)?);
     Some(line)
 }
 

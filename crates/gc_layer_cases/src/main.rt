@@ -1,5 +1,8 @@
-//! Plays the cases of the layers up to the instrument, and of files of rows: no part of the product. The cases of a layer lie
-//! in a file of their own, `data/layers.NAME`, and are played by the file of `src` for that layer.
+//! Plays the cases of the layers up to the instrument, and of files of rows: no part of the product. The cases of a layer are
+//! in a file of their own, `data/layers.NAME`, and are played by the file of `src` for that layer (`measuring.rt` for `stations`).
+//!
+//! A case is a list of rows, `do WORD WHAT -> CAME` (`Rows` of gc_cases). In each file `play` gets WORD, WHAT as it is (`what`), and the
+//! bytes for which WHAT stands (`bytes`). What a function reports is appended to `came`, a text that is then compared with CAME.
 #![tactic(auto)]
 
 mod beginning;
@@ -58,7 +61,8 @@ fn play_case(layer: &str, alloc: Global, case: &Case<'_>, wrong: &mut Told) {
     }
 }
 
-// Plays the cases of all layers. The status is 1 if a case came to something else than it expects.
+// Plays the cases of all layers, from the files of the current folder. The status is 1 if a case came to something else than it
+// expects, and otherwise 0. `Err`: `play_folder` gave one.
 fn main(rt: HostRuntime) -> io::Result<ExitCode> {
     let mut are_right = true;
     for name in [

@@ -1,7 +1,7 @@
-//! A station of one page, as `docs/LIBRARY.md` shows it: it sends calls to targets, and reports how each request ended.
-//! After it comes what plays the rows of a case with such a station. A row is `do WORD WHAT -> CAME`. What comes of it is
-//! written to `came`, a text that is then compared with CAME.
+//! The core of a station, which `docs/LIBRARY.md` names as an example: it sends calls to targets, and reports how each request ended.
+//! After it comes what plays the rows of a case with such a station.
 
+use crate::client::target_and_deadline;
 use gc_cases::{Rows, Told, bytes_behind, cut_word, number_or};
 use gc_catalogue::{Answer, Call, Reading};
 use gc_client::{Client, Heard, Outcome, Settlement, Slots};
@@ -25,7 +25,8 @@ impl Station {
         }
     }
 
-    /// Sends a call to a target, to be answered before the deadline. `false`: seven wait, so nothing was sent.
+    /// Sends a call to a target, to be answered before the deadline. `false`: seven requests are outstanding, so nothing was sent.
+    /// `Err`: the connection didn't take the whole line; the request is outstanding all the same.
     fn ask<W: Write>(
         &mut self,
         connection: &mut W,
@@ -42,7 +43,7 @@ impl Station {
     }
 
     /// Takes the bytes of one read, and the moment after it: times out the requests whose deadline has come, and reports in
-    /// `told` what the bytes settle. `Err`: memory ran out.
+    /// `told` what the bytes settle. `Err`: memory ran out for `told`; the bytes after that line aren't taken.
     fn hear(&mut self, bytes: &[u8], now: u64, told: &mut String) -> Result<(), AllocError> {
         self.client.expire(now);
         let mut left = bytes;
@@ -54,41 +55,42 @@ impl Station {
         Ok(())
     }
 
-    /// Takes a frame: where it is a line that settles requests, reports how they ended.
+    /// Takes a frame: if it is a line that settles requests, reports how they ended. Every other frame is ignored. `Err`: memory ran out
+    /// for `told`; the requests are settled all the same.
     fn hear_frame(&mut self, frame: &Frame, told: &mut String) -> Result<(), AllocError> {
         let Frame::Line(line) = frame else {
             return Ok(());
         };
         if let Heard::Settled(settled) = self.client.on_line(line) {
-            tell_all(&settled, told)?;
+            tell_settlements(&settled, told)?;
         }
         Ok(())
     }
 
-    /// Goes on over a connection that was closed and opened again, and whose stale input was discarded: half a line is
-    /// dropped, and ids go on.
+    /// Continues over a connection that was closed and opened again, and whose stale input was discarded: half a line is
+    /// discarded, and ids continue.
     fn go_on(&mut self) {
         self.assembler = Assembler::new();
     }
 
-    /// Begins again over a connection that was closed and opened again, and whose stale input was discarded: reports that
-    /// what waits is lost. A null procedure has to be answered next.
-    fn begin_anew(&mut self, told: &mut String) -> Result<(), AllocError> {
+    /// Restarts over a connection that was opened again, once the caller has synchronized over it with a `Beginning` of gc_client:
+    /// reports that what is outstanding is lost. `Err`: memory ran out for `told`; the client has restarted all the same.
+    fn restart(&mut self, told: &mut String) -> Result<(), AllocError> {
         self.assembler = Assembler::new();
-        tell_all(&self.client.restart(), told)
+        tell_settlements(&self.client.restart(), told)
     }
 }
 
-// Reports how these requests ended, each in a line.
-fn tell_all(settled: &[Settlement<Call>], told: &mut String) -> Result<(), AllocError> {
+// Reports how these requests ended, each in a line. `Err`: memory ran out.
+fn tell_settlements(settled: &[Settlement<Call>], told: &mut String) -> Result<(), AllocError> {
     for settlement in settled {
-        tell(settlement, told)?;
+        tell_settlement(settlement, told)?;
     }
     Ok(())
 }
 
-// Reports how a request ended, in a line.
-fn tell(settlement: &Settlement<Call>, told: &mut String) -> Result<(), AllocError> {
+// Reports how a request ended, in a line. `Err`: memory ran out.
+fn tell_settlement(settlement: &Settlement<Call>, told: &mut String) -> Result<(), AllocError> {
     let target = settlement.target;
     match &settlement.outcome {
         Outcome::Answered(Reading::Value(Answer::Measured { hz, v, distance }), _) => {
@@ -117,20 +119,16 @@ impl Stations {
         }
     }
 
-    // Asks for a measurement of the target that the first word says, to be answered before the moment of the second one. A word that is no
-    // number stands for 0. Reports only if nothing was sent (seven wait), or memory ran out.
+    // Asks for a measurement of the target that the first word says, to be answered before the moment of the second one. Reports only if
+    // nothing was sent (seven wait), or memory ran out.
     fn ask(&mut self, words: &str, came: &mut Told) {
-        let (target, deadline) = cut_word(words);
-        let target = u32::try_from(number_or(target, 0)).unwrap_or(0);
-        let read = Call::SimpleMea {
+        let (target, deadline) = target_and_deadline(words);
+        let call = Call::SimpleMea {
             wait: 5000,
             mode: 1,
         };
         let connection = &mut self.connection;
-        match self
-            .station
-            .ask(connection, target, read, number_or(deadline, 0))
-        {
+        match self.station.ask(connection, target, call, deadline) {
             Ok(true) => {}
             Ok(false) => came.text("seven wait"),
             Err(_) => came.lack(),
@@ -143,9 +141,9 @@ impl Stations {
         self.station.hear(read, number_or(now, 0), told)
     }
 
-    // Plays a row at which the station reports how requests ended, into `told`: `hear` with a moment and bytes, or `begin_anew`. `Err`:
+    // Plays a row at which the station reports how requests ended, into `told`: `hear` with a moment and bytes, or `restart`. `Err`:
     // memory ran out.
-    fn tell(
+    fn play_report(
         &mut self,
         word: &str,
         what: &str,
@@ -154,15 +152,22 @@ impl Stations {
     ) -> Result<(), AllocError> {
         match word {
             "hear" => self.hear(cut_word(what).0, bytes, told),
-            "begin_anew" => self.station.begin_anew(told),
+            "restart" => self.station.restart(told),
             _ => told.push_str("an unknown word"),
         }
     }
 
-    // Plays a row as `tell` does, and shows in `came` what the station reported.
-    fn tell_all(&mut self, alloc: Global, word: &str, what: &str, bytes: &[u8], came: &mut Told) {
+    // Plays a row as `play_report` does, and reports in `came` what the station reported.
+    fn tell_report(
+        &mut self,
+        alloc: Global,
+        word: &str,
+        what: &str,
+        bytes: &[u8],
+        came: &mut Told,
+    ) {
         let mut told = String::new(alloc);
-        if self.tell(word, what, bytes, &mut told).is_err() {
+        if self.play_report(word, what, bytes, &mut told).is_err() {
             came.lack();
         }
         came.text(told.as_str());
@@ -170,14 +175,14 @@ impl Stations {
 }
 
 impl Rows for Stations {
-    // Plays a row: `ask` with a target and a deadline, `deadline`, `go_on`, `sent`, or a word of `tell`.
+    // Plays a row: `ask` with a target and a deadline, `deadline`, `go_on`, `sent`, or a word of `play_report`.
     fn play(&mut self, alloc: Global, word: &str, what: &str, bytes: &[u8], came: &mut Told) {
         match word {
             "ask" => self.ask(what, came),
             "deadline" => came.debug(&self.station.client.next_deadline()),
             "go_on" => self.station.go_on(),
             "sent" => came.bytes(self.connection.as_slice()),
-            _ => self.tell_all(alloc, word, what, bytes, came),
+            _ => self.tell_report(alloc, word, what, bytes, came),
         }
     }
 }

@@ -1,6 +1,5 @@
 //! Rows of the ports over a reader and a writer of std: how often a reader is asked and for how many bytes, and what fits
-//! into a writer. A row is `do WORD WHAT -> CAME`. What comes of it is written to `came`, a text that is then compared with
-//! CAME. `what` is WHAT as it is, and `bytes` are the bytes for which it stands.
+//! into a writer.
 
 ghost use Rattle.std.specs.Prelude.{None};
 
@@ -19,17 +18,18 @@ struct Asked {
 
 // A reader that gives `left`, at most `most` bytes a read, and is interrupted at read number `fails_at`, counted from 0.
 #[derive(Drop)]
-struct Slow<'a, 'b> {
+struct PieceReader<'a, 'b> {
     left: &'a [u8],
     most: usize,
     fails_at: u64,
     asked: &'b Asked,
 }
 
-impl Read for Slow<'_, '_> {
+impl Read for PieceReader<'_, '_> {
     ghost remaining = { λ _. None };
 
-    // Notes the call and the room for its bytes, and gives the next bytes, or an interruption at its number.
+    // Notes the call and the room for its bytes, and gives the next bytes, none once all are given; or, at the call with the number
+    // `fails_at`, an interruption.
     fn read(&mut self, buf: &mut [u8]) -> io::Result<usize> {
         let call = self.asked.calls.get();
         self.asked.calls.set(call.saturating_add(1));
@@ -62,8 +62,9 @@ impl Rows for Ports {
     }
 }
 
-// Reads the bytes of the third word through a port, which reads ahead if `is_ahead`, and reports what `read_all` does. The first word says
-// how many bytes the reader gives a read at most, and the second at which read it fails, counted from 0.
+// Reads the bytes of the third word through a port, which reads ahead if `is_ahead`, and reports what `read_four_times` does. The
+// first word says how many bytes the reader gives a read at most (1 if it is no number), and the second at which read it is interrupted,
+// counted from 0 (9 if it is no number).
 fn read_through(is_ahead: bool, words: &str, came: &mut Told) {
     let (most, rest) = cut_word(words);
     let (fails_at, left) = cut_word(rest);
@@ -71,24 +72,24 @@ fn read_through(is_ahead: bool, words: &str, came: &mut Told) {
         calls: Cell::new(0),
         room: Cell::new(0),
     };
-    let reader = Slow {
+    let reader = PieceReader {
         left: left.as_bytes(),
         most: usize::try_from(number_or(most, 1)).unwrap_or(1),
         fails_at: number_or(fails_at, 9),
         asked: &asked,
     };
     if is_ahead {
-        read_all(&mut FromReader::new(ReadAhead::new(reader)), &asked, came);
+        read_four_times(&mut FromReader::new(ReadAhead::new(reader)), &asked, came);
     } else {
-        read_all(&mut FromReader::new(reader), &asked, came);
+        read_four_times(&mut FromReader::new(reader), &asked, came);
     }
 }
 
-// Reads four times into four bytes, by the trait's bound alone, and reports of each read what came and what the reader was
-// asked by then.
-fn read_all<S: Source>(source: &mut S, asked: &Asked, came: &mut Told) {
+// Reads four times into four bytes, by the trait's bound alone, and reports of each read what came (`read_once`), how often the reader
+// was asked by then, and for how many bytes the last time.
+fn read_four_times<S: Source>(source: &mut S, asked: &Asked, came: &mut Told) {
     for _ in 0..4 {
-        read_one(source, came);
+        read_once(source, came);
         came.titled(" asked ", &asked.calls.get());
         came.titled(" for ", &asked.room.get());
         came.text(", ");
@@ -96,7 +97,7 @@ fn read_all<S: Source>(source: &mut S, asked: &Asked, came: &mut Told) {
 }
 
 // Reads once into four bytes, and reports what came and, by `!`, whether the source has failed.
-fn read_one<S: Source>(source: &mut S, came: &mut Told) {
+fn read_once<S: Source>(source: &mut S, came: &mut Told) {
     let mut buf = [0u8; 4];
     match source.read(&mut buf) {
         Ok(count) => came.bytes(buf.get(..count).unwrap_or(b"?")),
@@ -107,16 +108,17 @@ fn read_one<S: Source>(source: &mut S, came: &mut Told) {
     }
 }
 
-// Writes three bytes four times, into a writer with room for as many bytes as `room` says, at most 16. Reports what `write_all` does.
+// Writes three bytes four times, into a writer with room for as many bytes as `room` says, at most 16 (0 if it is no number). Reports what
+// `write_four_times` does.
 fn write_through(room: &str, came: &mut Told) {
     let mut bytes = [0u8; 16];
     let room = usize::try_from(number_or(room, 0)).unwrap_or(0).min(16);
-    write_all(&mut ToWriter::new(&mut bytes[..room]), came);
+    write_four_times(&mut ToWriter::new(&mut bytes[..room]), came);
 }
 
 // Writes three bytes four times, by the trait's bound alone, and reports of each time how many were taken, or `failed`, and, by `!`,
 // whether the sink has failed.
-fn write_all<K: Sink>(sink: &mut K, came: &mut Told) {
+fn write_four_times<K: Sink>(sink: &mut K, came: &mut Told) {
     for _ in 0..4 {
         match sink.write(b"abc") {
             Ok(count) => came.display(&count),

@@ -5,8 +5,8 @@ use crate::instrument::hand_in;
 use gc_cases::Told;
 use gc_instrument::Instrument;
 
-// Requests whose calls are carried out between a request and its repeat, without a line: whatever can be set is set to something
-// else, then the face is changed, and the second target measured.
+// Requests whose calls are carried out between a request and its repeat. They go to `Instrument::execute` and not through a line, so
+// that the stored reply stays: whatever can be set is set to something else, then the face is changed, and the third target measured.
 const ALL_SET: [&[u8]; 8] = [
     b"%R1Q,107,0:3",
     b"%R1Q,5007,0:2001,'02','03','04','05','06'",
@@ -25,7 +25,7 @@ fn set_all(instrument: &mut Instrument) {
     }
 }
 
-// Carries out the call of a request's line, if it has one.
+// Carries out the call of a request's line, if it has one, without a look at what comes of it.
 fn execute(instrument: &mut Instrument, line: &[u8]) {
     if let Some(call) = call_of(line) {
         let _ = instrument.execute(&call);
@@ -33,7 +33,7 @@ fn execute(instrument: &mut Instrument, line: &[u8]) {
 }
 
 /// Hands a request to a new simulator, carries out the calls of `ALL_SET`, and hands the same request in again. Reports both
-/// replies, each with the id whose reply is stored then, and the distance, which has to be that of the second target.
+/// replies, each with the id whose reply is stored then, and the distance, which has to be that of the third target, 48.5 m.
 pub fn ask_twice(request: &[u8], came: &mut Told) {
     let mut instrument = Instrument::simulator();
     hand_in(&mut instrument, request, came);
@@ -43,7 +43,7 @@ pub fn ask_twice(request: &[u8], came: &mut Told) {
     tell_distance(&instrument, came)
 }
 
-// Reports the distance, if there is one.
+// Reports the distance that the instrument has, in metres, or that it has none.
 fn tell_distance(instrument: &Instrument, came: &mut Told) {
     match instrument.distance() {
         Some(distance) => came.titled("; as set ", &distance),

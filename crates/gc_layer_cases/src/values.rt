@@ -1,6 +1,4 @@
-//! Rows of values: lists of parameters, decimals, and items by their kinds. A row is `do WORD WHAT -> CAME`. What comes of
-//! it is written to `came`, a text that is then compared with CAME. `what` is WHAT as it is, and `bytes` are the bytes for
-//! which it stands.
+//! Rows of values: lists of parameters, decimals, and items by their kinds.
 
 ghost use Rattle.std.specs.Prelude.{◌≤◌};
 
@@ -33,7 +31,8 @@ impl Rows for Values {
     }
 }
 
-// Reads an item of the kind that the word says, and reports its value.
+// Reads an item of the kind that the word says, and reports its value or the fault; a word that `kind_of` knows has the value written
+// again (`read_as_named`).
 fn play_item(word: &str, item: &[u8], came: &mut Told) {
     match word {
         "byte" => tell_read(read_byte(item), came),
@@ -73,21 +72,17 @@ fn tell_items(items: &Items<'_>, came: &mut Told) {
 // The decimals of two words. `None`: a word is no decimal.
 fn two_decimals(words: &str) -> Option<(Decimal, Decimal)> {
     let (first, second) = cut_word(words);
-    match (
-        Decimal::read(first.as_bytes()),
-        Decimal::read(second.as_bytes()),
-    ) {
-        (Ok(first), Ok(second)) => Some((first, second)),
-        _ => None,
-    }
+    let first = Decimal::read(first.as_bytes()).ok()?;
+    let second = Decimal::read(second.as_bytes()).ok()?;
+    Some((first, second))
 }
 
 // Makes a decimal of two words, its digits and its scale, and reports both as the decimal has them, and its text; or the fault. Digits that
-// are no number stand for 0.
+// are no Long (`read_long`) stand for 0, and a scale that is no number of 8 bits for 255.
 fn new_decimal(words: &str, came: &mut Told) {
     let (digits, scale) = cut_word(words);
     let digits = i128::from(read_long(digits.as_bytes()).unwrap_or(0));
-    match Decimal::new(digits, small_number(scale)) {
+    match Decimal::new(digits, byte_or_255(scale)) {
         Ok(decimal) => tell_parts(&decimal, came),
         Err(fault) => came.debug(&fault),
     }
@@ -101,7 +96,7 @@ fn tell_parts(decimal: &Decimal, came: &mut Told) {
 }
 
 // The number of 8 bits that a word writes, and 255 for any other word.
-fn small_number(word: &str) -> u8 {
+fn byte_or_255(word: &str) -> u8 {
     u8::try_from(number_or(word, 255)).unwrap_or(255)
 }
 
@@ -113,11 +108,12 @@ fn compare(words: &str, came: &mut Told) {
     }
 }
 
-// Reports the decimal that the second word is, rounded to as many places as the first word says, at most 24; or the fault.
+// Reports the decimal that the second word is, rounded to as many places as the first word says; or the fault. A first word that is no
+// number, or one above 24, stands for 24.
 fn round(words: &str, came: &mut Told) {
     let (places, text) = cut_word(words);
     match Decimal::read(text.as_bytes()) {
-        Ok(decimal) => round_to(&decimal, small_number(places).min(24), came),
+        Ok(decimal) => round_to(&decimal, byte_or_255(places).min(24), came),
         Err(fault) => came.debug(&fault),
     }
 }
@@ -138,7 +134,7 @@ fn within(words: &str, came: &mut Told) {
     }
 }
 
-// Reads the second word as a whole number of at most the first word, and reports the number or the fault.
+// Reads the second word as a whole number of at most the first word (0 if that is no number), and reports the number or the fault.
 fn read_whole_word(words: &str, came: &mut Told) {
     let (most, item) = cut_word(words);
     tell_read(read_whole(item.as_bytes(), number_or(most, 0)), came);
@@ -152,7 +148,7 @@ fn tell_text(read: Result<Text, ValueFault>, came: &mut Told) {
     }
 }
 
-// Reports how many bytes a string has, these bytes, and whether it equals the empty one.
+// Reports how many bytes a string has, these bytes, and, if it is so, that it equals the empty one.
 fn tell_string_bytes(text: &Text, came: &mut Told) {
     came.counted(&text.as_bytes().len(), " bytes ");
     came.bytes(text.as_bytes());

@@ -1,9 +1,9 @@
 -- A stream that is cut at its line feeds, piece by piece. r is what is before the bytes that are cut, since the last line
 -- feed.
-use Rattle.std.proofs.Common.{◌≡◌, ℕ, ◌+◌, ◌<◌, ◌≤◌, suc, Bool, true, false, not, cond, List, [], ◌∷◌, ◌++◌, length, take, drop, Some, None, refl, sym, ap, ◌∙◌, arith, append_assoc, ◌≢◌, eqb, map}
+use Rattle.std.proofs.Common.{◌≡◌, ℕ, ◌+◌, ◌<◌, ◌≤◌, suc, Bool, true, false, not, cond, List, [], ◌∷◌, ◌++◌, length, take, drop, Some, None, refl, sym, ap, ◌∙◌, arith, append_assoc, map}
 use Rattle.std.specs.List.{prefix_len, position, flat_map, AllByRecursion}
 use Rattle.std.proofs.lemmas.List.{append-nil, map-append}
-use Rattle.std.proofs.lemmas.Bool.{ltb-true, ltb-false, eqb-true, eq-eqb}
+use Rattle.std.proofs.lemmas.Bool.{ltb-true, ltb-false, eqb-true, eq-eqb, ne_eqb}
 use Rattle.std.proofs.Math.Dec.{ltb}
 use Rattle.std.proofs.Math.Numerals.{one-add}
 use Rattle.gc_lines.specs.Frames.{is_line_feed, pieces_behind, rest_behind, pieces, rest_of, HasNoLineFeed, IsCut, frame_of, frames}
@@ -90,19 +90,12 @@ cut_whole r (x ∷ xs) = elim (is_line_feed x) as (λ v. is_line_feed x ≡ v
 
 -- A stream has one such cutting.
 
--- a byte other than 10 is no line feed
-not_feed : (b : ℕ) → b ≢ 10 → is_line_feed b ≡ false
-not_feed b h = elim (eqb b 10) as (λ v. eqb b 10 ≡ v → v ≡ false) [
-  | true ↦ λ t. absurd (h (eqb-true b 10 t))
-  | false ↦ λ _. refl
-] refl
-
 -- a part without a line feed, and a line feed after it, make one piece
 pub cut_first : (r part xs : List ℕ) → HasNoLineFeed part → (pieces_behind r (part ++ 10 ∷ xs) ≡ (r ++ part) ∷ pieces_behind [] xs) × (rest_behind r (part ++ 10 ∷ xs) ≡ rest_behind [] xs)
 cut_first r [] xs clean = (ap (λ p. p ∷ pieces_behind [] xs) (sym (append-nil r)), refl)
 cut_first r (b ∷ bs) xs clean =
     let no = cut_first (r ++ b ∷ []) bs xs clean.1 in
-    let same = not_feed b clean.0 in
+    let same : is_line_feed b ≡ false = ne_eqb b 10 clean.0 in
     (rw same (no.0 ∙ ap (λ p. p ∷ pieces_behind [] xs) (append_assoc r (b ∷ []) bs)), rw same no.1)
 
 -- as `cut_none`, where no byte is 10
@@ -110,7 +103,7 @@ cut_last : (r xs : List ℕ) → HasNoLineFeed xs → (pieces_behind r xs ≡ []
 cut_last r [] clean = (refl, sym (append-nil r))
 cut_last r (b ∷ bs) clean =
     let no = cut_last (r ++ b ∷ []) bs clean.1 in
-    let same = not_feed b clean.0 in
+    let same : is_line_feed b ≡ false = ne_eqb b 10 clean.0 in
     (rw same no.0, rw same (no.1 ∙ append_assoc r (b ∷ []) bs))
 
 -- parts without line feeds, each followed by one, and a rest without one are cut into just these
@@ -153,7 +146,7 @@ front_joins_piece : (r xs ys : List ℕ) → HasNoLineFeed xs → (pieces_behind
 front_joins_piece r [] ys clean = (ap (λ p. pieces_behind p ys) (sym (append-nil r)), ap (λ p. rest_behind p ys) (sym (append-nil r)))
 front_joins_piece r (b ∷ bs) ys clean =
     let more = front_joins_piece (r ++ b ∷ []) bs ys clean.1 in
-    let same = not_feed b clean.0 in
+    let same : is_line_feed b ≡ false = ne_eqb b 10 clean.0 in
     (rw same (more.0 ∙ ap (λ p. pieces_behind p ys) (append_assoc r (b ∷ []) bs)), rw same (more.1 ∙ ap (λ p. rest_behind p ys) (append_assoc r (b ∷ []) bs)))
 
 -- the frames do not depend on where the stream is cut

@@ -103,28 +103,37 @@ some_place at left below more = elim (cases_lt 0 at) [
   | inr none ↦ let zero : at ≡ 0 = omega arith in absurd (below_one_place left (subst (λ (n : ℕ). left < 10 ^ (n + 1)) zero below) more)
 ]
 
--- A step of `push_digits`: the digits of `left` are still to be written, before those that follow place `at`, and together
--- they are those of n. Once the last digit of `left` is written at place `at`, the digits of left / 10 are still to be
--- written, and together with those from that place on they are those of n.
-pub digit_written : (digits : List ℕ) (at left n : ℕ) → at ≤ 4 → length digits ≡ 5 → left < 10 ^ (at + 1) → left < 2 ^ 16 → 10 ≤ left → decimal left ++ drop (at + 1) digits ≡ decimal n
+-- of five places those after `at` are written: the digits of `left`, which aren't written yet, and these are together those of n
+pub record AreWrittenAfter (digits : List ℕ) (at left n : ℕ) : Type 0 where
+  pub room : at ≤ 4
+  pub size : length digits ≡ 5
+  pub text : decimal left ++ drop (at + 1) digits ≡ decimal n
+
+-- A step of `push_digits`: once the last digit of `left` is written at place `at`, the digits of left / 10 are still to be written, and
+-- together with those from that place on they are those of n.
+pub digit_written : (digits : List ℕ) (at left n : ℕ) → AreWrittenAfter digits at left n → left < 10 ^ (at + 1) → left < 2 ^ 16 → 10 ≤ left
     → (0 < at) × (length (slice_set digits at (48 + left % 10)) ≡ 5) × (left / 10 < 10 ^ (at - 1 + 1)) × (decimal (left / 10) ++ drop (at - 1 + 1) (slice_set digits at (48 + left % 10)) ≡ decimal n)
-digit_written digits at left n room size below range more text =
+digit_written digits at left n so below range more =
+    let room : at ≤ 4 = so.room in
+    let size : length digits ≡ 5 = so.size in
     let some : 0 < at = some_place at left below more in
     let same : at - 1 + 1 ≡ at = omega arith in (
       some,
       length-set digits at (48 + left % 10) ∙ size,
       subst (λ (m : ℕ). left / 10 < 10 ^ m) (sym same) ((div-lt_iff_lt-mul (lit< tt)).1 (subst (λ (m : ℕ). left < m) (pow-suc 10 at) (subst (λ (m : ℕ). left < 10 ^ m) (add-one at) below))),
       rw (same, drop-set digits at (48 + left % 10) (omega (arith, size)))
-          (sym (append_assoc (decimal (left / 10)) ((48 + left % 10) ∷ []) (drop (at + 1) digits)) ∙ ap (λ ds. ds ++ drop (at + 1) digits) (sym (decimal_step left more (omega arith))) ∙ text),
+          (sym (append_assoc (decimal (left / 10)) ((48 + left % 10) ∷ []) (drop (at + 1) digits)) ∙ ap (λ ds. ds ++ drop (at + 1) digits) (sym (decimal_step left more (omega arith))) ∙ so.text),
     )
 
 -- the last step of `push_digits`: once the one digit that is left is written at place `at`, the digits of n are those from
 -- there on
-pub last_digit_written : (digits : List ℕ) (at left n : ℕ) → at ≤ 4 → length digits ≡ 5 → left < 10 → decimal left ++ drop (at + 1) digits ≡ decimal n
+pub last_digit_written : (digits : List ℕ) (at left n : ℕ) → AreWrittenAfter digits at left n → left < 10
     → take (5 - at) (drop at (slice_set digits at (48 + left))) ≡ decimal n
-last_digit_written digits at left n room size small text =
+last_digit_written digits at left n so small =
+    let room : at ≤ 4 = so.room in
+    let size : length digits ≡ 5 = so.size in
     take_all (5 - at) (drop at (slice_set digits at (48 + left))) (omega (arith, length-drop at (slice_set digits at (48 + left)), length-set digits at (48 + left), size))
-    ∙ drop-set digits at (48 + left) (omega (arith, size)) ∙ ap (λ ds. ds ++ drop (at + 1) digits) (sym (decimal_digit left small)) ∙ text
+    ∙ drop-set digits at (48 + left) (omega (arith, size)) ∙ ap (λ ds. ds ++ drop (at + 1) digits) (sym (decimal_digit left small)) ∙ so.text
 
 -- reading a run digit by digit
 
@@ -156,23 +165,30 @@ run_long bytes i within all =
 pub number_long : (fault : LineFault) (bytes : List ℕ) → 6 ≤ digits_len bytes → number_at fault bytes ≡ Err fault
 number_long fault bytes h = rw (lt-ltb 0 (digits_len bytes) (omega (arith, h)), le-ltb (digits_len bytes) 6 h) refl
 
+-- the first `len` bytes are digits, and no digit follows them
+pub record IsWholeRun (bytes : List ℕ) (len : ℕ) : Type 0 where
+  pub within : len ≤ length bytes
+  pub digits : AllDigits 10 (take len bytes)
+  pub stops : NoDigitFirst (drop len bytes)
+
 -- the digits that were read, up to one that isn't a digit, are the run
-run_read : (bytes : List ℕ) (len : ℕ) → len ≤ length bytes → AllDigits 10 (take len bytes) → NoDigitFirst (drop len bytes) → digits_len bytes ≡ len
-run_read bytes len within digits stops = ap digits_len (sym (take-append-drop len bytes)) ∙ run_length (take len bytes) (drop len bytes) digits stops ∙ length-take-le len bytes within
+run_read : (bytes : List ℕ) (len : ℕ) → IsWholeRun bytes len → digits_len bytes ≡ len
+run_read bytes len run =
+    ap digits_len (sym (take-append-drop len bytes)) ∙ run_length (take len bytes) (drop len bytes) run.digits run.stops ∙ length-take-le len bytes run.within
 
 -- one to five digits of a value below 65536, which no digit follows, are read as that number
-pub number_read : (fault : LineFault) (bytes : List ℕ) (len : ℕ) → len ≤ length bytes → AllDigits 10 (take len bytes) → NoDigitFirst (drop len bytes)
-    → 0 < len → len ≤ 5 → digits_value 10 (take len bytes) < 65536 → number_at fault bytes ≡ Ok (digits_value 10 (take len bytes), drop len bytes)
-number_read fault bytes len within digits stops some few bound =
-    rw (run_read bytes len within digits stops, lt-ltb 0 len some, lt-ltb len 6 (omega (arith, few)), lt-ltb (digits_value 10 (take len bytes)) 65536 bound) refl
+pub number_read : (fault : LineFault) (bytes : List ℕ) (len : ℕ) → IsWholeRun bytes len → 0 < len → len ≤ 5 → digits_value 10 (take len bytes) < 65536
+    → number_at fault bytes ≡ Ok (digits_value 10 (take len bytes), drop len bytes)
+number_read fault bytes len run some few bound =
+    rw (run_read bytes len run, lt-ltb 0 len some, lt-ltb len 6 (omega (arith, few)), lt-ltb (digits_value 10 (take len bytes)) 65536 bound) refl
 
 -- no digit, or a value from 65536 on, is refused with the field's fault
-pub number_refused : (fault : LineFault) (bytes : List ℕ) (len : ℕ) → len ≤ length bytes → AllDigits 10 (take len bytes) → NoDigitFirst (drop len bytes)
-    → (len ≡ 0) ⊎ (65536 ≤ digits_value 10 (take len bytes)) → len ≤ 5 → number_at fault bytes ≡ Err fault
-number_refused fault bytes len within digits stops (inl none) few = rw (run_read bytes len within digits stops, none) refl
-number_refused fault bytes len within digits stops (inr wide) few = elim (cases_lt 0 len) [
-  | inl some ↦ rw (run_read bytes len within digits stops, lt-ltb 0 len some, lt-ltb len 6 (omega (arith, few)), le-ltb (digits_value 10 (take len bytes)) 65536 wide) refl
-  | inr none ↦ rw (run_read bytes len within digits stops, le-ltb 0 len none) refl
+pub number_refused : (fault : LineFault) (bytes : List ℕ) (len : ℕ) → IsWholeRun bytes len → (len ≡ 0) ⊎ (65536 ≤ digits_value 10 (take len bytes)) → len ≤ 5
+    → number_at fault bytes ≡ Err fault
+number_refused fault bytes len run (inl none) few = rw (run_read bytes len run, none) refl
+number_refused fault bytes len run (inr wide) few = elim (cases_lt 0 len) [
+  | inl some ↦ rw (run_read bytes len run, lt-ltb 0 len some, lt-ltb len 6 (omega (arith, few)), le-ltb (digits_value 10 (take len bytes)) 65536 wide) refl
+  | inr none ↦ rw (run_read bytes len run, le-ltb 0 len none) refl
 ]
 
 -- where the byte at a place is no digit, no digit comes first from there on

@@ -143,7 +143,7 @@ id_of_text (Some i) rest below ends =
 id_again : (bytes : List ℕ) (x : Option ℕ × List ℕ) → HasId bytes x.0 x.1 → id_at bytes ≡ Ok x
 id_again bytes x has = ap id_at has.whole ∙ id_of_text x.0 x.1 has.below has.ends
 
--- a value that was read is no fault, so that anything follows where it is one
+-- a value that was read is no fault: if it were the fault d, any fault f would be d
 ok_no_fault : {A : Type 0} (x : A) (d f : LineFault) → Ok x ≡ Err d → f ≡ d
 ok_no_fault x d f e = (cc)
 

@@ -50,7 +50,7 @@ gathering_end {State} rule from to seen text lengths none g =
 pub gathering_silent : {State : Type 0} (rule : AnswerRule State) (from to : Progress State) (next : State) (seen : List Frame) (frame : Frame) (text lengths : List ℕ)
     → rule to.state frame next None → Gathering rule from to seen text lengths
     → Gathering rule from (record { state = next; taken = to.taken; whole = to.whole }) (seen ++ frame ∷ []) text lengths
-gathering_silent rule from to next seen frame text lengths draws g =
+gathering_silent rule from to next seen frame text lengths gives g =
     let same = append-nil g.texts in
     record {
       state = g.state;
@@ -59,7 +59,7 @@ gathering_silent rule from to next seen frame text lengths draws g =
       texts = g.texts ++ [];
       order = ap (λ (fs : List Frame). fs ++ frame ∷ []) g.order ∙ append_assoc g.done g.held (frame ∷ []);
       all = g.all;
-      holds = in_order_then rule g.state to.state next g.held (frame ∷ []) g.texts [] g.holds (in_order_one rule to.state next frame None draws);
+      holds = in_order_then rule g.state to.state next g.held (frame ∷ []) g.texts [] g.holds (in_order_one rule to.state next frame None gives);
       text_is = g.text_is ∙ sym (ap all_of same);
       lengths_are = g.lengths_are ∙ sym (ap (λ (ts : List (List ℕ)). map length ts) same);
     }
@@ -68,14 +68,14 @@ gathering_silent rule from to next seen frame text lengths draws g =
 pub gathering_more : {State : Type 0} (rule : AnswerRule State) (from to : Progress State) (next : State) (seen : List Frame) (frame : Frame) (text lengths more text' lengths' : List ℕ)
     → rule to.state frame next (Some more) → Gathering rule from to seen text lengths → text' ≡ text ++ more → lengths' ≡ lengths ++ length more ∷ []
     → Gathering rule from (record { state = next; taken = to.taken; whole = to.whole }) (seen ++ frame ∷ []) text' lengths'
-gathering_more rule from to next seen frame text lengths more text' lengths' draws g longer counted = record {
+gathering_more rule from to next seen frame text lengths more text' lengths' gives g longer counted = record {
   state = g.state;
   done = g.done;
   held = g.held ++ frame ∷ [];
   texts = g.texts ++ more ∷ [];
   order = ap (λ (fs : List Frame). fs ++ frame ∷ []) g.order ∙ append_assoc g.done g.held (frame ∷ []);
   all = g.all;
-  holds = in_order_then rule g.state to.state next g.held (frame ∷ []) g.texts (more ∷ []) g.holds (in_order_one rule to.state next frame (Some more) draws);
+  holds = in_order_then rule g.state to.state next g.held (frame ∷ []) g.texts (more ∷ []) g.holds (in_order_one rule to.state next frame (Some more) gives);
   text_is = longer ∙ ap (λ (xs : List ℕ). xs ++ more) g.text_is ∙ ap (λ (xs : List ℕ). all_of g.texts ++ xs) (sym (append-nil more)) ∙ sym (all_of-append g.texts (more ∷ []));
   lengths_are = counted ∙ ap (λ (ns : List ℕ). ns ++ length more ∷ []) g.lengths_are ∙ sym (map-append length g.texts (more ∷ []));
 }
@@ -105,7 +105,7 @@ record EndsWithin {State : Type 0} (rule : AnswerRule State) (from : State) (see
   out : List (List ℕ)
   answers : AnswersInOrder State rule from earlier state out
   text : List ℕ
-  draws : rule state frame reached (Some text)
+  gives : rule state frame reached (Some text)
   bytes : ℕ
   counts : whole_and_part whole n (map length texts) ≡ (whole + length out, bytes)
   not_all : bytes < length text
@@ -114,7 +114,7 @@ record EndsWithin {State : Type 0} (rule : AnswerRule State) (from : State) (see
 -- `EndsWithin` is true where the n bytes end within the first text
 ends_in_first : {State : Type 0} (rule : AnswerRule State) (s u : State) (frame : Frame) (later : List Frame) (t : List ℕ) (rest : List (List ℕ)) (whole n : ℕ)
     → rule s frame u (Some t) → nat_lt n (length t) ≡ true → EndsWithin rule s (frame ∷ later) (t ∷ rest) whole n
-ends_in_first rule s u frame later t rest whole n draws e =
+ends_in_first rule s u frame later t rest whole n gives e =
     let less : n < length t = ltb-true n (length t) e in
     let within : n ≤ length t = omega arith in
     let same : whole ≡ whole + 0 = omega arith in
@@ -128,7 +128,7 @@ ends_in_first rule s u frame later t rest whole n draws e =
       out = [];
       answers = (refl, refl);
       text = t;
-      draws = draws;
+      gives = gives;
       bytes = n;
       counts = ap (λ (b : Bool). cond b (whole, n) (whole_and_part (whole + 1) (n - length t) (map length rest))) e ∙ ap (λ (w : ℕ). (w, n)) same;
       not_all = less;
@@ -138,7 +138,7 @@ ends_in_first rule s u frame later t rest whole n draws e =
 -- `EndsWithin` is true where the n bytes hold the first text whole, and the others end within a later one
 ends_in_later : {State : Type 0} (rule : AnswerRule State) (s u : State) (frame : Frame) (later : List Frame) (t : List ℕ) (rest : List (List ℕ)) (whole n : ℕ)
     → rule s frame u (Some t) → nat_lt n (length t) ≡ false → EndsWithin rule u later rest (whole + 1) (n - length t) → EndsWithin rule s (frame ∷ later) (t ∷ rest) whole n
-ends_in_later rule s u frame later t rest whole n draws e k =
+ends_in_later rule s u frame later t rest whole n gives e k =
     let more : length t ≤ n = ltb-false n (length t) e in
     let sizes : n ≡ length t + (n - length t) = omega arith in
     let counted : (whole + 1) + length k.out ≡ whole + length (t ∷ k.out) = omega arith in
@@ -150,9 +150,9 @@ ends_in_later rule s u frame later t rest whole n draws e k =
       state = k.state;
       reached = k.reached;
       out = t ∷ k.out;
-      answers = (u, Some t, k.out, draws, k.answers, refl);
+      answers = (u, Some t, k.out, gives, k.answers, refl);
       text = k.text;
-      draws = k.draws;
+      gives = k.gives;
       bytes = k.bytes;
       counts = ap (λ (b : Bool). cond b (whole, n) (whole_and_part (whole + 1) (n - length t) (map length rest))) e ∙ k.counts ∙ ap (λ (w : ℕ). (w, k.bytes)) counted;
       not_all = k.not_all;
@@ -163,7 +163,7 @@ ends_in_later rule s u frame later t rest whole n draws e k =
 -- `EndsWithin` stays true with a frame without a text in front
 ends_past_silent : {State : Type 0} (rule : AnswerRule State) (s u : State) (frame : Frame) (later : List Frame) (texts : List (List ℕ)) (whole n : ℕ)
     → rule s frame u None → EndsWithin rule u later texts whole n → EndsWithin rule s (frame ∷ later) texts whole n
-ends_past_silent rule s u frame later texts whole n draws k = record {
+ends_past_silent rule s u frame later texts whole n gives k = record {
   earlier = frame ∷ k.earlier;
   frame = k.frame;
   later = k.later;
@@ -171,9 +171,9 @@ ends_past_silent rule s u frame later texts whole n draws k = record {
   state = k.state;
   reached = k.reached;
   out = k.out;
-  answers = (u, None, k.out, draws, k.answers, refl);
+  answers = (u, None, k.out, gives, k.answers, refl);
   text = k.text;
-  draws = k.draws;
+  gives = k.gives;
   bytes = k.bytes;
   counts = k.counts;
   not_all = k.not_all;
@@ -185,12 +185,12 @@ ends_past_silent rule s u frame later texts whole n draws k = record {
 ends_at_text : {State : Type 0} (rule : AnswerRule State) (s u : State) (frame : Frame) (later : List Frame) (text : Option (List ℕ)) (rest : List (List ℕ)) (whole n : ℕ)
     → rule s frame u text → n < length (all_of (option_to_list text ++ rest)) → ((w m : ℕ) → m < length (all_of rest) → EndsWithin rule u later rest w m)
     → EndsWithin rule s (frame ∷ later) (option_to_list text ++ rest) whole n
-ends_at_text rule s u frame later None rest whole n draws less next = ends_past_silent rule s u frame later rest whole n draws (next whole n less)
-ends_at_text rule s u frame later (Some t) rest whole n draws less next = elim (nat_lt n (length t)) as (λ b. nat_lt n (length t) ≡ b → EndsWithin rule s (frame ∷ later) (t ∷ rest) whole n) [
-  | true ↦ λ e. ends_in_first rule s u frame later t rest whole n draws e
+ends_at_text rule s u frame later None rest whole n gives less next = ends_past_silent rule s u frame later rest whole n gives (next whole n less)
+ends_at_text rule s u frame later (Some t) rest whole n gives less next = elim (nat_lt n (length t)) as (λ b. nat_lt n (length t) ≡ b → EndsWithin rule s (frame ∷ later) (t ∷ rest) whole n) [
+  | true ↦ λ e. ends_in_first rule s u frame later t rest whole n gives e
   | false ↦ λ e. let more : length t ≤ n = ltb-false n (length t) e in
       let left : n - length t < length (all_of rest) = omega (arith, less, more, length-append t (all_of rest)) in
-      ends_in_later rule s u frame later t rest whole n draws e (next (whole + 1) (n - length t) left)
+      ends_in_later rule s u frame later t rest whole n gives e (next (whole + 1) (n - length t) left)
 ] refl
 
 -- `EndsWithin` is true wherever n is less than the bytes that the texts have together
@@ -220,7 +220,7 @@ gathering_part rule from to seen text lengths after total bytes n g took counts 
       texts = k.out;
       answers = k.answers;
       text = k.text;
-      draws = k.draws;
+      gives = k.gives;
       counts = ap (λ (p : ℕ × ℕ). p.0) same;
       not_all = rw (ap (λ (p : ℕ × ℕ). p.1) same) k.not_all;
       took = Appends-is to.taken after _ _ (ap (λ (xs : List ℕ). take n xs) g.text_is ∙ k.front ∙ ap (λ (b : ℕ). all_of k.out ++ take b k.text) (sym (ap (λ (p : ℕ × ℕ). p.1) same))) took.1;
@@ -237,11 +237,11 @@ pub answered_part : {State : Type 0} (rule : AnswerRule State) (from to last : P
     → (gathers ≡ false → lengths ≡ []) → rule to.state frame last.state (Some more) → Gathering rule from to seen text lengths
     → text' ≡ text ++ more → lengths' ≡ lengths ++ length more ∷ [] → TakesFront to.taken last.taken n text' → (last.whole, bytes) ≡ whole_and_part to.whole n lengths'
     → GathersPart rule from last (seen ++ frame ∷ []) bytes gathers
-answered_part rule from to last seen frame text lengths more text' lengths' bytes n true alone draws g longer counted took counts =
+answered_part rule from to last seen frame text lengths more text' lengths' bytes n true alone gives g longer counted took counts =
     let it = gathering_part rule from (record { state = last.state; taken = to.taken; whole = to.whole }) (seen ++ frame ∷ []) text' lengths' last.taken last.whole bytes n
-    (gathering_more rule from to last.state seen frame text lengths more text' lengths' draws g longer counted) took counts in
+    (gathering_more rule from to last.state seen frame text lengths more text' lengths' gives g longer counted) took counts in
     record { reached = it.0; part = it.1; alone = λ e. cc }
-answered_part rule from to last seen frame text lengths more text' lengths' bytes n false alone draws g longer counted took counts =
+answered_part rule from to last seen frame text lengths more text' lengths' bytes n false alone gives g longer counted took counts =
     let none = alone refl in
     let nothing : text ≡ [] = g.text_is ∙ ap all_of (no_texts g.texts (sym none ∙ g.lengths_are)) in
     let took_more : TakesFront to.taken last.taken n more = subst (λ (xs : List ℕ). TakesFront to.taken last.taken n xs) (longer ∙ ap (λ (xs : List ℕ). xs ++ more) nothing) took in
@@ -249,7 +249,7 @@ answered_part rule from to last seen frame text lengths more text' lengths' byte
     let same : (last.whole, bytes) ≡ (to.whole, n) = counts ∙ ap (λ (ns : List ℕ). whole_and_part to.whole n ns) (counted ∙ ap (λ (ns : List ℕ). ns ++ length more ∷ []) none)
     ∙ ap (λ (b : Bool). cond b (to.whole, n) (to.whole + 1, n - length more)) less in
     let part : AnswersPart rule to.state last.state (frame ∷ []) to.taken last.taken to.whole to.whole n =
-    one_part rule to.state last.state frame more to.taken last.taken to.whole n draws took_more in
+    one_part rule to.state last.state frame more to.taken last.taken to.whole n gives took_more in
     let all = gathering_end rule from to seen text lengths none g in
     let told = part_then rule from.state to.state last.state seen (frame ∷ []) from.taken to.taken last.taken from.whole to.whole to.whole n all part in
     record {

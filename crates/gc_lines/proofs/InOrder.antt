@@ -63,7 +63,7 @@ part_then rule s t u xs ys a b c i j k bytes first part =
       texts = first.texts ++ part.texts;
       answers = in_order_then rule s t part.state xs part.earlier first.texts part.texts first.answers part.answers;
       text = part.text;
-      draws = part.draws;
+      gives = part.gives;
       counts = omega (arith, first.counts, part.counts, length-append first.texts part.texts);
       not_all = part.not_all;
       took = Appends-is a c _ _ (sym (ap (λ zs. zs ++ end) (all_of-append first.texts part.texts) ∙ append_assoc (all_of first.texts) (all_of part.texts) end))
@@ -82,7 +82,7 @@ part_before rule s u xs ys a c i k bytes part = record {
   texts = part.texts;
   answers = part.answers;
   text = part.text;
-  draws = part.draws;
+  gives = part.gives;
   counts = part.counts;
   not_all = part.not_all;
   took = part.took;
@@ -91,9 +91,9 @@ part_before rule s u xs ys a c i k bytes part = record {
 -- one frame was answered, and its text went out whole
 pub one_whole : {State : Type 0} (rule : AnswerRule State) (s t : State) (frame : Frame) (text : List ℕ) (a b : Option (List ℕ)) (count : ℕ)
     → rule s frame t (Some text) → Appends a b text → AnswersAll rule s t (frame ∷ []) a b count (count + 1)
-one_whole rule s t frame text a b count draws took = record {
+one_whole rule s t frame text a b count gives took = record {
   texts = text ∷ [];
-  answers = in_order_one rule s t frame (Some text) draws;
+  answers = in_order_one rule s t frame (Some text) gives;
   counts = omega arith;
   took = Appends-is a b _ _ (sym (append-nil text)) took;
 }
@@ -101,7 +101,7 @@ one_whole rule s t frame text a b count draws took = record {
 -- one frame was answered, and its text went out in part
 pub one_part : {State : Type 0} (rule : AnswerRule State) (s t : State) (frame : Frame) (text : List ℕ) (a b : Option (List ℕ)) (count bytes : ℕ)
     → rule s frame t (Some text) → TakesFront a b bytes text → AnswersPart rule s t (frame ∷ []) a b count count bytes
-one_part rule s t frame text a b count bytes draws took = record {
+one_part rule s t frame text a b count bytes gives took = record {
   earlier = [];
   frame = frame;
   later = [];
@@ -110,7 +110,7 @@ one_part rule s t frame text a b count bytes draws took = record {
   texts = [];
   answers = (refl, refl);
   text = text;
-  draws = draws;
+  gives = gives;
   counts = omega arith;
   not_all = took.0;
   took = took.1;

@@ -56,7 +56,7 @@ keeps_part old rest bytes front last s more f l =
       long = sym (lt-ltb 513 (length (rest ++ bytes)) (omega (arith, room, length-append rest bytes)));
     }
 
--- at most 512 bytes and a CR are the frame of a line
+-- of a rest of at most 512 bytes and a CR, the frame is the line with these bytes
 pub line_frame : (rest : List ℕ) (line : ArrayVec ℕ) → 0 < length rest → get_or rest (length rest - 1) 0 ≡ 13 → length rest ≤ 513 → line.items ≡ take (length rest - 1) rest → Line line ≡ frame_of rest
 line_frame rest line some last fits items =
     rw (lt-ltb 0 (length rest) some, eq-eqb (get_or rest (length rest - 1) 0) 13 last, le-ltb 512 (length rest - 1) (omega arith)) (ap (λ xs. Line (record { items = xs })) items)

@@ -15,3 +15,5 @@ pub mod Gathering
 pub mod Passing
 pub mod Given
 pub mod Exactly
+pub mod Lists
+pub mod Walks

@@ -37,7 +37,7 @@ abbrev pub AnswerRule : Type 0 → Type 1
 AnswerRule State = State → Frame → State → Option (List ℕ) → Type 0
 
 -- answering the frames, one after the other, takes the state from `before` to `after`, and these are the texts in order
-abbrev pub AnswersInOrder : (State : Type 0) → AnswerRule State → State → List Frame → State → List (List ℕ) → Type 0
+abbrev pub AnswersInOrder : (State : Type 0) → AnswerRule State → (before : State) → List Frame → (after : State) → (texts : List (List ℕ)) → Type 0
 AnswersInOrder State rule before [] after texts = (after ≡ before) × (texts ≡ [])
 AnswersInOrder State rule before (frame ∷ later) after texts =
     (state : State) × (text : Option (List ℕ)) × (rest : List (List ℕ))
@@ -60,22 +60,25 @@ pub record AnswersAll {State : Type 0} (rule : AnswerRule State) (from to : Stat
 -- answered. `count` is how many texts the sink has taken whole, the `before` earlier ones included; the other parameters are those of
 -- `AnswersAll`
 pub record AnswersPart {State : Type 0} (rule : AnswerRule State) (from to : State) (seen : List Frame) (old new : Option (List ℕ)) (before count bytes : ℕ) : Type 0 where
+  -- the frames whose texts were taken whole, the one whose text was cut, and those after it
   pub earlier : List Frame
   pub frame : Frame
   pub later : List Frame
   pub order : seen ≡ earlier ++ frame ∷ later
+  -- the state after the earlier frames, and their texts
   pub state : State
   pub texts : List (List ℕ)
   pub answers : AnswersInOrder State rule from earlier state texts
+  -- the text that was cut
   pub text : List ℕ
-  pub draws : rule state frame to (Some text)
+  pub gives : rule state frame to (Some text)
   pub counts : count ≡ before + length texts
   pub not_all : bytes < length text
   pub took : Appends old new (all_of texts ++ take bytes text)
 
 -- which of the frames `seen`, all that were read, were answered, by the result of the run: all of them, or after a failed write those up to
 -- the one whose text was cut
-abbrev pub AnswersFrames : {State : Type 0} → AnswerRule State → State → State → List Frame → Option (List ℕ) → Option (List ℕ) → Result Served ServeFault → Type 0
+abbrev pub AnswersFrames : {State : Type 0} → AnswerRule State → (from to : State) → (seen : List Frame) → (old new : Option (List ℕ)) → Result Served ServeFault → Type 0
 AnswersFrames rule from to seen old new (Ok served) = AnswersAll rule from to seen old new 0 served.replies
 AnswersFrames rule from to seen old new (Err (Read count)) = AnswersAll rule from to seen old new 0 count
 AnswersFrames rule from to seen old new (Err (Write count bytes)) = AnswersPart rule from to seen old new 0 count bytes
@@ -106,7 +109,7 @@ ports_of of_source source of_sink sink = record {
 -- last was the end. Read: one of the reads failed at the source, so fewer than `most` were answered, and none was the end. Write: the sink
 -- failed, after a read that wasn't the end. TooManyReads: all `most` reads were answered, none was the end, and no port failed. Where no
 -- read was answered, `ended` is left from an earlier run, and nothing is claimed of it. A source whose read was answered hasn't failed
-abbrev pub EndsBecause : Ports → Ports → ℕ → Result Served ServeFault → Type 0
+abbrev pub EndsBecause : (old new : Ports) → (most : ℕ) → Result Served ServeFault → Type 0
 EndsBecause old new most (Ok _) = (old.reads < new.reads) × (new.reads ≤ old.reads + most) × (new.ended ≡ true) × (new.source_failed ≡ false) × (new.sink_failed ≡ old.sink_failed)
 EndsBecause old new most (Err (Read _)) = (new.reads < old.reads + most) × (old.reads < new.reads → new.ended ≡ false) × (new.source_failed ≡ true) × (new.sink_failed ≡ old.sink_failed)
 EndsBecause old new most (Err (Write _ _)) = (old.reads < new.reads) × (new.reads ≤ old.reads + most) × (new.ended ≡ false) × (new.source_failed ≡ false) × (new.sink_failed ≡ true)
@@ -129,12 +132,18 @@ pub record HasEnded (old new : Ports) (most : ℕ) (result : Result Served Serve
       ↔ ((new.reads ≡ old.reads + most) × (old.reads < new.reads → new.ended ≡ false) × (new.source_failed ≡ false) × (new.sink_failed ≡ false))
 
 -- the frames of the bytes that the source gave, at most 256 a read, were answered, and the sink took the texts as the result says
-abbrev pub AnswersGiven : {State : Type 0} → AnswerRule State → State → State → Ports → Ports → Result Served ServeFault → Type 0
+abbrev pub AnswersGiven : {State : Type 0} → AnswerRule State → (from to : State) → (old new : Ports) → Result Served ServeFault → Type 0
 AnswersGiven rule from to old new result =
     (given : List ℕ) × Consumes old.remaining new.remaining given
     × (length given ≤ 256 * (new.reads - old.reads)) × AnswersFrames rule from to (frames given) old.taken new.taken result
 
+-- a run answered as `AnswersGiven` says, which took the answerer from the state `from` to one that it reached. Without `gathers` that is
+-- its state at the end, `to`; with `gathers` the answerer may have got later frames after it
+abbrev pub AnswersRun : {State : Type 0} → AnswerRule State → (from to : State) → (old new : Ports) → (gathers : Bool) → Result Served ServeFault → Type 0
+AnswersRun {State} rule from to old new gathers result =
+    (reached : State) × AnswersGiven rule from reached old new result × (gathers ≡ false → reached ≡ to)
+
 -- what an answerer did with the text that it was handed: it appended its answer to a frame (true), or left the text as it is (false)
-abbrev pub AppendsAnswer : (Option (List ℕ) → Type 0) → List ℕ → List ℕ → Bool → Type 0
+abbrev pub AppendsAnswer : (answered : Option (List ℕ) → Type 0) → (old new : List ℕ) → Bool → Type 0
 AppendsAnswer answered old new true = (text : List ℕ) × answered (Some text) × (new ≡ old ++ text)
 AppendsAnswer answered old new false = answered None × (new ≡ old)

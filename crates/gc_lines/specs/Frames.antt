@@ -12,7 +12,8 @@ is_line_feed b = b == 10
 abbrev pub ends_in_return : List ℕ → Bool
 ends_in_return bytes = nat_lt 0 (length bytes) && (slice_index bytes (length bytes - 1) == 13)
 
--- the frame of the bytes between two line feeds: cleared without a carriage return at their end, overlong with more than 512 bytes before it, and else a line
+-- the frame of the bytes between two line feeds: cleared without a carriage return at their end, overlong with more than 512 bytes before
+-- it, and else a line
 abbrev pub frame_of : List ℕ → Frame
 frame_of bytes =
     if ends_in_return bytes

@@ -1,4 +1,5 @@
--- What requests and replies share: a signature, a number, an id where there is one, and a colon. The forms are the manual's, the ids from 0 to 7 are this project's own.
+-- What requests and replies share: a signature, a number, an id where there is one, and a colon. The forms are the manual's, the ids from
+-- 0 to 7 are this project's own.
 use Rattle.std.specs.Prelude.{◌≡◌, ◌≢◌, ℕ, ◌+◌, ◌<◌, List, [], ◌∷◌, ◌++◌, Option, Some, None, Result, Ok, Err, IfSome}
 use Rattle.std.specs.Fmt.{decimal}
 use Rattle.gc_lines.specs.declared.fault.LineFault.{LineFault}
@@ -49,7 +50,7 @@ pub record PastColon (signature line rest : List ℕ) : Type 0 where
 
 -- the fault names the first faulty field, from the left, of a line that is to have this signature. `Body` says what may
 -- follow the colon; `Code`: what is there doesn't fit. No field is `TooLong`
-abbrev pub FirstBadField : List ℕ → (List ℕ → Type 0) → List ℕ → LineFault → Type 0
+abbrev pub FirstBadField : (signature : List ℕ) → (Body : List ℕ → Type 0) → (line : List ℕ) → LineFault → Type 0
 FirstBadField signature Body line Signature = (rest : List ℕ) → ¬ PastSignature signature line rest
 FirstBadField signature Body line Number = (from : List ℕ) × PastSignature signature line from × ((n : ℕ) (rest : List ℕ) → ¬ HasNumber from n rest)
 FirstBadField signature Body line Id = (from : List ℕ) × PastNumber signature line from × ((id : Option ℕ) (rest : List ℕ) → ¬ HasId from id rest)
@@ -61,9 +62,17 @@ FirstBadField signature Body line TooLong = ⊥
 
 -- a function's result is the one that the definition `read` has: the same fault, or a value `x` where `read` is `Ok (view x)`. `view`
 -- gives what contracts see of a value
-abbrev pub Gives : {X Y : Type 0} → (X → Y) → Result X LineFault → Result Y LineFault → Type 0
+abbrev pub Gives : {X Y : Type 0} → (view : X → Y) → Result X LineFault → (read : Result Y LineFault) → Type 0
 Gives view (Ok x) read = read ≡ Ok (view x)
 Gives view (Err e) read = read ≡ Err e
+
+-- where a line has fields by the grammar `Is`, a reader's result is these, seen by `view`
+abbrev pub GivesEach : {X F : Type 0} → (Is : List ℕ → F → Type 0) → (view : X → F) → (line : List ℕ) → Result X LineFault → Type 0
+GivesEach {X} {F} Is view line result = (fields : F) → Is line fields → Gives view result (Ok fields)
+
+-- where a line has the fault that `Bad` is true of, a reader's result is this fault
+abbrev pub FailsEach : {X : Type 0} → (Bad : List ℕ → LineFault → Type 0) → (line : List ℕ) → Result X LineFault → Type 0
+FailsEach Bad line result = (fault : LineFault) → Bad line fault → result ≡ Err fault
 
 -- The written form.
 

@@ -12,11 +12,12 @@ use Rattle.gc_lines.specs.Readers.{request_at, reply_at}
 abbrev pub OneCut : Type 0
 OneCut = (stream : List ℕ) (parts : List (List ℕ)) (rest : List ℕ) → IsCut stream parts rest ↔ ((parts ≡ pieces stream) × (rest ≡ rest_of stream))
 
--- wherever a stream is cut in two, its frames are those of the front, and then those of the front's rest with what follows it
+-- wherever a stream is cut in two, its frames are those of the front, and then those of the front's rest with what follows it; and
+-- its rest is the rest of these
 abbrev pub FramesHoweverCut : Type 0
 FramesHoweverCut = (front back : List ℕ) → (frames (front ++ back) ≡ frames front ++ frames (rest_of front ++ back)) × (rest_of (front ++ back) ≡ rest_of (rest_of front ++ back))
 
--- at most 512 bytes without CR and LF, and then CR LF, are one line of a stream
+-- a stream of at most 512 bytes without CR and LF, and then CR LF, is one line, and no rest
 abbrev pub PlainIsOneLine : Type 0
 PlainIsOneLine = (bytes : List ℕ) → IsPlain bytes → length bytes ≤ 512
     → (frames (bytes ++ 13 ∷ 10 ∷ []) ≡ Line (record { items = bytes }) ∷ []) × (rest_of (bytes ++ 13 ∷ 10 ∷ []) ≡ [])

@@ -1,7 +1,9 @@
 pub mod Ports
+pub mod Reads
 pub mod Lines
 pub mod Frames
 pub mod Assembler
+pub mod Taking
 pub mod Numbers
 pub mod Headers
 pub mod Requests

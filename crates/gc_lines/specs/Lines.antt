@@ -1,5 +1,7 @@
 -- Lines: the bytes between two terminators CR LF, which are the manual's.
-use Rattle.std.specs.Prelude.{◌≢◌, ℕ, List, [], ◌∷◌, ◌++◌, All}
+use Rattle.std.specs.Prelude.{◌≡◌, ◌≢◌, ℕ, ◌<◌, ◌≤◌, List, [], ◌∷◌, ◌++◌, length, All}
+use Rattle.gc_lines.specs.declared.fault.LineFault.{LineFault}
+use Rattle.gc_lines.specs.declared.fault.LineFault.TheVariants.{TooLong}
 
 -- the bytes hold neither CR nor LF, so that they can be inside a line
 abbrev pub IsPlain : List ℕ → Type 0
@@ -8,3 +10,11 @@ IsPlain bytes = All (λ b. (b ≢ 10) × (b ≢ 13)) bytes
 -- a line with its CR LF
 abbrev pub with_end : List ℕ → List ℕ
 with_end line = line ++ 13 ∷ 10 ∷ []
+
+-- the line is this text, of at most 512 bytes. The limit is this project's own
+abbrev pub IsLineWithText : (text line : List ℕ) → Type 0
+IsLineWithText text line = (line ≡ text) × (length text ≤ 512)
+
+-- the text would have more than 512 bytes as a line, and the fault says so
+abbrev pub IsTooLong : (text : List ℕ) → LineFault → Type 0
+IsTooLong text fault = (fault ≡ TooLong) × (512 < length text)

@@ -1,4 +1,4 @@
--- The numbers of a line: the manual's, with this project's own leave to write leading zeros within five digits.
+-- The numbers of a line: the manual's. That they may have leading zeros, within five digits, is this project's own.
 use Rattle.std.specs.Prelude.{◌≡◌, ℕ, ◌<◌, ◌≤◌, false, List, [], ◌∷◌, ◌++◌, length, slice_index}
 use Rattle.std.specs.Char.{is_ascii_digit}
 use Rattle.std.specs.Str.Parse.{digits_value, AllDigits}

@@ -1,13 +1,24 @@
--- No part of a promise: what the functions inside the answering loop say of a piece of the stream.
+-- No part of a promise: what the functions inside the answering loop say of a piece of the stream. Their parameters `from` and `to` are the
+-- answerer's states before and after the call, `old` and `new` the sessions, and `sink_old` and `sink_new` the sinks.
 use Rattle.std.specs.Prelude.{◌≡◌, ℕ, ◌+◌, ◌-◌, ◌<◌, ◌≤◌, Bool, false, List, [], ◌∷◌, ◌++◌, length, map, nat_lt, if◌then◌else◌, Option}
+use Rattle.std.specs.List.{filter_map}
+use Rattle.std.specs.Io.KnownBytes.{Appends}
 use Rattle.gc_lines.specs.Answering.{AnswerRule, AnswersInOrder, AnswersAll, AnswersPart, all_of}
-use Rattle.gc_lines.specs.Frames.{frame_of, pieces_behind}
+use Rattle.gc_lines.specs.Assembler.{StandsFor}
+use Rattle.gc_lines.specs.Frames.{frame_of, line_in, pieces_behind, rest_behind}
+use Rattle.gc_lines.specs.Ports.{TakesFront}
 use Rattle.gc_lines.specs.declared.frame.Frame.{Frame}
 use Rattle.gc_lines.specs.declared.frame.Frame.TheVariants.{Line, Cleared, Overlong, More}
+use Rattle.gc_lines.specs.declared.ports.Sink.{Ghosts as Sink}
+use Rattle.gc_lines.specs.declared.session.Session.{Session}
 
 -- the frames that a piece completes, where the bytes `rest`, which no line feed ends yet, came before it
 abbrev pub frames_behind : (rest piece : List ℕ) → List Frame
 frames_behind rest piece = map frame_of (pieces_behind rest piece)
+
+-- the lines that a piece completes, where the bytes `rest`, which no line feed ends yet, came before it
+abbrev pub lines_completed : (rest piece : List ℕ) → List (List ℕ)
+lines_completed rest piece = filter_map line_in (frames_behind rest piece)
 
 -- the frame, in a list of its own, where a line feed has ended it; the empty list where none came yet
 abbrev pub completed : Frame → List Frame
@@ -22,9 +33,9 @@ pub record Progress (State : Type 0) : Type 0 where
   pub taken : Option (List ℕ)
   pub whole : ℕ
 
--- the progress with this state, these bytes taken, and this count of whole texts
-abbrev pub progress_at : {State : Type 0} → State → (taken : Option (List ℕ)) (whole : ℕ) → Progress State
-progress_at state taken whole = record { state = state; taken = taken; whole = whole }
+-- the progress of an answerer in this state, of this sink, and of a session
+abbrev pub session_progress : {State K : Type 0} → Sink K → State → K → Session → Progress State
+session_progress of_sink state sink session = record { state = state; taken = of_sink.taken sink; whole = session.replies }
 
 -- between the progress `from` and `to` the frames `seen` were answered; the texts of the first ones, `done`, went out, and those
 -- of the others, `held`, wait in `text`, with these lengths
@@ -46,19 +57,43 @@ pub record GathersPart {State : Type 0} (rule : AnswerRule State) (from to : Pro
   pub part : AnswersPart rule from.state reached seen from.taken to.taken from.whole to.whole bytes
   pub alone : gathers ≡ false → reached ≡ to.state
 
--- one more frame was answered, which took the progress from `before` to `after`: where `Gathering` was true of the frames `seen` before
--- it, whose texts that wait were `text` and `lengths`, it is true of these frames and then `frame`, with `text'` and `lengths'`
-abbrev pub GathersFrame : {State : Type 0} → AnswerRule State → (before after : Progress State) → Frame → (text lengths text' lengths' : List ℕ) → Type 0
-GathersFrame {State} rule before after frame text lengths text' lengths' =
-    (from : Progress State) (seen : List Frame) → Gathering rule from before seen text lengths
-    → Gathering rule from after (seen ++ completed frame) text' lengths'
+-- one more frame was answered: where `Gathering` was true of the frames `seen` before it, it is true of these frames and then `frame`
+abbrev pub GathersFrame : {State K : Type 0} → AnswerRule State → Sink K → (from to : State) → (sink_old sink_new : K) → (old new : Session) → Frame → Type 0
+GathersFrame {State} {K} rule of_sink from to sink_old sink_new old new frame =
+    (start : Progress State) (seen : List Frame)
+    → Gathering rule start (session_progress of_sink from sink_old old) seen old.text.items old.lengths
+    → Gathering rule start (session_progress of_sink to sink_new new) (seen ++ completed frame) new.text.items new.lengths
 
 -- one more frame was answered, and then the sink failed within a text, of which it took the first `bytes` bytes: where `Gathering` was
 -- true of the frames `seen` before it, `GathersPart` is true of these frames and then `frame`
-abbrev pub GathersFramePart : {State : Type 0} → AnswerRule State → (before after : Progress State) → Frame → (text lengths : List ℕ) → ℕ → Bool → Type 0
-GathersFramePart {State} rule before after frame text lengths bytes gathers =
-    (from : Progress State) (seen : List Frame) → Gathering rule from before seen text lengths
-    → GathersPart rule from after (seen ++ completed frame) bytes gathers
+abbrev pub GathersFramePart : {State K : Type 0} → AnswerRule State → Sink K → (from to : State) → (sink_old sink_new : K) → (old new : Session) → Frame → (bytes : ℕ)
+    → Type 0
+GathersFramePart {State} {K} rule of_sink from to sink_old sink_new old new frame bytes =
+    (start : Progress State) (seen : List Frame)
+    → Gathering rule start (session_progress of_sink from sink_old old) seen old.text.items old.lengths
+    → GathersPart rule start (session_progress of_sink to sink_new new) (seen ++ completed frame) bytes old.gathers
+
+-- all frames that the piece completes were answered, and all of their texts went out, whatever bytes `rest` came before the piece
+abbrev pub AnswersPiece : {State K : Type 0} → AnswerRule State → Sink K → (from to : State) → (sink_old sink_new : K) → (old new : Session) → (piece : List ℕ) → Type 0
+AnswersPiece rule of_sink from to sink_old sink_new old new piece =
+    (rest : List ℕ) → StandsFor old.assembler rest
+    → StandsFor new.assembler (rest_behind rest piece)
+    × AnswersAll rule from to (frames_behind rest piece) (of_sink.taken sink_old) (of_sink.taken sink_new) old.replies new.replies
+
+-- the frames that the piece completes were answered up to one whose text the sink took only in part: its first `bytes` bytes
+abbrev pub AnswersPiecePart : {State K : Type 0} → AnswerRule State → Sink K → (from to : State) → (sink_old sink_new : K) → (old new : Session) → (piece : List ℕ)
+    → (bytes : ℕ) → Type 0
+AnswersPiecePart rule of_sink from to sink_old sink_new old new piece bytes =
+    (rest : List ℕ) → StandsFor old.assembler rest
+    → GathersPart rule (session_progress of_sink from sink_old old) (session_progress of_sink to sink_new new) (frames_behind rest piece) bytes old.gathers
+
+-- no text waits
+abbrev pub NoneWait : Session → Type 0
+NoneWait session = (session.text.items ≡ []) × (session.lengths ≡ [])
+
+-- a call changed nothing of a session but the texts that wait, their lengths, and the count of the texts that went out
+abbrev pub ChangesTextsAlone : (old new : Session) → Type 0
+ChangesTextsAlone old new = (new.assembler ≡ old.assembler) × (new.gathers ≡ old.gathers)
 
 -- there is room for one more text, which has at most 514 bytes, and for its length; and no text waits where texts aren't gathered
 pub record HasRoom (text lengths : List ℕ) (gathers : Bool) : Type 0 where
@@ -71,3 +106,14 @@ pub record HasRoom (text lengths : List ℕ) (gathers : Bool) : Type 0 where
 abbrev pub whole_and_part : (whole taken : ℕ) → List ℕ → ℕ × ℕ
 whole_and_part whole taken [] = (whole, taken)
 whole_and_part whole taken (n ∷ ns) = if nat_lt taken n then (whole, taken) else whole_and_part (whole + 1) (taken - n) ns
+
+-- all texts that waited were written, and were counted
+abbrev pub WritesWaiting : {K : Type 0} → Sink K → (sink_old sink_new : K) → (old new : Session) → Type 0
+WritesWaiting of_sink sink_old sink_new old new =
+    Appends (of_sink.taken sink_old) (of_sink.taken sink_new) old.text.items × (new.replies ≡ old.replies + length old.lengths)
+
+-- the sink failed within the texts that waited: the texts that it took whole were counted, and it took `bytes` bytes of the next
+abbrev pub WritesWaitingPart : {K : Type 0} → Sink K → (sink_old sink_new : K) → (old new : Session) → (bytes : ℕ) → Type 0
+WritesWaitingPart of_sink sink_old sink_new old new bytes =
+    (n : ℕ) × TakesFront (of_sink.taken sink_old) (of_sink.taken sink_new) n old.text.items
+    × ((new.replies, bytes) ≡ whole_and_part old.replies n old.lengths)

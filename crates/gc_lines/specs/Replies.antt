@@ -37,7 +37,7 @@ pub record IsReply (line : List ℕ) (fields : ReplyFields) : Type 0 where
 abbrev pub reply_seen : Reply → ReplyFields
 reply_seen r = record { rc_com = r.rc_com; id = r.id; rc = r.rc; params = r.params.now }
 
--- the bytes are a return code and, where any are there, the parameters after a comma
+-- the bytes are a return code and then, unless they end there, a comma and the parameters
 pub record HasCode (bytes : List ℕ) (rc : ℕ) (params : List ℕ) : Type 0 where
   pub text : List ℕ
   pub tail : List ℕ

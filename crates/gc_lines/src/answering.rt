@@ -1,9 +1,9 @@
 //! The loop over the frames of a source: it reads, hands each frame to an answerer, and writes the answers into a sink. All
 //! reading of a whole run lives here.
 
-ghost use Rattle.std.specs.Prelude.{◌≡◌, ℕ, ◌+◌, ◌≤◌, List, Option, length, false};
+ghost use Rattle.std.specs.Prelude.{ℕ, ◌+◌, ◌≤◌, List, Option, length};
 ghost use Rattle.arrayvec.specs.ArrayVec.{array_vec_len};
-ghost use Rattle.gc_lines.specs.Answering.{AnswersGiven, HasEnded, AppendsAnswer, ports_of};
+ghost use Rattle.gc_lines.specs.Answering.{AnswersRun, HasEnded, AppendsAnswer, ports_of};
 ghost use Rattle.gc_lines.specs.Lent.{lent_seen};
 
 use crate::frame::Lent;
@@ -16,7 +16,7 @@ use arrayvec::ArrayVec;
 /// How many bytes a run reads at a time at most.
 const PIECE: usize = 256;
 
-/// Texts to be sent, one after the other. Each has at most 514 bytes, its line end counted.
+/// Texts to be sent, one after the other: at most 8192 bytes in all, and at most 514 in each, its line end counted.
 pub type Outgoing = ArrayVec<u8, 8192>;
 
 /// An answerer of the frames of a stream, one after the other. It answers each with a text of at most 514 bytes, its line end
@@ -27,8 +27,8 @@ pub trait Answers {
     /// What answering may do: the state before a frame, the frame, the state after it, and the text, if there is one.
     ghost answers: { Self → Frame → Self → Option (List ℕ) → Type 0 };
 
-    /// Appends the answer to the frame, with its line end, to `text`, and returns whether there is an answer. Without one
-    /// `text` stays as it is.
+    /// Appends the answer to the frame, with its line end, to `text`, which has room for 514 bytes more, and returns whether
+    /// there is an answer. Without one `text` stays as it is.
     fn answer(&mut self, frame: Lent<'_>, text: &mut Outgoing) -> bool
         requires { array_vec_len text.old + 514 ≤ 8192 }
         ensures answered { AppendsAnswer (answers self.old (lent_seen frame.entry) self.new) text.old.items text.new.items result }
@@ -36,12 +36,13 @@ pub trait Answers {
 }
 
 /// Answers the frames of a source until its end, in at most `max_reads` reads of at most 256 bytes, and writes the texts
-/// into a sink. Without `gathers` it writes each text before it looks at the next frame. With it the texts of one read are
-/// sent together, before the next read. It allocates nothing.
+/// into a sink. Without `gathers` it writes each text before it looks at the next frame. With it the texts of one read wait and
+/// are sent together before the next read, or earlier where there is no room for one more: 8192 bytes or 256 texts can wait. It
+/// allocates nothing.
 ///
 /// Bytes without a line feed at the end of the input are no frame. Without `gathers` the answerer has got all frames that were
-/// read; after a failed write it has got none after the frame whose text was on its way. With `gathers` it may then have got
-/// later frames of the same read, too.
+/// read or, after a failed write, those up to the frame whose text the sink took only in part. With `gathers` it may then have
+/// got later frames of the same read, too.
 ///
 /// It returns [`Served`] exactly where the last read was the end. Over ports that hadn't failed before, it fails with `Read` (42)
 /// exactly where the source failed, with `Write` (43) exactly where the sink did, and with `TooManyReads` (44) exactly where all
@@ -53,10 +54,10 @@ pub fn answer_frames<A: Answers, S: Source, K: Sink>(
     max_reads: u32,
     gathers: bool,
 ) -> Result<Served, ServeFault>
-    ensures answers { (reached : A) × AnswersGiven A.answers answerer.old reached
+    ensures answers { AnswersRun A.answers answerer.old answerer.new
         (ports_of S.Source source.old K.Sink sink.old)
         (ports_of S.Source source.new K.Sink sink.new)
-        result × (gathers ≡ false → reached ≡ answerer.new) }
+        gathers result }
     ensures ended { HasEnded
         (ports_of S.Source source.old K.Sink sink.old)
         (ports_of S.Source source.new K.Sink sink.new)

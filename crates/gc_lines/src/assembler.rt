@@ -1,10 +1,11 @@
 //! Lines out of the pieces of a stream: a line ends at LF alone, wherever the stream is cut.
 
-ghost use Rattle.std.specs.Prelude.{◌≡◌, ℕ, ◌+◌, List, [], ◌++◌, ◌<◌, ◌≤◌, ◌↔◌, length, take, Some, None, IfSome, IsTrue};
+ghost use Rattle.std.specs.Prelude.{◌≡◌, ℕ, List, [], ◌++◌, ◌<◌, ◌↔◌, length, IfSome, IsTrue};
 ghost use Rattle.std.specs.List.{position};
 ghost use Rattle.gc_lines.specs.Assembler.{StandsFor};
 ghost use Rattle.gc_lines.specs.Frames.{is_line_feed, frame_of};
 ghost use Rattle.gc_lines.specs.Lent.{lent_seen, IsLineWithin};
+ghost use Rattle.gc_lines.specs.Taking.{IsUsedOf, KeepsPiece, EndsFrame};
 
 use crate::frame::{Frame, Lent};
 use crate::line::{Line, append};
@@ -65,12 +66,9 @@ impl Assembler {
     #[inline(always)]
     pub fn next<'a>(&mut self, piece: &'a [u8], cut: &'a mut Line) -> (usize, Lent<'a>)
         ensures stands { (rest : List ℕ) × StandsFor self.old rest }
-        ensures used { (result.0 ≤ length piece.now) × (0 < length piece.now → 0 < result.0) }
-        ensures more { position is_line_feed piece.now ≡ None → (result.0 ≡ length piece.now) × (lent_seen result.1 ≡ Frame.More)
-            × ((rest : List ℕ) → StandsFor self.old rest → StandsFor self.new (rest ++ piece.now)) }
-        ensures frame { (at : ℕ) → position is_line_feed piece.now ≡ Some at → (result.0 ≡ at + 1)
-            × ((rest : List ℕ) → StandsFor self.old rest → lent_seen result.1 ≡ frame_of (rest ++ take at piece.now))
-            × StandsFor self.new [] }
+        ensures used { IsUsedOf piece.now result.0 }
+        ensures more { KeepsPiece self.old self.new piece.now result.0 (lent_seen result.1) }
+        ensures frame { EndsFrame self.old self.new piece.now result.0 (lent_seen result.1) }
         ensures within { IsLineWithin result.1 }
     {
         let Some(at) = line_feed_at(piece) else {
@@ -88,12 +86,9 @@ impl Assembler {
     #[inline]
     pub fn take(&mut self, piece: &[u8]) -> (usize, Frame)
         ensures stands { (rest : List ℕ) × StandsFor self.old rest }
-        ensures used { (result.0 ≤ length piece.now) × (0 < length piece.now → 0 < result.0) }
-        ensures more { position is_line_feed piece.now ≡ None → (result.0 ≡ length piece.now) × (result.1 ≡ Frame.More)
-            × ((rest : List ℕ) → StandsFor self.old rest → StandsFor self.new (rest ++ piece.now)) }
-        ensures frame { (at : ℕ) → position is_line_feed piece.now ≡ Some at → (result.0 ≡ at + 1)
-            × ((rest : List ℕ) → StandsFor self.old rest → result.1 ≡ frame_of (rest ++ take at piece.now))
-            × StandsFor self.new [] }
+        ensures used { IsUsedOf piece.now result.0 }
+        ensures more { KeepsPiece self.old self.new piece.now result.0 result.1 }
+        ensures frame { EndsFrame self.old self.new piece.now result.0 result.1 }
     {
         let mut cut = Line::new();
         let (used, lent) = self.next(piece, &mut cut);

@@ -6,24 +6,25 @@ ghost use Rattle.gc_lines.specs.Faults.{fault_number, fault_text};
 use std::error::Error;
 use std::fmt;
 
-/// Why a line was not read or written. A reader names the first faulty field from the left.
+/// Why a line was not read or written: its first faulty field from the left, or that it is too long.
 ///
 /// The fields are those of the GeoCOM manual's chapter on the ASCII protocol; their limits and the faults' numbers are this
 /// project's own.
 #[derive(Clone, Copy, Debug, PartialEq, Eq)]
 pub enum LineFault {
-    /// 1: the line does not begin with `%R1Q,` (a request) or `%R1P,` (a reply).
+    /// 1: a line that is read as a request doesn't begin with `%R1Q,`, or one that is read as a reply not with `%R1P,`.
     Signature,
     /// 2: after the signature there is no run of one to five digits with a value of at most 65535.
     Number,
     /// 3: after the number there is a comma, and after it no run of exactly one digit from 0 to 7.
     Id,
-    /// 4: after the number and the id there is no colon.
+    /// 4: after the number, or after the id where there is one, there is no colon.
     Colon,
     /// 5: after a reply's colon there is no run of one to five digits with a value of at most 65535, or after it neither the
     /// end of the line nor a comma.
     Code,
-    /// 6: the line to be written would pass 512 bytes. No reader returns this fault.
+    /// 6: the line to be written would pass 512 bytes, or a client (`gc_client`) was handed a line of more than 512. Neither
+    /// [`read_request`](crate::read_request) nor [`read_reply`](crate::read_reply) returns this fault.
     TooLong,
 }
 

@@ -1,7 +1,7 @@
 //! A source over a reader of std. Each error of the reader, an interruption too, is a failure.
 
 ghost use Rattle.std.specs.Prelude.{◌≡◌, ◌^◌, ◌-◌, ◌<◌, false, IsErr, length};
-ghost use Rattle.gc_lines.specs.Ports.{GivesBytes, CountsRead, Fails};
+ghost use Rattle.gc_lines.specs.Reads.{SourceGivesBytes, SourceCountsRead, SourceFails};
 
 use crate::ports::{PortFailed, Source};
 use std::io::Read;
@@ -48,13 +48,9 @@ impl<R: Read> Source for FromReader<R> {
 
     fn read(&mut self, buf: &mut [u8]) -> Result<usize, PortFailed>
         requires { 0 < length buf.old }
-        ensures bytes { GivesBytes (⟦<FromReader<R> as Source>⟧.remaining self.old)
-            (⟦<FromReader<R> as Source>⟧.remaining self.new) result buf.new }
-        ensures counts { CountsRead (⟦<FromReader<R> as Source>⟧.reads self.old)
-            (⟦<FromReader<R> as Source>⟧.reads self.new) (⟦<FromReader<R> as Source>⟧.ended self.old)
-            (⟦<FromReader<R> as Source>⟧.ended self.new) result }
-        ensures fails { Fails (⟦<FromReader<R> as Source>⟧.failed self.old)
-            (⟦<FromReader<R> as Source>⟧.failed self.new) result }
+        ensures bytes { SourceGivesBytes ⟦<FromReader<R> as Source>⟧ self.old self.new result buf.new }
+        ensures counts { SourceCountsRead ⟦<FromReader<R> as Source>⟧ self.old self.new result }
+        ensures fails { SourceFails ⟦<FromReader<R> as Source>⟧ self.old self.new result }
         ensures limit { ⟦<FromReader<R> as Source>⟧.reads self.old ≡ 2 ^ 64 - 1 → IsErr result }
     {
         // Where 2^64 - 1 reads were answered, no further one can be counted: it fails.

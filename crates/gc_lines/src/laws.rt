@@ -21,7 +21,7 @@ pub fn frames_however_cut()
     ensures { FramesHoweverCut }
 {}
 
-/// At most 512 bytes without CR and LF, sent with CR LF after them, arrive as one line.
+/// A stream of at most 512 bytes without CR and LF, and then CR LF, is one line.
 pub fn plain_is_one_line()
     ensures { PlainIsOneLine }
 {}

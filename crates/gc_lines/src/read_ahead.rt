@@ -1,8 +1,9 @@
 //! A reader that reads ahead into a fixed array, so that many small reads ask the reader under it but once.
 
-ghost use Rattle.std.specs.Prelude.{◌≡◌, ◌-◌, ◌<◌, ◌≤◌, ◌++◌, [], Ok, IfOk, OnOk, OnErr, IsTrue, ◌↔◌, length, min, take};
+ghost use Rattle.std.specs.Prelude.{◌≡◌, ◌-◌, ◌≤◌, ◌++◌, [], OnOk, OnErr, IsTrue, ◌↔◌, length, min, take};
 ghost use Rattle.std.specs.Io.{ReadsAtMost};
 ghost use Rattle.std.specs.Io.KnownBytes.{ReadConsumes, Consumes, IsAtEnd, Keeps, prepend_known};
+ghost use Rattle.gc_lines.specs.Reads.{GivesHeld};
 
 use std::io::{self, Read};
 use std::marker::Model;
@@ -59,10 +60,11 @@ impl Held {
         self.start == self.end
     }
 
-    // Reads once from `reader`, and holds the bytes that came. Where the read fails, nothing is held.
+    // Where nothing is held: reads once from `reader`, and holds the bytes that came. Where the read fails, nothing is held.
     fn refill<R: Read>(&mut self, reader: &mut R) -> io::Result<()>
         requires { self.old ≡ [] }
-        ensures ok { OnOk result (Consumes (R.remaining reader.old) (R.remaining reader.new) self.new × (self.new ≡ [] → IsAtEnd (R.remaining reader.new))) }
+        ensures ok { OnOk result (Consumes (R.remaining reader.old) (R.remaining reader.new) self.new
+            × (self.new ≡ [] → IsAtEnd (R.remaining reader.new))) }
         ensures err { OnErr result (Keeps (R.remaining reader.old) (R.remaining reader.new) × (self.new ≡ [])) }
     {
         self.start = 0;
@@ -105,8 +107,7 @@ impl<R: Read> Read for ReadAhead<R> {
             (⟦<ReadAhead<R> as Read>⟧.remaining self.new) result buf.new }
 
         // While it holds bytes it returns some of them, and doesn't read from the other.
-        ensures held { 0 < length self.old.held
-            → (result ≡ Ok (min (length self.old.held) (length buf.old))) × (self.new.reader ≡ self.old.reader) }
+        ensures held { GivesHeld self.old.held self.old.reader self.new.reader buf.old result }
 
         // Where the other failed, nothing is held: all bytes before that were returned.
         ensures failed { OnErr result ((self.old.held ≡ []) × (self.new.held ≡ [])) }

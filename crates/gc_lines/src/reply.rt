@@ -1,9 +1,9 @@
 //! A reply line: `%R1P,<RC_COM>[,<TrId>]:<RC>[,<P0>,<P1>,...]`, read leniently and written in one form.
 
-ghost use Rattle.std.specs.Prelude.{◌≡◌, ◌+◌, ◌<◌, ◌≤◌, ◌++◌, [], length, Ok, Err, Some, IfOk, IfErr};
+ghost use Rattle.std.specs.Prelude.{◌≡◌, ◌+◌, ◌<◌, ◌≤◌, ◌++◌, [], Some, IfOk, IfErr};
 ghost use Rattle.std.specs.Option.{ForSome};
 ghost use Rattle.arrayvec.specs.ArrayVec.{array_vec_len};
-ghost use Rattle.gc_lines.specs.Headers.{Gives};
+ghost use Rattle.gc_lines.specs.Headers.{FailsEach, Gives, GivesEach};
 
 use crate::fault::LineFault;
 use crate::header::{header_of, push_header};
@@ -27,9 +27,9 @@ pub struct Reply<'a> {
     pub params: &'a [u8],
 }
 
-ghost use Rattle.gc_lines.specs.Replies.{ReplyFields, reply_seen, IsReply, FirstBadOfReply, reply_text};
+ghost use Rattle.gc_lines.specs.Replies.{reply_seen, IsReply, FirstBadOfReply, reply_text};
 ghost use Rattle.gc_lines.specs.Readers.{params_at, code_at, reply_at};
-ghost use Rattle.gc_lines.specs.Lines.{IsPlain};
+ghost use Rattle.gc_lines.specs.Lines.{IsPlain, IsLineWithText, IsTooLong};
 
 // The parameters after a return code: none at the end of the line, else all that follows a comma. `Code`: neither is there.
 #[inline(always)]
@@ -75,9 +75,9 @@ fn reply_of(line: &[u8]) -> Result<Reply<'_>, LineFault>
 #[inline(always)]
 pub fn read_reply(line: &[u8]) -> Result<Reply<'_>, LineFault>
     ensures found { IfOk result (λ r. IsReply line.now (reply_seen r)) }
-    ensures only { (q : ReplyFields) → IsReply line.now q → Gives reply_seen result (Ok q) }
+    ensures only { GivesEach IsReply reply_seen line.now result }
     ensures fault { IfErr result (λ f. FirstBadOfReply line.now f) }
-    ensures faulty { (f : LineFault) → FirstBadOfReply line.now f → result ≡ Err f }
+    ensures faulty { FailsEach FirstBadOfReply line.now result }
     ensures exact { Gives reply_seen result (reply_at line.now) }
 {
     reply_of(line)
@@ -113,7 +113,7 @@ pub fn push_reply<const N: usize>(to: &mut ArrayVec<u8, N>, rc_com: u16, id: u8,
     }
 }
 
-// As `push_reply`, for any return codes, and with an id or without one: field by field.
+// As `push_reply`, with an id or without one, and always field by field.
 fn push_reply_fields<const N: usize>(to: &mut ArrayVec<u8, N>, rc_com: u16, id: Option<u8>, rc: u16)
     requires id { ForSome id (λ i. i < 8) }
     requires room { array_vec_len to.old + 18 ≤ N }
@@ -135,15 +135,14 @@ fn begin_reply(rc_com: u16, id: Option<u8>, rc: u16) -> Line
     line
 }
 
-/// Writes a reply line, without its CR LF. It fails with [`LineFault::TooLong`] exactly where the line would have more than 512
-/// bytes.
+/// Writes a reply line, without its CR LF. A comma follows the return code only where there are parameters. It fails with
+/// [`LineFault::TooLong`] exactly where the line would have more than 512 bytes.
 #[inline]
 pub fn write_reply(r: &Reply<'_>) -> Result<Line, LineFault>
     requires id { ForSome r.now.id (λ i. i < 8) }
     requires plain { IsPlain r.now.params.now }
-    ensures ok { IfOk result (λ line. (line.items ≡ reply_text (reply_seen r.now))
-        × (length (reply_text (reply_seen r.now)) ≤ 512)) }
-    ensures err { IfErr result (λ f. (f ≡ LineFault.TooLong) × (512 < length (reply_text (reply_seen r.now)))) }
+    ensures ok { IfOk result (λ line. IsLineWithText (reply_text (reply_seen r.now)) line.items) }
+    ensures err { IfErr result (λ f. IsTooLong (reply_text (reply_seen r.now)) f) }
 {
     let mut line = begin_reply(r.rc_com, r.id, r.rc);
     if r.params.is_empty() {

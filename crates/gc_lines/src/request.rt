@@ -1,10 +1,10 @@
 //! A request line: `%R1Q,<RPC>[,<TrId>]:[<P0>][,<P1>,...]`, read leniently and written in one form.
 
-ghost use Rattle.std.specs.Prelude.{◌≡◌, ◌+◌, ◌<◌, ◌≤◌, ◌++◌, [], length, Ok, Err, IfOk, IfErr};
+ghost use Rattle.std.specs.Prelude.{◌≡◌, ◌+◌, ◌<◌, ◌≤◌, ◌++◌, [], IfOk, IfErr};
 ghost use Rattle.std.specs.Option.{ForSome};
 ghost use Rattle.arrayvec.specs.ArrayVec.{array_vec_len};
-ghost use Rattle.gc_lines.specs.Lines.{IsPlain};
-ghost use Rattle.gc_lines.specs.Headers.{Gives};
+ghost use Rattle.gc_lines.specs.Lines.{IsPlain, IsLineWithText, IsTooLong};
+ghost use Rattle.gc_lines.specs.Headers.{FailsEach, Gives, GivesEach};
 
 use crate::fault::LineFault;
 use crate::header::{header_of, push_header};
@@ -25,7 +25,7 @@ pub struct Request<'a> {
     pub params: &'a [u8],
 }
 
-ghost use Rattle.gc_lines.specs.Requests.{RequestFields, request_seen, IsRequest, FirstBadOfRequest, request_text};
+ghost use Rattle.gc_lines.specs.Requests.{request_seen, IsRequest, FirstBadOfRequest, request_text};
 ghost use Rattle.gc_lines.specs.Readers.{request_at};
 
 // As `read_request`. Its contract says only that the result is that of `request_at`; the contract of `read_request`, which says
@@ -48,9 +48,9 @@ fn request_of(line: &[u8]) -> Result<Request<'_>, LineFault>
 #[inline(always)]
 pub fn read_request(line: &[u8]) -> Result<Request<'_>, LineFault>
     ensures found { IfOk result (λ r. IsRequest line.now (request_seen r)) }
-    ensures only { (q : RequestFields) → IsRequest line.now q → Gives request_seen result (Ok q) }
+    ensures only { GivesEach IsRequest request_seen line.now result }
     ensures fault { IfErr result (λ f. FirstBadOfRequest line.now f) }
-    ensures faulty { (f : LineFault) → FirstBadOfRequest line.now f → result ≡ Err f }
+    ensures faulty { FailsEach FirstBadOfRequest line.now result }
     ensures exact { Gives request_seen result (request_at line.now) }
 {
     request_of(line)
@@ -84,9 +84,8 @@ pub fn begin_request(rpc: u16, id: Option<u8>) -> Line
 pub fn write_request(r: &Request<'_>) -> Result<Line, LineFault>
     requires id { ForSome r.now.id (λ i. i < 8) }
     requires plain { IsPlain r.now.params.now }
-    ensures ok { IfOk result (λ line. (line.items ≡ request_text (request_seen r.now))
-        × (length (request_text (request_seen r.now)) ≤ 512)) }
-    ensures err { IfErr result (λ f. (f ≡ LineFault.TooLong) × (512 < length (request_text (request_seen r.now)))) }
+    ensures ok { IfOk result (λ line. IsLineWithText (request_text (request_seen r.now)) line.items) }
+    ensures err { IfErr result (λ f. IsTooLong (request_text (request_seen r.now)) f) }
 {
     let mut line = begin_request(r.rpc, r.id);
     if r.params.len() > line.remaining_capacity() {

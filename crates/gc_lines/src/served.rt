@@ -12,7 +12,7 @@ pub const READ_FAILED: u8 = 42;
 /// The fault number of a write that failed.
 pub const WRITE_FAILED: u8 = 43;
 
-/// The fault number of a run that made all the reads that it was allowed.
+/// The fault number of a run that made all the reads that it was allowed ([`ServeFault::TooManyReads`]): none of them was the end.
 pub const READS_SPENT: u8 = 44;
 
 /// The input was answered to its end.

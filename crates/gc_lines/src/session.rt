@@ -1,14 +1,12 @@
 //! What the answering loop keeps from one read to the next, and how texts are sent: each at once, or gathered. All writing
 //! of a whole run lives here.
 
-ghost use Rattle.std.specs.Prelude.{◌≡◌, ℕ, ◌+◌, ◌<◌, ◌≤◌, ◌^◌, [], ◌∷◌, List, Option, length, IfErr, OnOk, true, false};
-ghost use Rattle.std.specs.Io.KnownBytes.{Appends};
-ghost use Rattle.gc_lines.specs.Answering.{AnswersAll};
+ghost use Rattle.std.specs.Prelude.{◌≡◌, ◌+◌, ◌<◌, ◌≤◌, ◌^◌, [], length, IfErr, OnOk, true};
 ghost use Rattle.gc_lines.specs.Assembler.{StandsFor};
-ghost use Rattle.gc_lines.specs.Frames.{rest_behind};
 ghost use Rattle.gc_lines.specs.Lent.{lent_seen};
-ghost use Rattle.gc_lines.specs.Passing.{frames_behind, GathersFrame, GathersFramePart, GathersPart, HasRoom, progress_at, whole_and_part};
-ghost use Rattle.gc_lines.specs.Ports.{FailsWith, TakesFront};
+ghost use Rattle.gc_lines.specs.Passing.{AnswersPiece, AnswersPiecePart, GathersFrame, GathersFramePart, WritesWaiting, WritesWaitingPart};
+ghost use Rattle.gc_lines.specs.Passing.{ChangesTextsAlone, HasRoom, NoneWait, whole_and_part};
+ghost use Rattle.gc_lines.specs.Ports.{FailsWith};
 
 use crate::answering::{Answers, Outgoing};
 use crate::assembler::Assembler;
@@ -36,7 +34,7 @@ impl Session {
     pub(crate) fn new(gathers: bool) -> Session
         ensures assembler { StandsFor result.assembler [] }
         ensures gathers { result.gathers ≡ gathers }
-        ensures nothing { (result.text.items ≡ []) × (result.lengths ≡ []) }
+        ensures nothing { NoneWait result }
         ensures replies { result.replies ≡ 0 }
     {
         Session {
@@ -58,19 +56,15 @@ impl Session {
         cut: &mut Line,
     ) -> Result<(), usize>
         requires count { self.old.replies + length piece.now < 2 ^ 64 }
-        requires nothing { (self.old.text.items ≡ []) × (self.old.lengths ≡ []) }
+        requires nothing { NoneWait self.old }
         ensures bound { self.new.replies ≤ self.old.replies + length piece.now }
         ensures gathers { self.new.gathers ≡ self.old.gathers }
-        ensures nothing { OnOk result ((self.new.text.items ≡ []) × (self.new.lengths ≡ [])) }
+        ensures nothing { OnOk result (NoneWait self.new) }
         ensures failed { FailsWith result (K.failed sink.old) (K.failed sink.new) }
-        ensures ok { OnOk result ((rest : List ℕ) → StandsFor self.old.assembler rest
-            → StandsFor self.new.assembler (rest_behind rest piece.now)
-            × AnswersAll A.answers answerer.old answerer.new (frames_behind rest piece.now)
-            (K.taken sink.old) (K.taken sink.new) self.old.replies self.new.replies) }
-        ensures err { IfErr result (λ bytes. (rest : List ℕ) → StandsFor self.old.assembler rest
-            → GathersPart A.answers (progress_at answerer.old (K.taken sink.old) self.old.replies)
-            (progress_at answerer.new (K.taken sink.new) self.new.replies)
-            (frames_behind rest piece.now) bytes self.old.gathers) }
+        ensures ok { OnOk result (AnswersPiece A.answers K.Sink answerer.old answerer.new sink.old sink.new
+            self.old self.new piece.now) }
+        ensures err { IfErr result (λ bytes. AnswersPiecePart A.answers K.Sink answerer.old answerer.new sink.old sink.new
+            self.old self.new piece.now bytes) }
     {
         let mut left = piece;
         while !left.is_empty() {
@@ -86,9 +80,9 @@ impl Session {
         Ok(())
     }
 
-    // Answers a frame, unless it is `More`, and adds the answer to the texts that wait. It then writes all of them, unless
-    // texts are gathered and there is room for one more. `Err(bytes)`: the sink failed, and took only the first `bytes` bytes
-    // of a text.
+    // Answers a frame, unless it is `More`. An answer is added to the texts that wait, and then all of them are written, unless
+    // texts are gathered and there is room for one more; without an answer nothing is written. `Err(bytes)`: the sink failed,
+    // and took only the first `bytes` bytes of a text.
     fn answer_frame<A: Answers, K: Sink>(
         &mut self,
         answerer: &mut A,
@@ -100,14 +94,12 @@ impl Session {
         ensures few { self.new.replies ≤ self.old.replies + length self.old.lengths + 1 }
         ensures bound { OnOk result (self.new.replies + length self.new.lengths ≤ self.old.replies + length self.old.lengths + 1) }
         ensures room { OnOk result (HasRoom self.new.text.items self.new.lengths self.new.gathers) }
-        ensures same { (self.new.assembler ≡ self.old.assembler) × (self.new.gathers ≡ self.old.gathers) }
+        ensures same { ChangesTextsAlone self.old self.new }
         ensures failed { FailsWith result (K.failed sink.old) (K.failed sink.new) }
-        ensures ok { OnOk result (GathersFrame A.answers (progress_at answerer.old (K.taken sink.old) self.old.replies)
-            (progress_at answerer.new (K.taken sink.new) self.new.replies) (lent_seen frame.entry)
-            self.old.text.items self.old.lengths self.new.text.items self.new.lengths) }
-        ensures err { IfErr result (λ bytes. GathersFramePart A.answers (progress_at answerer.old (K.taken sink.old) self.old.replies)
-            (progress_at answerer.new (K.taken sink.new) self.new.replies) (lent_seen frame.entry)
-            self.old.text.items self.old.lengths bytes self.old.gathers) }
+        ensures ok { OnOk result (GathersFrame A.answers K.Sink answerer.old answerer.new sink.old sink.new
+            self.old self.new (lent_seen frame.entry)) }
+        ensures err { IfErr result (λ bytes. GathersFramePart A.answers K.Sink answerer.old answerer.new sink.old sink.new
+            self.old self.new (lent_seen frame.entry) bytes) }
     {
         if let Lent::More = frame {
             return Ok(());
@@ -141,13 +133,11 @@ impl Session {
     fn write_texts<K: Sink>(&mut self, sink: &mut K) -> Result<(), usize>
         requires { self.old.replies + length self.old.lengths < 2 ^ 64 }
         ensures bound { self.new.replies ≤ self.old.replies + length self.old.lengths }
-        ensures same { (self.new.assembler ≡ self.old.assembler) × (self.new.gathers ≡ self.old.gathers) }
+        ensures same { ChangesTextsAlone self.old self.new }
         ensures failed { FailsWith result (K.failed sink.old) (K.failed sink.new) }
-        ensures nothing { OnOk result ((self.new.text.items ≡ []) × (self.new.lengths ≡ [])) }
-        ensures ok { OnOk result (Appends (K.taken sink.old) (K.taken sink.new) self.old.text.items
-            × (self.new.replies ≡ self.old.replies + length self.old.lengths)) }
-        ensures err { IfErr result (λ bytes. (n : ℕ) × TakesFront (K.taken sink.old) (K.taken sink.new) n self.old.text.items
-            × ((self.new.replies, bytes) ≡ whole_and_part self.old.replies n self.old.lengths)) }
+        ensures nothing { OnOk result (NoneWait self.new) }
+        ensures ok { OnOk result (WritesWaiting K.Sink sink.old sink.new self.old self.new) }
+        ensures err { IfErr result (λ bytes. WritesWaitingPart K.Sink sink.old sink.new self.old self.new bytes) }
     {
         match write_whole(sink, self.text.as_slice()) {
             Ok(()) => {
@@ -166,7 +156,7 @@ impl Session {
     fn count_part(&mut self, taken: usize) -> usize
         requires { self.old.replies + length self.old.lengths < 2 ^ 64 }
         ensures bound { self.new.replies ≤ self.old.replies + length self.old.lengths }
-        ensures same { (self.new.assembler ≡ self.old.assembler) × (self.new.gathers ≡ self.old.gathers) }
+        ensures same { ChangesTextsAlone self.old self.new }
         ensures parts { (self.new.replies, result) ≡ whole_and_part self.old.replies taken self.old.lengths }
     {
         let (replies, bytes) = whole_and_part(self.replies, taken, self.lengths.as_slice());

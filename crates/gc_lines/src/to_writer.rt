@@ -7,7 +7,7 @@ use std::io::Write;
 
 /// A sink that writes to a writer of std.
 ///
-/// It fails at the first error of the writer, and where the writer takes none of the bytes.
+/// It fails at the first error of the writer, or where the writer takes none of the bytes, and at each later call.
 #[derive(Drop)]
 pub struct ToWriter<W> {
     writer: W,
@@ -55,7 +55,7 @@ impl<W: Write> Sink for ToWriter<W> {
     }
 }
 
-// Nothing that a writer of std took is meant to outlast a crash, so `sync` has nothing to do.
+// Nothing that a writer of std took is meant to outlast a crash, so `sync` has nothing to do. It fails where a write has failed.
 impl<W: Write> Durable for ToWriter<W> {
     ghost is_durable = { λ _. true };
 

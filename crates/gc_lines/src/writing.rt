@@ -9,7 +9,8 @@ use crate::line::{Line, append};
 use crate::ports::Sink;
 use arrayvec::ArrayVec;
 
-/// Writes all of the bytes. `Err(n)`: the sink took only the first n of them, and failed.
+/// Writes all of the bytes. `Err(n)`: the sink took only the first n of them, and failed. Without bytes it succeeds and doesn't
+/// call the sink, also where the sink has failed before.
 pub fn write_whole<K: Sink>(sink: &mut K, bytes: &[u8]) -> Result<(), usize>
     ensures failed { FailsWith result (K.failed sink.old) (K.failed sink.new) }
     ensures ok { OnOk result (Appends (K.taken sink.old) (K.taken sink.new) bytes.now) }

@@ -8,7 +8,7 @@ use Rattle.gc_links.specs.declared.link.Moment.{Moment}
 pub data Act : Type 0 where
   -- the clock was read
   Told : (moment : Moment) → Act
-  -- the clock couldn't be read, alone or after a read
+  -- the clock couldn't be read, alone or in a read
   Untold : Act
   -- these bytes went out whole
   Put : (bytes : List ℕ) → Act

@@ -4,8 +4,8 @@ use Rattle.std.specs.Coded.{Coded, code_by, coded×, coded_ℕ, coded_bool, code
 use Rattle.gc_links.specs.declared.link.Moment.{Moment}
 use Rattle.gc_links.specs.Acts.{Act, Told, Untold, Put, Cut, Gave, Silent, Ended, Broke, Closed, Opened, Unopened}
 
--- the parts of an act: a number for its kind, its bytes, its count, and its moment on both clocks, with whether the end of the run was asked
--- for by then
+-- the parts of an act: a number for its kind, its bytes, its count, and its moment on both clocks, with whether the end of the run was
+-- asked for by then
 abbrev Parts : Type 0
 Parts = ℕ × (List ℕ × (ℕ × (ℕ × (ℕ × Bool))))
 

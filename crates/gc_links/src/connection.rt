@@ -4,8 +4,9 @@ use std::io::{self, ErrorKind};
 use std::net::{Net, SocketAddr, TcpListener, TcpStream, ToSocketAddrs};
 use std::time::Duration;
 
-/// How long the making of a connection, or one write, may wait for the other end, in milliseconds. A radio modem takes a
-/// request line in less than a second. Over TCP a put that needs more than one write may wait this long for each.
+/// How long the making of a connection (at each address of a name), or one write, may wait for the other end, in milliseconds. A radio
+/// modem takes a request line in less than a second. Over TCP a put of a link that needs more than one write may wait this long for
+/// each. A write of a `Wire` over TCP has no such bound.
 pub(crate) const PATIENCE: u64 = 10_000;
 
 /// The other end of a connection over TCP.
@@ -41,7 +42,7 @@ pub(crate) fn connect<R: Net<Listener = TcpListener, Stream = TcpStream>>(
     }
 }
 
-// Connects to one address. A connection to itself is refused.
+// Connects to one address, and waits for it no longer than `patience`. A connection to itself is refused.
 fn connect_to<R: Net<Listener = TcpListener, Stream = TcpStream>>(
     rt: &R,
     address: &SocketAddr,
@@ -55,7 +56,7 @@ fn connect_to<R: Net<Listener = TcpListener, Stream = TcpStream>>(
     Ok(stream)
 }
 
-// Whether a connection is one to itself: both of its ends have one address.
+// Whether a connection is one to itself: both of its ends have one address. `false` where the system doesn't say them.
 fn is_to_itself(stream: &TcpStream) -> bool {
     match (stream.local_addr(), stream.peer_addr()) {
         (Ok(near), Ok(far)) => near == far,

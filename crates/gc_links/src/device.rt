@@ -74,8 +74,8 @@ fn set_nonblocking(file: &File) -> io::Result<()> {
     other.set_nonblocking(true)
 }
 
-/// Whether an error of a read or a write says only that nothing has come, or nothing can go, yet: the call is to be made again
-/// after a rest.
+/// Whether an error of a read or a write says only that nothing has come, or nothing can go, yet, or that the call was interrupted:
+/// it is to be made again after a rest.
 pub(crate) fn is_not_ready(kind: ErrorKind) -> bool {
     matches!(kind, ErrorKind::WouldBlock | ErrorKind::Interrupted)
 }
@@ -87,7 +87,7 @@ pub(crate) fn rest<R: Clock>(rt: &R) {
 
 /// Writes a front of these bytes, as many as a device takes at once, rests until it takes some, and returns how many it took.
 /// `rests` counts the rests of the writes before this one, too. Where all of them together last [`PATIENCE`], it fails with
-/// `TimedOut`.
+/// `TimedOut`; any other error of a write is returned at once.
 pub(crate) fn write_some<R: Clock>(
     rt: &R,
     file: &File,
@@ -165,8 +165,9 @@ impl<'a, R: Files<File = File> + Clock> DeviceLink<'a, R> {
         }
     }
 
-    // Reads until bytes came, the device ended or failed, or `millis` milliseconds have gone by since the moment `began`. The
-    // moment of a silence is taken before the last read. That read gave nothing, so nothing had come by that moment.
+    // Reads until bytes came, the device ended or failed, the clock couldn't be read, or `millis` milliseconds have gone by since the
+    // moment `began`, in milliseconds since the link was made. The moment of a silence is taken before the last read. That read gave
+    // nothing, so nothing had come by that moment.
     fn read_until(&mut self, buf: &mut [u8], began: u64, millis: u64) -> Came
         ensures { IsWithin result buf.new }
     {

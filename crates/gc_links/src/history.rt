@@ -23,7 +23,7 @@ impl Model for History {
 pub enum Note<'a> {
     /// The clock was read, and it was this moment.
     Told(Moment),
-    /// The clock couldn't be read, alone or after a read.
+    /// The clock couldn't be read, alone or in a read.
     Untold,
     /// All of these bytes went out.
     Put(&'a [u8]),

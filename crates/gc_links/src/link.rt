@@ -16,7 +16,7 @@ pub struct Moment {
     pub stops: bool,
 }
 
-/// The result of a read of a link, with the moment after it.
+/// The result of a read of a link. With bytes comes the moment after the read, and with silence a moment by which none had come.
 #[derive(Clone, Copy, Debug, PartialEq, Eq)]
 pub enum Came {
     /// This many bytes came.
@@ -27,7 +27,7 @@ pub enum Came {
     End,
     /// The connection failed.
     Failure,
-    /// The clock couldn't be read after the read. What came, if anything did, is not known.
+    /// The clock couldn't be read, before or after the read. What came, if anything did, is not known.
     NoMoment,
 }
 
@@ -41,11 +41,12 @@ pub trait Link {
     /// The acts of its calls so far, if they are known.
     ghost acts: { Self → Option (List Act) };
 
-    /// Reads the clock.
+    /// Reads the clock. `Err`: it couldn't be read.
     fn now(&mut self) -> Result<Moment, PortFailed>
         ensures { Tells (acts self.old) (acts self.new) (clock_act result ∷ []) };
 
-    /// Reads some bytes into the front of `buf`, and waits for them no longer than `millis` milliseconds.
+    /// Reads some bytes into the front of `buf`, which is not empty, and waits for them about `millis` milliseconds at most. It may
+    /// end earlier, with `Silence`.
     ///
     /// Without a connection it waits that long, and returns `Silence`.
     fn read(&mut self, buf: &mut [u8], millis: u64) -> Came
@@ -53,8 +54,8 @@ pub trait Link {
         ensures tells { Tells (acts self.old) (acts self.new) (read_act result buf.new ∷ []) }
         ensures within { IsWithin result buf.new };
 
-    /// Writes all of these bytes. `Err(n)`: only the first n of them went out, and the connection failed. A write that stalls
-    /// is cut off.
+    /// Writes all of these bytes, at least one. `Err(n)`: only the first n of them went out, and the connection failed, or there is
+    /// none, and n is 0. A write that stalls is cut off.
     fn put(&mut self, bytes: &[u8]) -> Result<(), usize>
         requires { 0 < length bytes.now }
         ensures tells { Tells (acts self.old) (acts self.new) (put_act result bytes.now ∷ []) }

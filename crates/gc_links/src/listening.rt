@@ -6,7 +6,7 @@ use std::io::{self, ErrorKind};
 use std::net::{Net, TcpListener, TcpStream, ToSocketAddrs};
 use std::time::Duration;
 
-/// Listens at a port of 127.0.0.1. Port 0 stands for any free one.
+/// Listens at a port of 127.0.0.1. Port 0 stands for any free one. It fails where the port can't be listened at.
 pub fn listen<R: Net<Listener = TcpListener, Stream = TcpStream>>(
     rt: &R,
     port: u16,
@@ -30,14 +30,14 @@ pub fn listen_at<R: Net<Listener = TcpListener, Stream = TcpStream>>(
     ended
 }
 
-/// Waits for the next connection, and has it send each line as it is written.
+/// Waits for the next connection, and has it send each line as it is written. It fails where the system can't accept one.
 pub fn accept(listener: &TcpListener) -> io::Result<TcpStream> {
     let (stream, _) = listener.accept()?;
     send_at_once(&stream);
     Ok(stream)
 }
 
-/// Connects to a port of 127.0.0.1.
+/// Connects to a port of 127.0.0.1. It fails where no connection is made within ten seconds.
 pub fn connect_here<R: Net<Listener = TcpListener, Stream = TcpStream>>(
     rt: &R,
     port: u16,
@@ -45,7 +45,8 @@ pub fn connect_here<R: Net<Listener = TcpListener, Stream = TcpStream>>(
     connect(rt, Peer::Port(port), Duration::from_millis(PATIENCE))
 }
 
-/// Both ends of one connection of this machine to itself: the one that connected, and the one that was accepted.
+/// Both ends of one connection of this machine to itself: the one that connected, and the one that was accepted. It
+/// fails where a call of the system does.
 pub fn both_ends<R: Net<Listener = TcpListener, Stream = TcpStream>>(
     rt: &R,
 ) -> io::Result<(TcpStream, TcpStream)> {

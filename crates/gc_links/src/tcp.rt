@@ -95,7 +95,7 @@ impl<'a, R: Net<Listener = TcpListener, Stream = TcpStream> + Clock> TcpLink<'a,
 // The timeout in milliseconds for a read that is to end within `millis` milliseconds. The system may end a wait too late: one of
 // more than a quarter of a second by an eighth of it, and a shorter one by two of the system's ticks. The caller repeats a read
 // that ended early.
-fn in_time(millis: u64) -> u64
+fn timeout_within(millis: u64) -> u64
     ensures { result ≤ millis }
 {
     millis.saturating_sub((millis / 8).max(20))
@@ -106,7 +106,7 @@ fn is_interrupted(error: &io::Error) -> bool {
     error.kind() == ErrorKind::Interrupted
 }
 
-/// Whether an error of a read says only that nothing came in its time.
+/// Whether an error of a read says only that nothing came in its time, or that the read was interrupted.
 pub(crate) fn is_silence(kind: ErrorKind) -> bool {
     matches!(
         kind,
@@ -131,7 +131,7 @@ impl<'a, R: Net<Listener = TcpListener, Stream = TcpStream> + Clock> Link for Tc
             self.timer.rest(1);
             return self.read_briefly(buf);
         }
-        match self.read_for(buf, in_time(millis)) {
+        match self.read_for(buf, timeout_within(millis)) {
             Ok(Some(n)) => self.timer.came(n),
             Ok(None) => self.read_briefly(buf),
             Err(_) => Came::Failure,

@@ -19,7 +19,7 @@ pub struct Telling<L> {
 }
 
 impl<L: Link> Telling<L> {
-    /// A link of which no call was made yet.
+    /// A link over `link`, of whose calls none is noted yet.
     pub fn new(link: L) -> Telling<L>
         ensures { result.history.acts ≡ [] }
     {

@@ -52,7 +52,7 @@ pub fn wire_on<'a, R: Files<File = File>>(
 
 impl<'a, R: Clock> Wire<'a, R> {
     /// Reads as `read` does, but waits no longer than about `millis` milliseconds, where 0 counts as 1. `None`: nothing came in that
-    /// time.
+    /// time, or a read over TCP was interrupted.
     pub fn read_within(&self, buf: &mut [u8], millis: u64) -> io::Result<Option<usize>>
         ensures { IfOk result (λ read. IfSome read (λ n. n ≤ length buf.new)) }
     {
@@ -73,7 +73,9 @@ impl<'a, R: Clock> Read for &Wire<'a, R> {
     }
 }
 
-// A write waits until the other end takes something. Each is sent at once, so there is nothing to flush.
+// A write over TCP waits until the other end takes something. One over a device waits about ten seconds at most, and then fails with
+// `TimedOut`.
+// Each is sent at once, so there is nothing to flush.
 impl<'a, R: Clock> Write for &Wire<'a, R> {
     fn write(&mut self, buf: &[u8]) -> io::Result<usize> {
         match *self {
@@ -103,8 +105,9 @@ fn write_to(stream: &TcpStream, buf: &[u8]) -> io::Result<usize>
     stream.write(buf)
 }
 
-/// Reads what comes over a connection within `millis` milliseconds, where 0 counts as 1. `None`: nothing came in that time. The
-/// reads after this one may each wait as long as `longest` says, and for ever where that is `None`.
+/// Reads what comes over a connection within `millis` milliseconds, where 0 counts as 1, and returns how many bytes came, 0 at the end
+/// of the stream. `None`: nothing came in that time, or the read was interrupted. The reads after this one may each wait as long as
+/// `longest` says, and for ever where that is `None`.
 pub fn read_stream_within(
     stream: &TcpStream,
     buf: &mut [u8],
@@ -150,14 +153,10 @@ fn read_device_within<R: Clock>(
 fn read_device<R: Clock>(rt: &R, file: &File, buf: &mut [u8]) -> io::Result<usize>
     ensures { IfOk result (λ n. n ≤ length buf.new) }
 {
-    let mut file = file;
-    for _ in 0..u64::MAX {
-        match file.read(buf) {
-            Err(error) if is_not_ready(error.kind()) => rest(rt),
-            Err(error) if error.raw_os_error() == Some(PULLED_OUT) => return Ok(0),
-            ended => return ended,
-        }
+    match read_device_within(rt, file, buf, u64::MAX) {
+        Ok(Some(n)) => Ok(n),
+        // Never in practice: 2^63 reads that gave nothing.
+        Ok(None) => Err(io::Error::from(ErrorKind::TimedOut)),
+        Err(error) => Err(error),
     }
-    // Never in practice: 2^64 reads that gave nothing.
-    Err(io::Error::from(ErrorKind::TimedOut))
 }

@@ -10,11 +10,11 @@ use Rattle.gc_lines.specs.Frames.{ends_in_return}
 use Rattle.gc_texts.specs.Logs.{log_line}
 use Rattle.gc_logs.specs.Logging.{Entry, entry, nothing, pending, line_mark, part_mark, entry_of_line, entries_at, pending_at, entries, pending_behind, log_text_of, Takes, wire_of, wire, LogKeepsAll}
 use Rattle.gc_logs.specs.declared.logging.Unwritten.{Unwritten}
-use Rattle.gc_logs.specs.declared.logging.Way.{Way}
-use Rattle.gc_logs.specs.declared.logging.Way.TheVariants.{Went, Came}
+use Rattle.gc_logs.specs.declared.logging.Direction.{Direction}
+use Rattle.gc_logs.specs.declared.logging.Direction.TheVariants.{Went, Came}
 
 -- the lines that the bytes `bs` and then b give are those that `bs` give, and after them those that b gives
-entries_more : (way : Way) (p : Unwritten) (bs : List ℕ) (b : ℕ) → entries way p (bs ++ b ∷ []) ≡ entries way p bs ++ entries_at way (pending_behind p bs) b
+entries_more : (way : Direction) (p : Unwritten) (bs : List ℕ) (b : ℕ) → entries way p (bs ++ b ∷ []) ≡ entries way p bs ++ entries_at way (pending_behind p bs) b
 entries_more way p [] b = append-nil (entries_at way p b)
 entries_more way p (c ∷ cs) b = ap (λ es. entries_at way p c ++ es) (entries_more way (pending_at p c) cs b)
     ∙ sym (append_assoc (entries_at way p c) (entries way (pending_at p c) cs) (entries_at way (pending_behind (pending_at p c) cs) b))
@@ -40,7 +40,7 @@ takes_is : (a b : Option (List ℕ)) (fa fb : Bool) (xs ys : List ℕ) → xs �
 takes_is a b fa fb xs ys e h = subst (Takes a b fa fb) e h
 
 -- one turn of the loop over the bytes `bs`, at byte i: `p` is pending before the loop, `q` before this byte, and `r` after it
-module _ (a b c : Option (List ℕ)) (fa fb fc : Bool) (utc : ℕ) (way : Way) (p q r : Unwritten) (bs : List ℕ) (i : ℕ) (within : i < length bs) where
+module _ (a b c : Option (List ℕ)) (fa fb fc : Bool) (utc : ℕ) (way : Direction) (p q r : Unwritten) (bs : List ℕ) (i : ℕ) (within : i < length bs) where
   -- the first i + 1 bytes are the first i and byte i
   more : take (i + 1) bs ≡ take i bs ++ get_or bs i 0 ∷ []
   more = take_more bs i 0 within
@@ -69,17 +69,17 @@ last_return bytes e =
     ∙ ap (λ b. take (length bytes - 1) bytes ++ b ∷ []) last
 
 -- a line with its CR LF stands for its bytes and CR LF
-whole_wire : (way : Way) (bytes : List ℕ) → wire (entry (line_mark way) bytes ∷ []) ≡ bytes ++ 13 ∷ 10 ∷ []
+whole_wire : (way : Direction) (bytes : List ℕ) → wire (entry (line_mark way) bytes ∷ []) ≡ bytes ++ 13 ∷ 10 ∷ []
 whole_wire Went bytes = append-nil (bytes ++ 13 ∷ 10 ∷ [])
 whole_wire Came bytes = append-nil (bytes ++ 13 ∷ 10 ∷ [])
 
 -- a part stands for its bytes
-part_wire : (way : Way) (bytes : List ℕ) → wire (entry (part_mark way) bytes ∷ []) ≡ bytes
+part_wire : (way : Direction) (bytes : List ℕ) → wire (entry (part_mark way) bytes ∷ []) ≡ bytes
 part_wire Went bytes = append-nil bytes
 part_wire Came bytes = append-nil bytes
 
 -- what a line feed ends stands for the pending bytes and the line feed
-line_wire : (way : Way) (p : Unwritten) → wire (entry_of_line way p ∷ []) ≡ p.bytes.items ++ 10 ∷ []
+line_wire : (way : Direction) (p : Unwritten) → wire (entry_of_line way p ∷ []) ≡ p.bytes.items ++ 10 ∷ []
 line_wire way p =
     cond_both (not p.is_long && ends_in_return p.bytes.items) (entry (line_mark way) (take (length p.bytes.items - 1) p.bytes.items)) (entry (part_mark way) (p.bytes.items ++ 10 ∷ []))
     (λ e. wire (e ∷ []) ≡ p.bytes.items ++ 10 ∷ [])
@@ -91,26 +91,26 @@ line_wire way p =
 
 -- of a byte that is no line feed: the lines that it gives, and what is pending then, stand for what was pending and the byte,
 -- whether there was room for it (`short`), or what was pending became a part
-in_line : (way : Way) (p : Unwritten) (b : ℕ) (short : Bool) → wire (cond short [] (entry (part_mark way) p.bytes.items ∷ [])) ++
+in_line : (way : Direction) (p : Unwritten) (b : ℕ) (short : Bool) → wire (cond short [] (entry (part_mark way) p.bytes.items ∷ [])) ++
     (cond short (pending (p.bytes.items ++ b ∷ []) p.is_long) (pending (b ∷ []) true)).bytes.items ≡ p.bytes.items ++ b ∷ []
 in_line way p b true = refl
 in_line way p b false = ap (λ w. w ++ b ∷ []) (part_wire way p.bytes.items)
 
 -- of any byte, by whether it is a line feed (`feed`): the lines that it gives, and what is pending then, stand for what was
 -- pending and the byte
-at_end : (way : Way) (p : Unwritten) (b : ℕ) (feed : Bool) → (b == 10) ≡ feed
+at_end : (way : Direction) (p : Unwritten) (b : ℕ) (feed : Bool) → (b == 10) ≡ feed
     → wire (cond feed (entry_of_line way p ∷ []) (cond (nat_lt (length p.bytes.items) 513) [] (entry (part_mark way) p.bytes.items ∷ [])))
     ++ (cond feed nothing (cond (nat_lt (length p.bytes.items) 513) (pending (p.bytes.items ++ b ∷ []) p.is_long) (pending (b ∷ []) true))).bytes.items ≡ p.bytes.items ++ b ∷ []
 at_end way p b true is = append-nil (wire (entry_of_line way p ∷ [])) ∙ line_wire way p ∙ ap (λ c. p.bytes.items ++ c ∷ []) (sym (eqb-true b 10 is))
 at_end way p b false is = in_line way p b (nat_lt (length p.bytes.items) 513)
 
 -- the lines that one more byte gives, and what is pending then, stand for what was pending and that byte
-byte_wire : (way : Way) (p : Unwritten) (b : ℕ) → wire (entries_at way p b) ++ (pending_at p b).bytes.items ≡ p.bytes.items ++ b ∷ []
+byte_wire : (way : Direction) (p : Unwritten) (b : ℕ) → wire (entries_at way p b) ++ (pending_at p b).bytes.items ≡ p.bytes.items ++ b ∷ []
 byte_wire way p b = at_end way p b (b == 10) refl
 
 -- the lines that bytes give, and what is pending then, stand for what was pending and those bytes: nothing is lost, and nothing
 -- is added
-keeps : (way : Way) (p : Unwritten) (bytes : List ℕ) → wire (entries way p bytes) ++ (pending_behind p bytes).bytes.items ≡ p.bytes.items ++ bytes
+keeps : (way : Direction) (p : Unwritten) (bytes : List ℕ) → wire (entries way p bytes) ++ (pending_behind p bytes).bytes.items ≡ p.bytes.items ++ bytes
 keeps way p [] = sym (append-nil p.bytes.items)
 keeps way p (b ∷ bs) =
     let es = entries_at way p b in

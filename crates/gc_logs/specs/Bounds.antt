@@ -25,7 +25,7 @@ abbrev pub bound_seen : {K : Type 0} → Sink K → Bounded K → BoundSeen
 bound_seen of_sink bounded = record { taken = of_sink.taken bounded.sink; left = bounded.left; ended = bounded.is_ended }
 
 -- a write of bytes that have room goes to the sink below, and the room gets less by as many bytes as that sink takes
-pub record Fits {E : Type 0} (old new : BoundSeen) (result : Result ℕ E) (bytes : List ℕ) : Type 0 where
+pub record TakesInRoom {E : Type 0} (old new : BoundSeen) (result : Result ℕ E) (bytes : List ℕ) : Type 0 where
   pub took : TakesBytes old.taken new.taken result bytes
   pub left : IfOk result (λ n. new.left + n ≡ old.left)
 
@@ -33,7 +33,7 @@ pub record Fits {E : Type 0} (old new : BoundSeen) (result : Result ℕ E) (byte
 -- comes the line that says so, as far as the sink below takes it, and that is the end
 pub record Bounds {E : Type 0} (old new : BoundSeen) (result : Result ℕ E) (bytes : List ℕ) : Type 0 where
   pub ended : old.ended ≡ true → new.taken ≡ old.taken
-  pub fits : old.ended ≡ false → length bytes ≤ old.left → Fits old new result bytes
+  pub fits : old.ended ≡ false → length bytes ≤ old.left → TakesInRoom old new result bytes
   pub full : old.ended ≡ false → old.left < length bytes → TakesFull old.taken new.taken bytes
 
 -- whether a sink with a bound has ended, and takes nothing more

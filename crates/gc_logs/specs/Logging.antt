@@ -11,8 +11,8 @@ use Rattle.gc_texts.specs.declared.log_line.LogMark.TheVariants as mark
 use Rattle.gc_links.specs.Acts.{Act, Told, Put, Cut, Gave, Silent, Ended, Broke, Closed, Opened, Unopened}
 use Rattle.gc_logs.specs.declared.logging.Log.{Log}
 use Rattle.gc_logs.specs.declared.logging.Unwritten.{Unwritten}
-use Rattle.gc_logs.specs.declared.logging.Way.{Way}
-use Rattle.gc_logs.specs.declared.logging.Way.TheVariants.{Went, Came}
+use Rattle.gc_logs.specs.declared.logging.Direction.{Direction}
+use Rattle.gc_logs.specs.declared.logging.Direction.TheVariants.{Went, Came}
 
 -- a line of a log without its moment: its mark and its bytes
 pub record Entry : Type 0 where
@@ -24,12 +24,12 @@ abbrev pub entry : LogMark → List ℕ → Entry
 entry mark bytes = record { mark = mark; bytes = bytes }
 
 -- the mark of a line that has its CR LF
-abbrev pub line_mark : Way → LogMark
+abbrev pub line_mark : Direction → LogMark
 line_mark Went = mark.Went
 line_mark Came = mark.Came
 
 -- the mark of bytes that aren't a whole line with its CR LF
-abbrev pub part_mark : Way → LogMark
+abbrev pub part_mark : Direction → LogMark
 part_mark Went = mark.WentPart
 part_mark Came = mark.CamePart
 
@@ -38,19 +38,19 @@ abbrev pub nothing : Unwritten
 nothing = record { bytes = record { items = [] }; is_long = false }
 
 -- these bytes are pending; `long` says whether a front of their line was written already
-abbrev pub pending : List ℕ → Bool → Unwritten
+abbrev pub pending : (bytes : List ℕ) (long : Bool) → Unwritten
 pending bytes long = record { bytes = record { items = bytes }; is_long = long }
 
 -- the line of a log that a line feed makes of what is pending: a whole line without its CR LF, if a CR comes before the line
 -- feed and no front of the line was written; otherwise a part, with the line feed
-abbrev pub entry_of_line : Way → Unwritten → Entry
+abbrev pub entry_of_line : Direction → Unwritten → Entry
 entry_of_line way p =
     if not p.is_long && ends_in_return p.bytes.items then entry (line_mark way) (take (length p.bytes.items - 1) p.bytes.items)
     else entry (part_mark way) (p.bytes.items ++ codes "\n")
 
 -- which lines of a log one more byte gives: a line feed gives the line that it ends; any other byte gives none, or, where 513 bytes are
 -- pending, the part that these are
-abbrev pub entries_at : Way → Unwritten → ℕ → List Entry
+abbrev pub entries_at : Direction → Unwritten → ℕ → List Entry
 entries_at way p b =
     if b == 10 then entry_of_line way p ∷ []
     else (if nat_lt (length p.bytes.items) 513 then [] else entry (part_mark way) p.bytes.items ∷ [])
@@ -62,7 +62,7 @@ pending_at p b =
     else (if nat_lt (length p.bytes.items) 513 then pending (p.bytes.items ++ b ∷ []) p.is_long else pending (b ∷ []) true)
 
 -- which lines of a log these bytes give, where `p` was pending before them
-abbrev pub entries : Way → Unwritten → List ℕ → List Entry
+abbrev pub entries : Direction → Unwritten → List ℕ → List Entry
 entries way p [] = []
 entries way p (b ∷ bs) = entries_at way p b ++ entries way (pending_at p b) bs
 
@@ -72,7 +72,7 @@ pending_behind p [] = p
 pending_behind p (b ∷ bs) = pending_behind (pending_at p b) bs
 
 -- the line of what is pending at a close: none if nothing is
-abbrev pub entries_of_pending : Way → List ℕ → List Entry
+abbrev pub entries_of_pending : Direction → List ℕ → List Entry
 entries_of_pending way [] = []
 entries_of_pending way (b ∷ bs) = entry (part_mark way) (b ∷ bs) ∷ []
 
@@ -106,7 +106,7 @@ wire es = flat_map (λ (e : Entry). wire_of e.mark e.bytes) es
 -- of the bytes of one direction nothing is missing, nothing is added and nothing changes places: the bytes that were pending,
 -- and after them the new ones, are those that the lines stand for, and after them those that are pending then
 abbrev pub LogKeepsAll : Type 0
-LogKeepsAll = (way : Way) (p : Unwritten) (bytes : List ℕ) → p.bytes.items ++ bytes ≡ wire (entries way p bytes) ++ (pending_behind p bytes).bytes.items
+LogKeepsAll = (way : Direction) (p : Unwritten) (bytes : List ℕ) → p.bytes.items ++ bytes ≡ wire (entries way p bytes) ++ (pending_behind p bytes).bytes.items
 
 -- what is seen of a log: what its sink took and whether it has failed, what is pending of each direction, and the last moment
 pub record LogSeen : Type 0 where

@@ -26,8 +26,8 @@ pub struct Bounded<K> {
 }
 
 impl<K: Sink> Bounded<K> {
-    /// A sink that adds at most `room` bytes to what the sink below holds. If there is no room even for the line that says
-    /// that the rest is left out, it has ended at once.
+    /// A sink that adds at most `room` bytes to what the sink below holds, of which 100 are kept free for the line that says that the
+    /// rest is left out. If `room` is less than these, it has ended at once, without that line.
     pub fn new(sink: K, room: u64) -> Bounded<K>
         ensures sink { result.sink ≡ sink }
         ensures few { result.is_ended ≡ false → result.left + 100 ≤ room }
@@ -46,7 +46,7 @@ impl<K: Sink> Bounded<K> {
         }
     }
 
-    /// Whether this sink has ended at its bound: it has ended, and the sink below hasn't failed.
+    /// Whether this sink has ended at its bound, or had no room at first: it has ended, and the sink below hasn't failed.
     pub fn is_full(&self) -> bool {
         self.is_ended && !self.sink.has_failed()
     }
@@ -102,7 +102,7 @@ impl<K: Sink> Sink for Bounded<K> {
     ghost failed = { λ b. b.is_ended };
 
     // Writes a line that has room. In place of the first line that has none it writes the line that says that the log is full,
-    // and it fails from then on.
+    // and it fails from then on. It also does if the sink below fails.
     fn write(&mut self, bytes: &[u8]) -> Result<usize, PortFailed>
         requires { 0 < length bytes.now }
         ensures bytes { TakesBytes None None result bytes.now }

@@ -73,7 +73,8 @@ impl<L: Link, K: Sink> Link for Logged<L, K> {
         told
     }
 
-    // Reads from the link inside, and logs the lines that end in the received bytes, or that the connection ended or failed.
+    // Reads from the link inside, and logs the lines that end in the received bytes, or that the connection ended or failed. Of a read
+    // after which the moment isn't known it logs nothing.
     fn read(&mut self, buf: &mut [u8], millis: u64) -> Came
         requires { 0 < length buf.old }
         ensures tells { Tells (L.acts self.old.link) (L.acts self.new.link) (read_act result buf.new ∷ []) }

@@ -5,7 +5,7 @@ ghost use Rattle.std.specs.Prelude.{◌≡◌, ◌++◌, ◌≤◌, [], ◌∷�
 ghost use Rattle.gc_logs.specs.Logging.{entry, line_mark, part_mark, nothing, entry_of_line, entries_at, pending_at, entries, pending_behind, entries_of_pending, TakesEntries};
 ghost use Rattle.gc_texts.specs.Logs.{log_line};
 ghost use Rattle.gc_texts.specs.declared.log_line.LogMark.TheVariants as mark;
-ghost use Rattle.gc_logs.specs.declared.logging.Way.TheVariants.{Went, Came};
+ghost use Rattle.gc_logs.specs.declared.logging.Direction.TheVariants.{Went, Came};
 
 use arrayvec::ArrayVec;
 use gc_lines::{Sink, append};
@@ -13,34 +13,35 @@ use gc_texts::{LogBytes, LogMark, write_log_line};
 
 // The direction of bytes: sent (`Went`) or received (`Came`).
 #[derive(Clone, Copy)]
-enum Way {
+enum Direction {
     Went,
     Came,
 }
 
-impl Way {
+impl Direction {
     // The mark of a line that went or came with its CR LF.
-    fn line(self) -> LogMark
+    fn line_mark(self) -> LogMark
         ensures { result ≡ line_mark self }
     {
         match self {
-            Way::Went => LogMark::Went,
-            Way::Came => LogMark::Came,
+            Direction::Went => LogMark::Went,
+            Direction::Came => LogMark::Came,
         }
     }
 
     // The mark of a part of a line, and of a line without the CR before its line feed.
-    fn part(self) -> LogMark
+    fn part_mark(self) -> LogMark
         ensures { result ≡ part_mark self }
     {
         match self {
-            Way::Went => LogMark::WentPart,
-            Way::Came => LogMark::CamePart,
+            Direction::Went => LogMark::WentPart,
+            Direction::Came => LogMark::CamePart,
         }
     }
 }
 
-// The pending bytes of one direction: those of a line whose end hasn't come yet, at most 512 and a CR; of a longer line, the last ones.
+// The pending bytes of one direction: those of a line whose line feed hasn't come yet, at most 513, as a line of 512 bytes with its CR
+// has; of a longer line, the last ones.
 #[derive(Drop)]
 struct Unwritten {
     bytes: ArrayVec<u8, 513>,
@@ -93,7 +94,13 @@ impl<K: Sink> Log<K> {
         ensures came { self.new.came ≡ self.old.came }
         ensures utc { self.new.utc ≡ self.old.utc }
     {
-        log_bytes(&mut self.sink, self.utc, Way::Went, &mut self.went, bytes);
+        log_bytes(
+            &mut self.sink,
+            self.utc,
+            Direction::Went,
+            &mut self.went,
+            bytes,
+        );
     }
 
     // Logs received bytes: writes the lines that end in them. The rest is pending then.
@@ -103,22 +110,29 @@ impl<K: Sink> Log<K> {
         ensures came { self.new.came ≡ pending_behind self.old.came bytes.now }
         ensures utc { self.new.utc ≡ self.old.utc }
     {
-        log_bytes(&mut self.sink, self.utc, Way::Came, &mut self.came, bytes);
+        log_bytes(
+            &mut self.sink,
+            self.utc,
+            Direction::Came,
+            &mut self.came,
+            bytes,
+        );
     }
 
     // Writes the pending bytes of both directions, each as a part of a line, at a close: no more bytes of these lines will be
     // sent or received.
     pub(crate) fn flush(&mut self)
-        ensures took { TakesEntries K.Sink self.old.sink self.new.sink self.old.utc (entries_of_pending Went self.old.went.bytes.items ++ entries_of_pending Came self.old.came.bytes.items) }
+        ensures took { TakesEntries K.Sink self.old.sink self.new.sink self.old.utc
+            (entries_of_pending Went self.old.went.bytes.items ++ entries_of_pending Came self.old.came.bytes.items) }
         ensures went { self.new.went ≡ nothing }
         ensures came { self.new.came ≡ nothing }
         ensures utc { self.new.utc ≡ self.old.utc }
     {
-        log_pending(&mut self.sink, self.utc, Way::Went, &mut self.went);
-        log_pending(&mut self.sink, self.utc, Way::Came, &mut self.came);
+        log_pending(&mut self.sink, self.utc, Direction::Went, &mut self.went);
+        log_pending(&mut self.sink, self.utc, Direction::Came, &mut self.came);
     }
 
-    // Writes a line that says, in these words, what became of the connection.
+    // Writes a line that says, in these words of at most 514 bytes, what became of the connection.
     pub(crate) fn add_word(&mut self, word: &[u8])
         requires { length word.now ≤ 514 }
         ensures took { TakesEntries K.Sink self.old.sink self.new.sink self.old.utc (entry mark.Link word.now ∷ []) }
@@ -132,7 +146,7 @@ impl<K: Sink> Log<K> {
 
 // Logs bytes of this direction that come after the pending ones. Writes each line that they end, with the moment `utc`, and of a line with
 // more than 513 bytes each 513 as a part. The rest is pending then.
-fn log_bytes<K: Sink>(sink: &mut K, utc: u64, way: Way, pending: &mut Unwritten, bytes: &[u8])
+fn log_bytes<K: Sink>(sink: &mut K, utc: u64, way: Direction, pending: &mut Unwritten, bytes: &[u8])
     ensures took { TakesEntries K.Sink sink.old sink.new utc (entries way pending.old bytes.now) }
     ensures pending { pending.new ≡ pending_behind pending.old bytes.now }
 {
@@ -143,7 +157,7 @@ fn log_bytes<K: Sink>(sink: &mut K, utc: u64, way: Way, pending: &mut Unwritten,
 
 // Logs one more byte. A line feed ends a line, which is written. Any other byte is pending; if 513 bytes are pending already, these are
 // first written as a part of their line.
-fn log_byte<K: Sink>(sink: &mut K, utc: u64, way: Way, pending: &mut Unwritten, b: u8)
+fn log_byte<K: Sink>(sink: &mut K, utc: u64, way: Direction, pending: &mut Unwritten, b: u8)
     ensures took { TakesEntries K.Sink sink.old sink.new utc (entries_at way pending.old b) }
     ensures pending { pending.new ≡ pending_at pending.old b }
 {
@@ -155,7 +169,7 @@ fn log_byte<K: Sink>(sink: &mut K, utc: u64, way: Way, pending: &mut Unwritten, 
         pending.bytes.push(b);
         return;
     }
-    write_entry(sink, utc, way.part(), &pending.bytes);
+    write_entry(sink, utc, way.part_mark(), &pending.bytes);
     pending.bytes.clear();
     pending.bytes.push(b);
     pending.is_long = true;
@@ -163,38 +177,38 @@ fn log_byte<K: Sink>(sink: &mut K, utc: u64, way: Way, pending: &mut Unwritten, 
 
 // Logs a line feed: writes the pending bytes as a line, without CR LF, if they are all of it and end in a CR, else as a part, with the line
 // feed. Nothing is pending after that.
-fn log_line_end<K: Sink>(sink: &mut K, utc: u64, way: Way, pending: &mut Unwritten)
+fn log_line_end<K: Sink>(sink: &mut K, utc: u64, way: Direction, pending: &mut Unwritten)
     ensures took { TakesEntries K.Sink sink.old sink.new utc (entry_of_line way pending.old ∷ []) }
     ensures pending { pending.new ≡ nothing }
 {
     let is_line = !pending.is_long && pending.bytes.last() == Some(&b'\r');
     if is_line {
         let len = pending.bytes.len() - 1;
-        write_entry(sink, utc, way.line(), &pending.bytes[..len]);
+        write_entry(sink, utc, way.line_mark(), &pending.bytes[..len]);
     } else {
         let mut part = LogBytes::new();
         append(&mut part, &pending.bytes);
         append(&mut part, b"\n");
-        write_entry(sink, utc, way.part(), &part);
+        write_entry(sink, utc, way.part_mark(), &part);
     }
     pending.bytes.clear();
     pending.is_long = false;
 }
 
 // Writes the pending bytes of one direction, if there are any, as a part of a line. Nothing is pending after that.
-fn log_pending<K: Sink>(sink: &mut K, utc: u64, way: Way, pending: &mut Unwritten)
+fn log_pending<K: Sink>(sink: &mut K, utc: u64, way: Direction, pending: &mut Unwritten)
     ensures took { TakesEntries K.Sink sink.old sink.new utc (entries_of_pending way pending.old.bytes.items) }
     ensures pending { pending.new ≡ nothing }
 {
     if !pending.bytes.is_empty() {
-        write_entry(sink, utc, way.part(), &pending.bytes);
+        write_entry(sink, utc, way.part_mark(), &pending.bytes);
     }
     pending.bytes.clear();
     pending.is_long = false;
 }
 
-// Writes a line of the log with this moment, mark and bytes. If the sink fails, the line isn't written whole, and the sink's `failed`
-// shows it.
+// Writes a line of the log with this moment, this mark and these bytes, at most 514. If the sink fails, the line isn't written whole,
+// and the sink's `failed` shows it.
 fn write_entry<K: Sink>(sink: &mut K, utc: u64, mark: LogMark, bytes: &[u8])
     requires { length bytes.now ≤ 514 }
     ensures { TakesEntries K.Sink sink.old sink.new utc (entry mark bytes.now ∷ []) }

@@ -1,7 +1,7 @@
--- Status 0 is reported only of a run that is done.
+-- Status 0 is reported only of a run that is done, or whose end was asked for.
 use Rattle.std.proofs.Common.{◌≡◌, ℕ, List, Option, Result, Ok, Err, inl, inr, arith}
 use Rattle.std.specs.Io.KnownBytes.{Consumes}
-use Rattle.gc_measuring.specs.Measuring.{PortsSeen, Measures, IsMeasured, ReportsCounts}
+use Rattle.gc_measuring.specs.Measuring.{PortsSeen, Measures, IsMeasured, ReportsEndOfRun}
 use Rattle.gc_words.specs.declared.settings.Settings.{Settings}
 use Rattle.gc_measuring.specs.declared.stop.Stop.{Stop}
 use Rattle.gc_measuring.specs.declared.stop.Stop.TheVariants.{Run}
@@ -12,11 +12,11 @@ use Rattle.gc_texts.specs.declared.fault.RunFault.TheVariants.{Output}
 ok_is_no_stop : {A : Type 0} (x : A) (stop : Stop) → ◌≡◌ {A = Result A Stop} (Ok x) (Err stop) → ⊥
 ok_is_no_stop x stop is = cc
 
--- where status 0 is reported, the source gave a text to its end, and the run over its tasks is done
-pub done_at_0 : (given : List ℕ) (station : Settings) (old new : PortsSeen) (end : Result Tally Stop) (status : ℕ) (told messages : Option (List ℕ))
-    → Consumes old.input.remaining new.input.remaining given → Measures given station 18446744073709551615 old new end → ReportsCounts end status told messages → status ≡ 0
+-- where status 0 is reported, the source gave a text to its end, and the run over its tasks is done, or its end was asked for
+pub done_at_0 : (given : List ℕ) (station : Settings) (old new : PortsSeen) (end : Result Tally Stop) (status : ℕ) (before after : Option (List ℕ))
+    → Consumes old.input.remaining new.input.remaining given → Measures given station 18446744073709551615 old new end → ReportsEndOfRun end status before after → status ≡ 0
     → IsMeasured station old new
-done_at_0 given station old new (Ok tally) status told messages takes (inl refused) tells zero = absurd (ok_is_no_stop tally refused.0 refused.1)
-done_at_0 given station old new (Ok tally) status told messages takes (inr (setup, tasks, names, gives, inl front)) tells zero = absurd (ok_is_no_stop tally (Run Output) front.is)
-done_at_0 given station old new (Ok tally) status told messages takes (inr (setup, tasks, names, gives, inr behind)) tells zero = (given, takes, (setup, tasks, names, tally, gives, behind))
-done_at_0 given station old new (Err stop) status told messages takes measures tells zero = absurd (omega (arith, tells.0, zero))
+done_at_0 given station old new (Ok tally) status before after takes (inl refused) tells zero = absurd (ok_is_no_stop tally refused.0 refused.1)
+done_at_0 given station old new (Ok tally) status before after takes (inr (setup, tasks, names, gives, inl front)) tells zero = absurd (ok_is_no_stop tally (Run Output) front.is)
+done_at_0 given station old new (Ok tally) status before after takes (inr (setup, tasks, names, gives, inr behind)) tells zero = (given, takes, (setup, tasks, names, tally, gives, behind))
+done_at_0 given station old new (Err stop) status before after takes measures tells zero = absurd (omega (arith, tells.0, zero))

@@ -1,5 +1,6 @@
 -- A station that can't begin: its sink is as it was, and no log is lost.
 use Rattle.std.proofs.Common.{◌≡◌, Bool, true, false, Option, Some, None, Err, inl, inr, refl, sym, subst}
+use Rattle.std.proofs.lemmas.Bool.{false≢true}
 use Rattle.gc_measuring.specs.Stops.{fault_without_link}
 use Rattle.gc_measuring.specs.Telling.{CannotBegin}
 use Rattle.gc_links.specs.declared.device.Unusable.{Unusable}
@@ -15,10 +16,6 @@ no_link_keeps_sink (Some Held) failed = refl
 no_link_keeps_sink (Some Forbidden) failed = refl
 no_link_keeps_sink None failed = refl
 
--- false isn't true
-false_is_not_true : ◌≡◌ {A = Bool} false true → ⊥
-false_is_not_true is = cc
-
 -- a run that couldn't begin, for whatever fault, didn't fail at its output: its sink is as it was
 pub sink_is_as_it_was : (has_log : Bool) (fault : RunFault) (failed : Bool) → CannotBegin has_log fault → FailsAtOutput {X = Tally} failed failed (Err fault)
 sink_is_as_it_was has_log fault failed (inl linkless) =
@@ -27,4 +24,4 @@ sink_is_as_it_was has_log fault failed (inr logless) = subst (λ e. FailsAtOutpu
 
 -- of a run that lost no log (`false`) the field `logged` of `ReportsRun` holds: its premise, that the log was lost, is false
 pub logged_if_none_lost : (has_log : Bool) → false ≡ true → has_log ≡ true
-logged_if_none_lost has_log lost = absurd (false_is_not_true lost)
+logged_if_none_lost has_log lost = absurd (false≢true lost)

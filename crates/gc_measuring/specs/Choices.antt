@@ -9,7 +9,7 @@ abbrev pub longest : ℕ → List Task → ℕ
 longest deadline [] = deadline
 longest deadline (task ∷ later) = longest (max deadline task.deadline) later
 
--- the plan of a choice, for these tasks, of which the first `setup` are the setup
+-- the plan of a choice, for these tasks, of which the first `setup` are the setup. Its deadline is the longest in use
 abbrev pub plan_of : Choice → ℕ → List Task → Plan
 plan_of choice setup tasks =
     record {

@@ -15,7 +15,7 @@ use Rattle.gc_measuring.specs.declared.stop.Stop.{Stop}
 use Rattle.gc_measuring.specs.declared.stop.Stop.TheVariants.{Text, Empty, Line, Run}
 use Rattle.gc_lines.specs.Ports.{TakesFront}
 use Rattle.gc_links.specs.Acts.{Act}
-use Rattle.gc_station.specs.Keeping.{Snapshot, KeepsUp, closing_at}
+use Rattle.gc_station.specs.Keeping.{Snapshot, KeepsUp, close_at_output}
 use Rattle.gc_station.specs.Records.{Record}
 use Rattle.gc_station.specs.Runs.{Ran, LastsBut}
 use Rattle.gc_station.specs.Scopes.{ForReadings}
@@ -29,7 +29,7 @@ use Rattle.gc_texts.specs.declared.name.Name.{Name}
 use Rattle.gc_texts.specs.declared.tasks.Task.{Task}
 use Rattle.gc_rows.specs.declared.when.When.{When}
 
--- the moments, the cycle and the place of a record, in a run that began at `run`, in milliseconds since 1970-01-01, UTC
+-- the moments, the cycle, the place and the turn of a record, in a run that began at `run`, in milliseconds since 1970-01-01, UTC
 abbrev pub when_of : ℕ → Record → When
 when_of run r = record { run = run; stamp = record { sent = r.sent; utc = r.utc; cycle = r.cycle; place = r.place; turn = r.turn } }
 
@@ -60,41 +60,41 @@ pub record FailsInFront (layout : Layout) (old new : PortsSeen) (result : Result
   pub messages : new.messages ≡ old.messages
   pub turns : new.turns ≡ old.turns
 
--- what a run measures: tasks, by a plan, in at most this number of acts (turns), with its records in a layout, and the names of targets
-pub record Course : Type 0 where
+-- what a run measures: tasks, by a plan, in at most `max_turns` acts, with its records in a layout, and the names of targets
+pub record Survey : Type 0 where
   pub plan : Plan
   pub tasks : List Task
-  pub turns : ℕ
+  pub max_turns : ℕ
   pub layout : Layout
   pub names : List Name
 
--- what a station measures, in at most `turns` acts, of a text with these names and tasks, of which the first `setup` are the setup
-abbrev pub course_of : Settings → ℕ → ℕ → List Task → List Name → Course
-course_of station turns setup tasks names =
-    record { plan = plan_of station.choice setup tasks; tasks = tasks; turns = turns; layout = station.layout; names = names }
+-- what a station measures, in at most `max_turns` acts, of a text with these names and tasks, of which the first `setup` are the setup
+abbrev pub survey_of : Settings → (max_turns setup : ℕ) → List Task → List Name → Survey
+survey_of station max_turns setup tasks names =
+    record { plan = plan_of station.choice setup tasks; tasks = tasks; max_turns = max_turns; layout = station.layout; names = names }
 
 -- a run over a link, whose acts before and after are `acts` and `acts'`, wrote the records that its acts give of the tasks into a
 -- sink, which had taken `taken` before and `taken'` after, and ended with `end`. This holds with every function that gives each
 -- reply's reading for its call, and there is such a function
-abbrev pub RunsCourse : Course → (acts acts' : Option (List Act)) → (taken taken' : Option (List ℕ)) → (end : Result Tally RunFault) → Type 0
-RunsCourse course acts acts' taken taken' end = ForReadings (λ reads.
-    Ran course.plan course.tasks (record { turns = course.turns; reads = reads }) (text_in course.layout course.names) acts acts' taken taken' end)
+abbrev pub RunsSurvey : Survey → (acts acts' : Option (List Act)) → (taken taken' : Option (List ℕ)) → (end : Result Tally RunFault) → Type 0
+RunsSurvey survey acts acts' taken taken' end = ForReadings (λ reads.
+    Ran survey.plan survey.tasks (record { turns = survey.max_turns; reads = reads }) (text_in survey.layout survey.names) acts acts' taken taken' end)
 
 -- at each act of a run over these tasks, all that the acts before it settled was recorded, and lasted (`KeepsUp`). `seen` and
 -- `seen'` are the turns before the run and after it
-abbrev pub CourseKeepsUp : Course → (acts acts' : Option (List Act)) → (taken : Option (List ℕ)) → (seen seen' : List Snapshot) → (end : Result Tally RunFault) → Type 0
-CourseKeepsUp course acts acts' taken seen seen' end = ForReadings (λ reads.
-    KeepsUp course.plan course.tasks (record { turns = course.turns; reads = reads }) (text_in course.layout course.names) acts acts' taken seen seen' (closing_at end))
+abbrev pub SurveyKeepsUp : Survey → (acts acts' : Option (List Act)) → (taken : Option (List ℕ)) → (seen seen' : List Snapshot) → (end : Result Tally RunFault) → Type 0
+SurveyKeepsUp survey acts acts' taken seen seen' end = ForReadings (λ reads.
+    KeepsUp survey.plan survey.tasks (record { turns = survey.max_turns; reads = reads }) (text_in survey.layout survey.names) acts acts' taken seen seen' (close_at_output end))
 
 -- the sink took what comes before the records, and then what a run over the link records of its tasks. Before each act all that
 -- was written by then lasted. `between` is what the sink had taken before the records
-pub record RunsBehind (course : Course) (old new : PortsSeen) (result : Result Tally Stop) : Type 0 where
+pub record RunsAfterFront (survey : Survey) (old new : PortsSeen) (result : Result Tally Stop) : Type 0 where
   pub between : Option (List ℕ)
-  pub front : Appends old.taken between (front_text course.layout)
+  pub front : Appends old.taken between (front_text survey.layout)
   pub end : Result Tally RunFault
   pub is : result ≡ end_of_run end
-  pub ran : RunsCourse course old.acts new.acts between new.taken end
-  pub keeps : CourseKeepsUp course old.acts new.acts between old.turns new.turns end
+  pub ran : RunsSurvey survey old.acts new.acts between new.taken end
+  pub keeps : SurveyKeepsUp survey old.acts new.acts between old.turns new.turns end
 
 -- nothing was done over the link, and nothing written
 pub record IsUnused (old new : PortsSeen) : Type 0 where
@@ -104,44 +104,43 @@ pub record IsUnused (old new : PortsSeen) : Type 0 where
   pub turns : new.turns ≡ old.turns
 
 -- the text `given` by a source was refused, and then nothing was done over the link, and nothing written; or the sink failed
--- before the records; or the text's tasks were measured, in at most `turns` acts
-abbrev pub Measures : List ℕ → Settings → ℕ → PortsSeen → PortsSeen → Result Tally Stop → Type 0
-Measures given station turns old new result =
+-- before the records; or the text's tasks were measured, in at most `max_turns` acts
+abbrev pub Measures : List ℕ → Settings → (max_turns : ℕ) → (old new : PortsSeen) → Result Tally Stop → Type 0
+Measures given station max_turns old new result =
     ((stop : Stop) × (result ≡ Err stop) × RefusesTasks given old.input new.input stop × IsUnused old new)
     ⊎ ((setup : ℕ) × (tasks : List Task) × (names : List Name) × GivesTasks given old.input new.input station.choice setup tasks names
-    × (FailsInFront station.layout old new result ⊎ RunsBehind (course_of station turns setup tasks names) old new result))
+    × (FailsInFront station.layout old new result ⊎ RunsAfterFront (survey_of station max_turns setup tasks names) old new result))
 
--- a source gave bytes, by at most one read for each and one for the end, and of these `Measures` holds, in at most this number
--- of acts
-abbrev pub MeasuresText : Settings → ℕ → PortsSeen → PortsSeen → Result Tally Stop → Type 0
-MeasuresText station turns old new result = Gave old.input new.input (λ given. Measures given station turns old new result)
+-- a source gave bytes, by at most one read for each and one for the end, and of these `Measures` holds, in at most `max_turns` acts
+abbrev pub MeasuresText : Settings → (max_turns : ℕ) → (old new : PortsSeen) → Result Tally Stop → Type 0
+MeasuresText station max_turns old new result = Gave old.input new.input (λ given. Measures given station max_turns old new result)
 
 -- a source gave bytes, by any number of reads, and of these `Measures` holds, in at most as many acts as a u64 counts
-abbrev pub MeasuresGiven : Settings → PortsSeen → PortsSeen → Result Tally Stop → Type 0
+abbrev pub MeasuresGiven : Settings → (old new : PortsSeen) → Result Tally Stop → Type 0
 MeasuresGiven station old new result =
     (given : List ℕ) × Consumes old.input.remaining new.input.remaining given × Measures given station 18446744073709551615 old new result
 
 -- a source gave a text to its end, and the run over its tasks, in at most as many acts as a u64 counts, is done, or its end was
 -- asked for
-abbrev pub IsMeasured : Settings → PortsSeen → PortsSeen → Type 0
+abbrev pub IsMeasured : Settings → (old new : PortsSeen) → Type 0
 IsMeasured station old new = (given : List ℕ) × Consumes old.input.remaining new.input.remaining given
     × ((setup : ℕ) × (tasks : List Task) × (names : List Name) × (tally : Tally)
     × GivesTasks given old.input new.input station.choice setup tasks names
-    × RunsBehind (course_of station 18446744073709551615 setup tasks names) old new (Ok tally))
+    × RunsAfterFront (survey_of station 18446744073709551615 setup tasks names) old new (Ok tally))
 
 -- of what a source gave `MeasuresGiven` holds, for a run that began at some moment
-abbrev pub MeasuresBegun : Settings → PortsSeen → PortsSeen → Result Tally Stop → Type 0
+abbrev pub MeasuresBegun : Settings → (old new : PortsSeen) → Result Tally Stop → Type 0
 MeasuresBegun station old new result = (run : ℕ) × MeasuresGiven (begun_at run station) old new result
 
 -- if the text was refused nothing was done over the link, and nothing written
-abbrev pub IsUntouched : PortsSeen → PortsSeen → Result Tally Stop → Type 0
+abbrev pub IsUntouched : (old new : PortsSeen) → Result Tally Stop → Type 0
 IsUntouched old new (Err (Text fault)) = IsUnused old new
 IsUntouched old new (Err Empty) = IsUnused old new
 IsUntouched old new (Err (Line n trouble)) = IsUnused old new
 IsUntouched old new _ = Unit {0}
 
 -- all records last, as `is_durable` says; nothing is said where the text was refused or the sink failed
-abbrev pub AllLast : Bool → Result Tally Stop → Type 0
+abbrev pub AllLast : (is_durable : Bool) → Result Tally Stop → Type 0
 AllLast is_durable (Ok _) = is_durable ≡ true
 AllLast is_durable (Err (Run fault)) = LastsBut {X = Tally} is_durable (Err fault)
 AllLast is_durable (Err _) = Unit {0}
@@ -151,24 +150,24 @@ abbrev pub overrun_line : ℕ → List ℕ
 overrun_line cycle = codes "geocom: cycle " ++ decimal cycle ++ codes " was not done when the next was due\n"
 
 -- the front of the line of the counts: how many commands were answered, late and lost
-abbrev pub ends_text : Tally → List ℕ
-ends_text t = codes "answered " ++ decimal t.answered ++ codes " late " ++ decimal t.late ++ codes " lost " ++ decimal t.lost ++ codes " "
+abbrev pub main_counts_text : Tally → List ℕ
+main_counts_text t = codes "answered " ++ decimal t.answered ++ codes " late " ++ decimal t.late ++ codes " lost " ++ decimal t.lost ++ codes " "
 
 -- the middle of the line of the counts: how many commands were skipped, unreadable, missed and elsewhere
-abbrev pub others_text : Tally → List ℕ
-others_text t =
+abbrev pub other_counts_text : Tally → List ℕ
+other_counts_text t =
     codes "skipped " ++ decimal t.skipped ++ codes " unreadable " ++ decimal t.unreadable ++ codes " missed " ++ decimal t.missed
     ++ codes " elsewhere " ++ decimal t.elsewhere
 
 -- the end of the line of the counts: how many times a chain was sent again
-abbrev pub again_text : Tally → List ℕ
-again_text t = codes " again " ++ decimal t.again ++ codes "\n"
+abbrev pub repeats_text : Tally → List ℕ
+repeats_text t = codes " again " ++ decimal t.again ++ codes "\n"
 
--- the line of the counts of a run that is done
+-- the line of the counts of a run that is done, or whose end was asked for
 abbrev pub tally_line : Tally → List ℕ
-tally_line t = ends_text t ++ others_text t ++ again_text t
+tally_line t = main_counts_text t ++ other_counts_text t ++ repeats_text t
 
 -- how the program reports a station's end: by status 0 and the line of its counts, or by status 1 and the lines of its stop
-abbrev pub ReportsCounts : Result Tally Stop → ℕ → Option (List ℕ) → Option (List ℕ) → Type 0
-ReportsCounts (Ok tally) status old new = (status ≡ 0) × Appends old new (tally_line tally)
-ReportsCounts (Err stop) status old new = (status ≡ 1) × Appends old new (stop_text stop)
+abbrev pub ReportsEndOfRun : Result Tally Stop → ℕ → (old new : Option (List ℕ)) → Type 0
+ReportsEndOfRun (Ok tally) status old new = (status ≡ 0) × Appends old new (tally_line tally)
+ReportsEndOfRun (Err stop) status old new = (status ≡ 1) × Appends old new (stop_text stop)

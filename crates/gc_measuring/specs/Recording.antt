@@ -1,11 +1,18 @@
--- What is reported of the opening of a file of records: this project's own.
-use Rattle.std.specs.Prelude.{ℕ, List, [], ◌++◌, codes}
+-- How a file of records is opened, and what is reported of that: this project's own.
+use Rattle.std.specs.Prelude.{ℕ, Bool, List, [], ◌++◌, Option, Result, OnOk, codes}
+use Rattle.std.specs.Io.KnownBytes.{Appends}
+use Rattle.gc_files.specs.Sinks.{IsOpenedAs, torn_in}
+use Rattle.gc_files.specs.declared.appending.Appending.{Ghosts}
+use Rattle.gc_files.specs.declared.rows_file.RowsFile.{RowsFile}
 use Rattle.gc_files.specs.declared.system.Unfit.{Unfit}
 use Rattle.gc_files.specs.declared.system.Unfit.TheVariants.{Unopened, Held, Foreign, Failed}
 use Rattle.gc_messages.specs.Repairs.{copied_line, torn_line}
+use Rattle.gc_rows.specs.Records.{head_text, sign_text}
 use Rattle.gc_texts.specs.Faults.{run_fault_text, fault_line}
 use Rattle.gc_texts.specs.declared.fault.RunFault.{RunFault}
 use Rattle.gc_texts.specs.declared.fault.RunFault.TheVariants.{RecordsUnopened, RecordsHeld, RecordsForeign, Output}
+use Rattle.gc_words.specs.Stations.{form_of_rows}
+use Rattle.gc_words.specs.declared.settings.Settings.{Settings}
 
 -- the fault that is reported if a path can't be used as a file of records
 abbrev pub fault_of_unfit : Unfit → RunFault
@@ -29,5 +36,14 @@ abbrev pub unfit_text : Unfit → List ℕ
 unfit_text why = fault_line (run_fault_text (fault_of_unfit why)) ++ rotation_line why
 
 -- what is written of a file that was opened, by how many rows were copied and how many bytes were cut off
-abbrev pub opened_lines : ℕ → ℕ → List ℕ
+abbrev pub opened_lines : (copied torn : ℕ) → List ℕ
 opened_lines copied torn = copied_line copied ++ torn_line torn
+
+-- the file was opened for rows in the station's form, each of which is to be synced (`true`) or not
+abbrev pub IsOpenedFor : {F : Type 0} {D : Ghosts F} → Settings → (sync : Bool) → RowsFile F D → Type 0
+IsOpenedFor station sync file = IsOpenedAs (head_text (form_of_rows station.layout.form)) (sign_text (form_of_rows station.layout.form)) sync file
+
+-- the messages, which were `old` and are now `new`, got a report of the file's opening, if it could be written (`told`): how many rows
+-- were copied, and how many bytes of a torn row were cut off
+abbrev pub ReportsOpening : {F : Type 0} {D : Ghosts F} {A E : Type 0} → RowsFile F D → (told : Result A E) → (old new : Option (List ℕ)) → Type 0
+ReportsOpening file told old new = (copied : ℕ) × OnOk told (Appends old new (opened_lines copied (torn_in file)))

@@ -12,6 +12,7 @@ use Rattle.gc_texts.specs.declared.fault.RunFault.TheVariants.{Schedule}
 use Rattle.gc_texts.specs.declared.name.Name.{Name}
 use Rattle.gc_texts.specs.declared.near.Near.{Near}
 use Rattle.gc_texts.specs.declared.tasks.Task.{Task}
+use Rattle.gc_texts.specs.declared.tasks.Tasks.{Tasks}
 use Rattle.gc_texts.specs.declared.trouble.Trouble.{Trouble}
 
 -- the stop by which a text with this fault is refused: for a faulty line, with the line's trouble
@@ -19,7 +20,7 @@ abbrev pub IsRefusal : List ℕ → RunFault → Stop → Type 0
 IsRefusal text (Schedule n) stop = (trouble : Trouble) × IsTrouble (line_at text n) trouble × (stop ≡ Line n trouble)
 IsRefusal text fault stop = stop ≡ Text fault
 
--- the text that a source gave is a station's text without a command of a cycle
+-- the text that a source gave is a station's text without a command of a cycle, whatever deadline and chaining it has by default
 pub record HasNoCommand (given : List ℕ) (old new : Input) (stop : Stop) : Type 0 where
   pub read : WasRead given old new
   pub deadline : ℕ
@@ -33,7 +34,7 @@ pub record HasNoCommand (given : List ℕ) (old new : Input) (stop : Stop) : Typ
   pub is : stop ≡ Empty
 
 -- the text that a source gave is no station's text, or wasn't read, or it has no command of a cycle
-abbrev pub RefusesTasks : List ℕ → Input → Input → Stop → Type 0
+abbrev pub RefusesTasks : List ℕ → (old new : Input) → Stop → Type 0
 RefusesTasks given old new stop =
     ((fault : RunFault) × RefusesText TaskFault given old new fault × IsRefusal given fault stop) ⊎ HasNoCommand given old new stop
 
@@ -46,6 +47,14 @@ pub record GivesTasks (given : List ℕ) (old new : Input) (choice : Choice) (se
   pub are : IsTasks given choice.deadline choice.chained setup tasks names nears
   pub some : setup < length tasks
 
+-- reading took a source from `old` to `new`, and gave the tasks of a station's text, which has the defaults of this choice
+abbrev pub ReadsTasks : (old new : Input) → Choice → Tasks → Type 0
+ReadsTasks old new choice all = Gave old new (λ given. GivesTasks given old new choice all.setup all.tasks.items all.names.items)
+
+-- reading took a source from `old` to `new`, and gave no tasks, for the reason that this stop says
+abbrev pub ReadsNoTasks : (old new : Input) → Stop → Type 0
+ReadsNoTasks old new stop = Gave old new (λ given. RefusesTasks given old new stop)
+
 -- a source gave a text that a station with this choice can measure
-abbrev pub IsCheckable : Choice → Input → Input → Type 0
+abbrev pub IsCheckable : Choice → (old new : Input) → Type 0
 IsCheckable choice old new = Gave old new (λ given. (setup : ℕ) × (tasks : List Task) × (names : List Name) × GivesTasks given old new choice setup tasks names)

@@ -5,7 +5,7 @@
 use Rattle.std.specs.Prelude.{◌≡◌, ℕ, Bool, true, ◌⊎◌, List, [], Option, Some, None, Result, Err}
 use Rattle.std.specs.Io.KnownBytes.{Appends}
 use Rattle.gc_measuring.specs.Logging.{ReportsLoss}
-use Rattle.gc_measuring.specs.Measuring.{PortsSeen, MeasuresGiven, MeasuresBegun, IsMeasured, AllLast, ReportsCounts}
+use Rattle.gc_measuring.specs.Measuring.{PortsSeen, MeasuresGiven, MeasuresBegun, IsMeasured, AllLast, ReportsEndOfRun}
 use Rattle.gc_measuring.specs.Recording.{unfit_text}
 use Rattle.gc_measuring.specs.Stops.{IsFaultWithoutLink, with_fault}
 use Rattle.gc_words.specs.Stations.{appended, begun_at}
@@ -45,9 +45,10 @@ pub record ReportsMeasuring {S K E : Type 0} (source : Source S) (sink : Sink K)
   pub measured : MeasuresGiven station (ports_seen source sink shown old acts turns) (ports_seen source sink shown (record new { messages = between }) acts' turns') end
   pub all_last : AllLast (lasts new.output) end
   pub fails : FailsAtOutput (sink.failed old.output) (sink.failed new.output) (with_fault end)
-  pub counts : ReportsCounts end status (shown between) (shown new.messages)
+  pub counts : ReportsEndOfRun end status (shown between) (shown new.messages)
 
--- as `ReportsMeasuring` says, and then whether the log was lost (`is_lost`). `behind` are the messages before the report of the log
+-- as `ReportsMeasuring` says, and then whether the log isn't complete (`is_lost`). `behind` are the messages before the report of the
+-- log
 abbrev pub ReportsLogged : {S K E : Type 0} → Source S → Sink K → (K → Bool) → (E → Option (List ℕ)) → Settings → (acts acts' : Option (List Act))
     → (turns turns' : List Snapshot) → (old new : Streams S K E) → (is_lost : Bool) → (status : ℕ) → Type 0
 ReportsLogged {S = S} {K = K} {E = E} source sink lasts shown station acts acts' turns turns' old new is_lost status =
@@ -61,8 +62,8 @@ pub record MeasuresAll {S K E : Type 0} (source : Source S) (sink : Sink K) (sho
   pub between : E
   pub is : IsMeasured station (ports_seen source sink shown old acts turns) (ports_seen source sink shown (record new { messages = between }) acts' turns')
 
--- a run can't begin, for this fault: there is no link, or, if a log was asked for, the log can't be had
-abbrev pub CannotBegin : Bool → RunFault → Type 0
+-- a run can't begin, for this fault: there is no link, or, if a log was asked for (`has_log`), the log can't be had
+abbrev pub CannotBegin : (has_log : Bool) → RunFault → Type 0
 CannotBegin has_log fault = IsFaultWithoutLink fault ⊎ ((has_log ≡ true) × (fault ≡ Log))
 
 -- a run didn't begin, and then there was no link, and nothing was read or written
@@ -81,8 +82,8 @@ pub record MeasuresFromNone {S K E : Type 0} (source : Source S) (sink : Sink K)
   pub all_last : AllLast (lasts new.output) end
 
 -- a run measured by these acts of its link, with what was seen at each, or it didn't begin; and the status and the messages
--- report how it ended, and then whether the log was lost. `between` are the messages before the report of the end, and `behind`
--- those after it
+-- report how it ended, and then whether the log, if one was asked for (`has_log`), isn't complete (`is_lost`). `between` are the
+-- messages before the report of the end, and `behind` those after it
 pub record ReportsRun {S K E : Type 0} (source : Source S) (sink : Sink K) (lasts : K → Bool) (shown : E → Option (List ℕ)) (has_log : Bool) (station : Settings)
     (old new : Streams S K E) (acts : Option (List Act)) (turns turns' : List Snapshot) (status : ℕ) : Type 0 where
   pub end : Result Tally Stop
@@ -93,7 +94,7 @@ pub record ReportsRun {S K E : Type 0} (source : Source S) (sink : Sink K) (last
   pub ran : MeasuresFromNone source sink lasts shown station old (record new { messages = between }) acts turns turns' end
       ⊎ IsUnbegun has_log old (record new { messages = between }) acts turns turns' end
   pub fails : FailsAtOutput (sink.failed old.output) (sink.failed new.output) (with_fault end)
-  pub counts : ReportsCounts end status (shown between) (shown behind)
+  pub counts : ReportsEndOfRun end status (shown between) (shown behind)
   pub loss : ReportsLoss is_lost (shown behind) (shown new.messages)
 
 -- a source gave a text to its end, and the run over its commands is done, or its end was asked for, by these acts, which its

@@ -1,6 +1,6 @@
 -- Since when a station wants an answer that doesn't come: this project's own. A want (`Wanted`) has the moment since which an
--- answer is wanted, if one is (`since`); whether an answer came since the last cycle ended (`heard`); and whether a message
--- said that none comes (`told`).
+-- answer is wanted, if one is (`since`); whether an answer came since the last cycle ended (`heard`); and whether one has been
+-- wanted for so long that a message on that is due, or was written (`overdue`).
 use Rattle.std.specs.Prelude.{◌≡◌, ℕ, ◌-◌, Bool, true, false, ◌&&◌, not, nat_lt, List, [], ◌∷◌, Option, None, Some, if◌then◌else◌}
 use Rattle.gc_links.specs.declared.link.Moment.{Moment}
 use Rattle.gc_station.specs.declared.book.LinkHealth.{LinkHealth}
@@ -9,19 +9,19 @@ use Rattle.gc_measuring.specs.declared.wanted.Wanted.{Wanted}
 
 -- the want after an answer: no answer is wanted, and the cycle has one
 abbrev pub after_answer : Wanted
-after_answer = record { since = None; heard = true; told = false }
+after_answer = record { since = None; heard = true; overdue = false }
 
 -- since when an answer is wanted, given that one is wanted at this moment: an earlier start stays, else it is this moment
 abbrev pub wanted_from : Option Moment → Moment → Option Moment
 wanted_from None moment = Some moment
 wanted_from (Some since) moment = Some since
 
--- the want after a cycle of which nothing is left to be asked: the want is over if the cycle had an answer, and no message said that none
--- comes
+-- the want once a cycle has ended, because nothing of it is left to be asked: it is over if the cycle had an answer, and it isn't
+-- overdue
 abbrev pub after_cycle : Wanted → Wanted
-after_cycle w = record { since = if w.heard && not w.told then None else w.since; heard = false; told = w.told }
+after_cycle w = record { since = if w.heard && not w.overdue then None else w.since; heard = false; overdue = w.overdue }
 
--- the want after a look at a station: an answer is wanted without a connection, while the line is to be quiet, and while a
+-- the want after a look at a station: an answer is wanted without a connection, while a new one isn't quiet yet, and while a
 -- request has no reply. A station that is idle has ended a cycle, and one that is fine changes nothing
 abbrev pub after_look : LinkHealth → Moment → Wanted → Wanted
 after_look Fine moment w = w
@@ -31,11 +31,11 @@ after_look Unquiet moment w = record w { since = wanted_from w.since moment }
 after_look Unheard moment w = record w { since = wanted_from w.since moment }
 
 -- whether at least `least` milliseconds passed from `from` to `now`, both by the clock for deadlines
-abbrev pub has_lasted : ℕ → ℕ → ℕ → Bool
+abbrev pub has_lasted : (from now least : ℕ) → Bool
 has_lasted from now least = not (nat_lt (now - from) least)
 
 -- the moment since which an answer is wanted, if that is at least `least` milliseconds before `now`, by the clock for deadlines
-abbrev pub lasting : ℕ → ℕ → Option Moment → Option Moment
+abbrev pub lasting : (now least : ℕ) → Option Moment → Option Moment
 lasting now least None = None
 lasting now least (Some since) = if has_lasted since.elapsed now least then Some since else None
 
@@ -49,8 +49,8 @@ abbrev pub after_looks : List Look → Wanted → Wanted
 after_looks [] w = w
 after_looks (look ∷ later) w = after_looks later (after_look look.health look.moment w)
 
--- as long as no answer comes, the moment since which one is wanted stays the same, whatever becomes of connections and cycles
--- meanwhile
+-- if the cycle has had no answer yet, and as long as none comes, the moment since which one is wanted stays the same, whatever
+-- becomes of connections and cycles meanwhile
 abbrev pub WantCountsOverConnections : Type 0
 WantCountsOverConnections =
     (looks : List Look) (since : Moment) (w : Wanted) → w.heard ≡ false → w.since ≡ Some since → (after_looks looks w).since ≡ Some since

@@ -10,18 +10,22 @@ use crate::stop::Stop;
 use crate::task_text::read_task_text;
 use crate::work::commands_in;
 use gc_lines::{Sink, Source, write_whole};
-use gc_messages::{Streams, report_spaces, report_turns, report_unasked, report_unused_names};
+use gc_messages::{Streams, report_odd_angles, report_spaces, report_unasked, report_unused_names};
 use gc_texts::{Again, RunFault, Task, Tasks};
 use gc_words::Choice;
 use std::alloc::Global;
 use std::io::{self, Write};
 use std::process::ExitCode;
 
-/// Reads the text of a station, and writes what a station would do with it: the setup, and the chains of a cycle with the names
-/// of their targets, their deadlines in milliseconds, and after what they are sent again. What looks wrong, and is no fault, is
-/// reported on the messages: names and places without a command, spaces at ends of lines, angles outside one turn. Status 0:
-/// the text can be measured. Status 1: it is refused, which is reported as a run reports it, or the output failed. The streams
-/// are handed back.
+/// Reads the text of a station, and writes on the output what a station would do with it: the setup, and the chains of a cycle with
+/// the names of their targets, the deadlines of their commands in milliseconds, and how often and after what they may be sent again.
+/// What looks wrong, and is no fault, is reported on the messages, as far as they can be written: angles outside one turn, targets
+/// of which the text says where they are, though no command measures their direction, names of targets without a command, and
+/// spaces at ends of lines.
+///
+/// Status 0: the text can be measured. Status 1: it can't be read or is refused, memory was refused, or the output failed, each of
+/// which is reported as a run reports it. `Err`: this report couldn't be written. The streams are handed back. No clause says
+/// what is written.
 pub fn check_task_text<S: Source, K: Sink, E: Write>(
     alloc: Global,
     choice: Choice,
@@ -50,10 +54,10 @@ pub fn check_task_text<S: Source, K: Sink, E: Write>(
     (streams, status)
 }
 
-// Reports what looks wrong in the text of these tasks, and is no fault: angles outside one turn, places and names without a command,
-// spaces at ends of lines.
+// Reports what looks wrong in the text of these tasks, and is no fault: angles outside one turn, targets of which the text says where
+// they are, though no command measures their direction, names of targets without a command, and spaces at ends of lines.
 fn report_doubts<E: Write>(text: &[u8], tasks: &Tasks, messages: &mut E) -> io::Result<()> {
-    report_turns(text, tasks, messages)?;
+    report_odd_angles(text, tasks, messages)?;
     report_unasked(tasks, messages)?;
     report_unused_names(tasks, messages)?;
     report_spaces(text, messages)
@@ -71,7 +75,8 @@ fn write_outline<K: Sink>(alloc: Global, tasks: &Tasks, output: &mut K) -> Resul
     }
 }
 
-// Writes the outline of these tasks: the setup, if there is one, and the chains of a cycle.
+// Writes the outline of these tasks: a line for each command of the setup, if there is one, and a line for each chain of a cycle, with
+// a line before each of the two parts that counts its commands.
 fn outline_tasks<W: Write>(tasks: &Tasks, outline: &mut W) -> io::Result<()> {
     let setup = tasks.setup;
     if setup > 0 {
@@ -87,7 +92,7 @@ fn outline_tasks<W: Write>(tasks: &Tasks, outline: &mut W) -> io::Result<()> {
     outline_chains(tasks, outline)
 }
 
-// Writes a line for each chain of a cycle: its target, its commands, and how often and after what it is sent again.
+// Writes a line for each chain of a cycle: its target, its commands, and how often and after what it may be sent again.
 fn outline_chains<W: Write>(tasks: &Tasks, outline: &mut W) -> io::Result<()> {
     // Of the chain that is being written: how often it may be sent again, and after what. `None`: none is.
     let mut chain: Option<(u64, Again)> = None;
@@ -108,7 +113,7 @@ fn outline_chains<W: Write>(tasks: &Tasks, outline: &mut W) -> io::Result<()> {
     end_chain(chain, outline)
 }
 
-// Writes the front of a chain's line: its target.
+// Writes the front of the line of a chain, or of a command of the setup: its target.
 fn begin_chain<W: Write>(tasks: &Tasks, target: u32, outline: &mut W) -> io::Result<()> {
     write!(outline, "  ")?;
     write_target(target, tasks.name_of(target), outline)?;
@@ -125,7 +130,8 @@ pub fn write_target<W: Write>(target: u32, name: &[u8], out: &mut W) -> io::Resu
     Ok(())
 }
 
-// Writes a command after its chain's target: the number of its procedure, `now` if it sets the clock, and its deadline.
+// Writes a command after its target: the number of its procedure, `now` if it sets the clock to the moment at which it is sent, and
+// its deadline in milliseconds.
 fn outline_command<W: Write>(task: &Task, outline: &mut W) -> io::Result<()> {
     let procedure = task.command.call.number();
     let deadline = task.deadline;
@@ -151,6 +157,7 @@ fn end_chain<W: Write>(chain: Option<(u64, Again)>, outline: &mut W) -> io::Resu
 // Writes the return codes and the outcomes after which a chain is sent again, each after a space.
 fn outline_rule<W: Write>(rule: &Again, outline: &mut W) -> io::Result<()> {
     for code in rule.codes.codes {
+        // The places after the codes hold 0.
         if code != 0 {
             write!(outline, " {code}")?;
         }

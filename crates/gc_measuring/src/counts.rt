@@ -1,21 +1,23 @@
-//! How the end of a station's run is reported: by the counts of a run that is done, or by the fault for which it stopped.
+//! How the end of a station's run is reported: by its counts if it is done or its end was asked for, else by the fault for which it
+//! stopped.
 
 ghost use Rattle.std.specs.Prelude.{◌≤◌, IfOk, OnOk};
 ghost use Rattle.std.specs.Io.KnownBytes.{Appends};
 ghost use Rattle.std.specs.Process.{exit_status};
-ghost use Rattle.gc_measuring.specs.Measuring.{ReportsCounts, again_text, ends_text, others_text, tally_line};
+ghost use Rattle.gc_measuring.specs.Measuring.{ReportsEndOfRun, main_counts_text, other_counts_text, repeats_text, tally_line};
 
 use crate::stop::Stop;
 use gc_station::Tally;
 use std::io::{self, Write};
 use std::process::ExitCode;
 
-/// Reports how a run ended: with status 0 and the line of its counts, or with status 1 and the lines of its fault.
-pub(crate) fn report_counts<E: Write>(
+/// Reports how a run ended: with status 0 and the line of its counts, or with status 1 and the lines of its fault. `Err`: the
+/// messages couldn't be written.
+pub(crate) fn report_end_of_run<E: Write>(
     end: Result<Tally, Stop>,
     messages: &mut E,
 ) -> io::Result<ExitCode>
-    ensures told { IfOk result (λ status. ReportsCounts end (exit_status status) (E.contents messages.old) (E.contents messages.new)) }
+    ensures told { IfOk result (λ status. ReportsEndOfRun end (exit_status status) (E.contents messages.old) (E.contents messages.new)) }
     ensures bound { IfOk result (λ status. exit_status status ≤ 1) }
 {
     match end {
@@ -30,18 +32,18 @@ pub(crate) fn report_counts<E: Write>(
     }
 }
 
-// Writes the line of the counts: of each command's last attempt, and how many times a chain was sent again.
+// Writes the line of the counts: how the commands of each chain's last attempt ended, and how many times a chain was sent again.
 fn write_counts<E: Write>(tally: Tally, messages: &mut E) -> io::Result<()>
     ensures { OnOk result (Appends (E.contents messages.old) (E.contents messages.new) (tally_line tally)) }
 {
-    write_ends(tally, messages)?;
-    write_others(tally, messages)?;
-    write_again(tally, messages)
+    write_main_counts(tally, messages)?;
+    write_other_counts(tally, messages)?;
+    write_repeats(tally, messages)
 }
 
-/// Writes the front of the line of the counts: how many commands were answered, late and lost.
-pub fn write_ends<E: Write>(tally: Tally, messages: &mut E) -> io::Result<()>
-    ensures { OnOk result (Appends (E.contents messages.old) (E.contents messages.new) (ends_text tally)) }
+/// Writes the front of the line of the counts: how many commands were answered, late and lost, and a space.
+pub fn write_main_counts<E: Write>(tally: Tally, messages: &mut E) -> io::Result<()>
+    ensures { OnOk result (Appends (E.contents messages.old) (E.contents messages.new) (main_counts_text tally)) }
 {
     let Tally {
         answered,
@@ -52,9 +54,10 @@ pub fn write_ends<E: Write>(tally: Tally, messages: &mut E) -> io::Result<()>
     write!(messages, "answered {answered} late {late} lost {lost} ")
 }
 
-/// Writes the middle of the line of the counts, after `write_ends`: how many commands were skipped, unreadable, missed and elsewhere.
-pub fn write_others<E: Write>(tally: Tally, messages: &mut E) -> io::Result<()>
-    ensures { OnOk result (Appends (E.contents messages.old) (E.contents messages.new) (others_text tally)) }
+/// Writes the middle of the line of the counts, after `write_main_counts`: how many commands were skipped, unreadable, missed and
+/// elsewhere.
+pub fn write_other_counts<E: Write>(tally: Tally, messages: &mut E) -> io::Result<()>
+    ensures { OnOk result (Appends (E.contents messages.old) (E.contents messages.new) (other_counts_text tally)) }
 {
     let Tally {
         skipped,
@@ -69,9 +72,9 @@ pub fn write_others<E: Write>(tally: Tally, messages: &mut E) -> io::Result<()>
     )
 }
 
-// Writes the end of the line of the counts: how many times a chain was sent again.
-fn write_again<E: Write>(tally: Tally, messages: &mut E) -> io::Result<()>
-    ensures { OnOk result (Appends (E.contents messages.old) (E.contents messages.new) (again_text tally)) }
+// Writes the end of the line of the counts, after `write_other_counts`: how many times a chain was sent again.
+fn write_repeats<E: Write>(tally: Tally, messages: &mut E) -> io::Result<()>
+    ensures { OnOk result (Appends (E.contents messages.old) (E.contents messages.new) (repeats_text tally)) }
 {
     let again = tally.again;
     writeln!(messages, " again {again}")

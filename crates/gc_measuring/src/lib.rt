@@ -19,7 +19,7 @@ mod wanted;
 mod work;
 
 pub use checking::{check_task_text, write_target};
-pub use counts::{write_ends, write_others};
+pub use counts::{write_main_counts, write_other_counts};
 pub use measure::run_station_text;
 pub use plan::plan_of;
 pub use recording::{Appended, append_at};

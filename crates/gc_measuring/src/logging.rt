@@ -50,9 +50,9 @@ fn begins_log(front: &[u8]) -> bool {
     true
 }
 
-// Opens the file of a log, and cuts off a torn last line. The file is refused, and stays as it is, if it can't be opened or
-// read, is no regular file, doesn't begin as a log does, or is held by another program or by the records of this one. If a file
-// can't be locked, it is taken unlocked.
+// Opens the file of a log, which is made if the path is free, and cuts off a torn last line. The file is refused, and stays as it
+// is, if it can't be opened or read, is no regular file, doesn't begin as a log does, or is held by another program or by the
+// records of this one. It is refused, too, if the cut fails. If a file can't be locked, it is taken unlocked.
 fn open_log<R: Files<File = File>>(rt: &R, path: &str) -> Result<RowsFile<SystemFile>, Unfit> {
     let file = open_file(rt, path)?;
     if file.hold() == Err(Unfit::Held) {
@@ -72,7 +72,8 @@ fn open_log<R: Files<File = File>>(rt: &R, path: &str) -> Result<RowsFile<System
 }
 
 /// Opens the log at `log`, and notes in `noticed` how many bytes of a torn line were cut off. The file grows to `log.most` bytes
-/// at most. Returns `None` if no log is asked for, and fails with `Log` if the file can't be had as a log.
+/// at most; if its length can't be read, nothing is appended. Returns `None` if no log is asked for, and fails with `Log` if the
+/// file can't be had as a log.
 pub(crate) fn log_at<'a, R: Files<File = File>>(
     rt: &R,
     noticed: &'a Cell<Noticed>,
@@ -121,7 +122,7 @@ impl<'a, K: Sink> Sink for LogSink<'a, K> {
             Ok(n) => Ok(n),
             Err(failed) => {
                 let is_full = self.sink.is_full();
-                note_log(self.noticed, is_full);
+                note_log_end(self.noticed, is_full);
                 Err(failed)
             }
         }
@@ -132,8 +133,8 @@ impl<'a, K: Sink> Sink for LogSink<'a, K> {
     }
 }
 
-// Notes that the log ended, at its bound or because it couldn't be written.
-fn note_log(noticed: &Cell<Noticed>, is_full: bool) {
+// Notes that the log ended, at its bound (`is_full`) or because it couldn't be written.
+fn note_log_end(noticed: &Cell<Noticed>, is_full: bool) {
     let seen = noticed.get();
     let log = if is_full {
         LogSeen::Full
@@ -146,7 +147,7 @@ fn note_log(noticed: &Cell<Noticed>, is_full: bool) {
     });
 }
 
-// Notes how many bytes of a torn line were cut off.
+// Notes how many bytes of a torn line of the log were cut off (`torn`).
 fn note_torn(noticed: &Cell<Noticed>, torn: u64) {
     let seen = noticed.get();
     noticed.set(Noticed {
@@ -158,8 +159,9 @@ fn note_torn(noticed: &Cell<Noticed>, torn: u64) {
     });
 }
 
-/// Measures over a link with a log, reports how the run ended, and then whether the log was lost. Returns the streams and the
-/// status of the report. What was seen of link and output at each act is noted in `kept`.
+/// Measures over a link with a log, and reports how the run ended, as `measure_over` does. After that it reports, if so, that the log
+/// isn't complete: it ended at its bound, or its file failed. Returns the streams and the status of the first report, or the error of
+/// a report that couldn't be written. What was seen of link and output at each act is noted in `kept`.
 pub(crate) fn measure_logged<L: Link, G: Sink, S: Source, K: Durable, E: Write>(
     alloc: Global,
     logged: &mut Logged<L, G>,
@@ -168,12 +170,12 @@ pub(crate) fn measure_logged<L: Link, G: Sink, S: Source, K: Durable, E: Write>(
     streams: Streams<S, K, E>,
     kept: &mut Kept,
 ) -> (Streams<S, K, E>, io::Result<ExitCode>)
-    // As without a log; and the log was lost exactly if the messages say so after that.
+    // As without a log; and after that the messages say that the log isn't complete exactly if its sink has ended or failed.
     ensures told { IfOk result.1 (λ status. ReportsLogged S.Source K.Sink K.is_durable E.contents station
         (L.acts logged.old.link) (L.acts logged.new.link) kept.old.turns kept.new.turns streams result.0
         (G.failed (sink_of logged.new)) (exit_status status)) }
 
-    // Status 0 only if the source gave a text to its end, and the run over its commands is done.
+    // Status 0 only if the source gave a text to its end, and the run over its commands is done, or its end was asked for.
     ensures done { IfOk result.1 (λ status. exit_status status ≡ 0 → MeasuresAll S.Source K.Sink E.contents station
         (L.acts logged.old.link) (L.acts logged.new.link) kept.old.turns kept.new.turns streams result.0) }
     ensures bound { IfOk result.1 (λ status. exit_status status ≤ 1) }
@@ -183,8 +185,8 @@ pub(crate) fn measure_logged<L: Link, G: Sink, S: Source, K: Durable, E: Write>(
     (streams, ended)
 }
 
-// Writes a line if the log was lost (`is_lost`), after the report of how the run ended. The status of that report (`ended`) stays
-// as it was; if it is an error, nothing is written.
+// Writes a line if the log isn't complete (`is_lost`), after the report of how the run ended, whose status (`ended`) stays as it was.
+// `Err`: `ended` is an error, and then nothing is written, or this line couldn't be written.
 fn report_loss<E: Write>(
     ended: io::Result<ExitCode>,
     is_lost: bool,

@@ -2,7 +2,7 @@
 
 ghost use Rattle.std.specs.Prelude.{◌≡◌, ◌+◌, ◌≤◌, OnOk, IfErr};
 ghost use Rattle.std.specs.Io.KnownBytes.{Appends};
-ghost use Rattle.gc_measuring.specs.Measuring.{text_in, front_text, course_of, RunsCourse, CourseKeepsUp, MeasuresText, IsUntouched, AllLast};
+ghost use Rattle.gc_measuring.specs.Measuring.{text_in, front_text, survey_of, RunsSurvey, SurveyKeepsUp, MeasuresText, IsUntouched, AllLast};
 ghost use Rattle.gc_measuring.specs.Stops.{with_fault};
 ghost use Rattle.gc_measuring.specs.Telling.{ports_seen};
 ghost use Rattle.gc_lines.specs.Ports.{FailsWith, TakesFront};
@@ -18,7 +18,7 @@ use crate::task_text::read_task_text;
 use crate::work::{Work, work_of};
 use gc_lines::{Durable, PortFailed, Source, write_whole};
 use gc_links::{Link, Moment};
-use gc_messages::{Noticed, Streams, report_turns, report_unasked};
+use gc_messages::{Noticed, Streams, report_odd_angles, report_unasked};
 use gc_rows::write_head;
 use gc_station::{Book, Kept, LinkHealth, Tally, is_well, run_station};
 use gc_texts::{Ending, RunFault, Stamp, Tasks, Wish};
@@ -34,13 +34,14 @@ use std::io::Write;
 /// Before the link is used or anything is written, `Text` comes with `Read` if the input failed, with `InputTooLong` if it gave
 /// more than 65,536 bytes, and with `Memory` if memory was refused, `Line` at the first faulty line, and `Empty` if the text
 /// has no command of a cycle. `Run` comes with the faults of [`run_station`], and with `Output` if the output failed: before
-/// the records, and then the link wasn't used, or at a record.
+/// the records, and then the link wasn't used, or when records were written or synced.
 ///
 /// The messages get at the start what is odd about the text: each angle of a positioning that lies outside one turn, and each
-/// target of which the text says where it is, though no command measures its direction. Then they get signs of life, each
-/// kind at most once a minute, if the choice has them, and what `spot` notices of the line. If they can't be written the
-/// station measures on. If the run ends because it is stale, they get a line that says since when no answer of a good quality
-/// came.
+/// target of which the text says where it is, though no command measures its direction. If somebody watches (`choice.watch`),
+/// they then get the number of a cycle's commands and the place, signs of life, each kind at most once a minute (the status line
+/// of a terminal once a second), and what `spot` has noticed as odd about the line. In any case they get what it has noticed of
+/// the files, and, if the run ends because it is stale, since when no answer of a good quality came. If they can't be written the
+/// station measures on.
 pub fn run_station_text<L: Link, S: Source, K: Durable, E: Write>(
     alloc: Global,
     link: &mut L,
@@ -79,7 +80,7 @@ pub fn run_station_text<L: Link, S: Source, K: Durable, E: Write>(
     let Ok(()) = write_front(&mut streams.output, station.layout) else {
         return (streams, Err(Stop::Run(RunFault::Output)));
     };
-    let _ = report_turns(text.as_slice(), &tasks, &mut streams.messages);
+    let _ = report_odd_angles(text.as_slice(), &tasks, &mut streams.messages);
     let _ = report_unasked(&tasks, &mut streams.messages);
     // A run may take months: the memory of the text is given back first.
     drop(text);
@@ -103,9 +104,9 @@ fn measure<L: Link, S, K: Durable, E: Write>(
     streams: Streams<S, K, E>,
     kept: &mut Kept,
 ) -> (Streams<S, K, E>, Result<Tally, RunFault>)
-    ensures ran { RunsCourse (course_of station max_turns work.setup work.tasks.items work.named.names.items)
+    ensures ran { RunsSurvey (survey_of station max_turns work.setup work.tasks.items work.named.names.items)
         (L.acts link.old) (L.acts link.new) (K.taken streams.output) (K.taken result.0.output) result.1 }
-    ensures keeps { CourseKeepsUp (course_of station max_turns work.setup work.tasks.items work.named.names.items)
+    ensures keeps { SurveyKeepsUp (survey_of station max_turns work.setup work.tasks.items work.named.names.items)
         (L.acts link.old) (L.acts link.new) (K.taken streams.output) kept.old.turns kept.new.turns result.1 }
     ensures output { FailsAtOutput (K.failed streams.output) (K.failed result.0.output) result.1 }
     ensures is_durable { LastsBut (K.is_durable result.0.output) result.1 }
@@ -144,8 +145,8 @@ fn measure<L: Link, S, K: Durable, E: Write>(
     (streams, end)
 }
 
-// Writes what comes before the records, unless the sink has it already (`layout.headed`). `Err`: the write failed, with the number of bytes
-// taken.
+// Writes what comes before the records, unless the sink has it already (`layout.headed`). `Err(n)`: the sink took the first n bytes of
+// it, which aren't all, and failed.
 fn write_front<K: Durable>(sink: &mut K, layout: Layout) -> Result<(), usize>
     ensures failed { FailsWith result (K.failed sink.old) (K.failed sink.new) }
     ensures ok { OnOk result (Appends (K.taken sink.old) (K.taken sink.new) (front_text layout)) }
@@ -158,8 +159,8 @@ fn write_front<K: Durable>(sink: &mut K, layout: Layout) -> Result<(), usize>
     write_head(sink, layout.form)
 }
 
-// When the last answer of a good quality came, in milliseconds since 1970, once a command had this ending at the moment `utc`. It was
-// `fresh` before.
+// When the last answer of a good quality came, or the run began, once a command had this ending at the moment `utc`. Before that it
+// was `fresh`. All are in milliseconds since 1970.
 fn fresh_after(fresh: u64, utc: u64, ending: Ending<'_>) -> u64 {
     if is_well(ending) { utc } else { fresh }
 }
@@ -178,8 +179,8 @@ struct Records<'a, K, E> {
 }
 
 impl<'a, K, E: Write> Records<'a, K, E> {
-    // Writes at the end of a run what wasn't reported yet, and first, if the run is stale, since when no answer of a good quality
-    // came. The sink and the messages are handed back.
+    // Ends the reporter at the end of a run, as `Reporter::end` says, and reports before that, if the run is stale (`is_stale`), since
+    // when no answer of a good quality came. The sink and the messages are handed back.
     fn end(self, is_stale: bool) -> (K, E)
         ensures { result.0 ≡ self.entry.sink }
     {
@@ -192,7 +193,7 @@ impl<'a, K, E: Write> Records<'a, K, E> {
             mut reporter,
         } = self;
         if is_stale {
-            reporter.stale(fresh);
+            reporter.report_stale(fresh);
         }
         (sink, reporter.end())
     }
@@ -241,6 +242,6 @@ impl<'a, K: Durable, E: Write> Book for Records<'a, K, E> {
 
     // Reports on the messages that the cycle wasn't done when the next was due, if a line of this kind may be written.
     fn overran(&mut self, cycle: u64) {
-        self.reporter.overran(cycle);
+        self.reporter.report_overrun(cycle);
     }
 }

@@ -24,7 +24,7 @@ pub fn plan_of(choice: Choice, setup: usize, tasks: &[Task]) -> Plan
     }
 }
 
-// The longest deadline in use: the greatest of this one and those of the tasks.
+// The longest deadline in use, in milliseconds: the greatest of this one and those of the tasks.
 fn longest(deadline: u64, tasks: &[Task]) -> u64
     ensures { result ≡ longest deadline tasks.now }
 {

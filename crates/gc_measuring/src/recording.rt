@@ -1,17 +1,15 @@
 //! A station that appends its records, as rows, to a file that outlasts the program.
 
-ghost use Rattle.std.specs.Prelude.{◌≡◌, ◌≤◌, ℕ, [], Ok, IfOk, OnOk, OnErr};
+ghost use Rattle.std.specs.Prelude.{◌≡◌, ◌≤◌, [], Ok, IfOk, OnOk, OnErr};
 ghost use Rattle.std.specs.Io.KnownBytes.{Appends};
 ghost use Rattle.std.specs.Option.{is_some};
 ghost use Rattle.std.specs.Process.{exit_status};
-ghost use Rattle.gc_words.specs.Stations.{form_of_rows};
-ghost use Rattle.gc_measuring.specs.Recording.{fault_of_unfit, opened_lines, rotation_line, unfit_text};
+ghost use Rattle.gc_measuring.specs.Recording.{IsOpenedFor, ReportsOpening, fault_of_unfit, opened_lines, rotation_line, unfit_text};
 ghost use Rattle.gc_measuring.specs.Appending.{file_of, acts_in};
 ghost use Rattle.gc_measuring.specs.Telling.{ReportsAppending, AppendsAll};
-ghost use Rattle.gc_rows.specs.Records.{head_text, sign_text};
-ghost use Rattle.gc_files.specs.Sinks.{torn_in, steps_in, IsOpenedAs};
+ghost use Rattle.gc_files.specs.Sinks.{steps_in};
 
-use crate::counts::report_counts;
+use crate::counts::report_end_of_run;
 use crate::spot::Spot;
 use crate::station::measure_at;
 use crate::stop::Stop;
@@ -43,7 +41,7 @@ fn fault_of_unfit(why: Unfit) -> RunFault
     }
 }
 
-// Writes what the opening of a file did: how many rows it copied, and how many bytes of a torn row it cut off.
+// Writes what the opening of a file did: how many rows it copied, and how many bytes of a torn row it cut off; nothing of what is 0.
 fn report_opened<E: Write>(copied: u64, torn: u64, messages: &mut E) -> io::Result<()>
     ensures { OnOk result (Appends (E.contents messages.old) (E.contents messages.new) (opened_lines copied torn)) }
 {
@@ -51,8 +49,9 @@ fn report_opened<E: Write>(copied: u64, torn: u64, messages: &mut E) -> io::Resu
     report_torn(torn, messages)
 }
 
-// Writes after the fault's line, for a file that doesn't begin as this station's rows do, what may have happened and how to
-// rotate the file. The status stays as it was.
+// Writes after the fault's line, for a file that doesn't begin as this station's rows do (`Foreign`), what may have happened and
+// how to rotate the file, and for any other nothing. The status of the report of the fault (`ended`) stays as it was. `Err`: `ended`
+// is an error, and then nothing is written, or this line couldn't be written.
 fn report_rotation<E: Write>(
     ended: io::Result<ExitCode>,
     why: Unfit,
@@ -91,8 +90,8 @@ fn open_records<R: Files<File = File>, E: Write>(
     messages: &mut E,
 ) -> Result<(RowsFile<SystemFile>, io::Result<()>), Unfit>
     ensures fresh { IfOk result (λ opened. steps_in opened.0 ≡ []) }
-    ensures asked { IfOk result (λ opened. IsOpenedAs (head_text (form_of_rows station.layout.form)) (sign_text (form_of_rows station.layout.form)) recording.entry.sync opened.0) }
-    ensures told { IfOk result (λ opened. (copied : ℕ) × OnOk opened.1 (Appends (E.contents messages.old) (E.contents messages.new) (opened_lines copied (torn_in opened.0)))) }
+    ensures asked { IfOk result (λ opened. IsOpenedFor station recording.entry.sync opened.0) }
+    ensures told { IfOk result (λ opened. ReportsOpening opened.0 opened.1 (E.contents messages.old) (E.contents messages.new)) }
     ensures untold { OnErr result (E.contents messages.new ≡ E.contents messages.old) }
 {
     let form = station.form_of_rows();
@@ -130,13 +129,15 @@ impl<'a, R: Files<File = File>> Appended<'a, R> {
     }
 }
 
-/// Measures at a site, and appends the records as rows to a file, which is opened before anything else is done. If the file
-/// can't be had, nothing is read or sent, and the fault is `RecordsUnopened`, `RecordsHeld`, `RecordsForeign`, or `Output` if a
-/// call of the system failed. For `RecordsForeign` the messages also say how to rotate the file. What was in the file stays,
-/// but for half a row at its end, which is cut off. If an earlier run was killed, or a sync failed, the rows are copied to a
-/// new file. Both are reported. If the path no longer leads to the file, rows go on in a new one there, if it can be had. The
-/// streams are handed back, and the file and the link, if there was a file; [`Appended::end`] is left to the caller. What was
-/// seen of link and file at each act is noted in `kept`.
+/// Measures at a site, as [`measure_at`] does, and appends the records as rows to a file, which is opened before anything else is
+/// done. If the file can't be had, nothing is read or sent, and the fault, which is reported with status 1, is `RecordsUnopened`,
+/// `RecordsHeld`, `RecordsForeign`, or `Output` if a call of the system failed. For `RecordsForeign` the messages also say how to
+/// rotate the file. What was in the file stays, but for half a row at its end, which is cut off. If a mark beside the file says
+/// that an earlier run was killed or a sync failed, the rows are copied to a new file. Cut and copy are reported. If the path no longer
+/// leads to the file, rows go on in a new one there, if it can be had.
+///
+/// The streams are handed back, and, if the file could be had, the file and the link, if there was one; [`Appended::end`] is left
+/// to the caller. What was seen of link and file at each act is noted in `kept`.
 pub fn append_at<
     'a,
     R: Net<Listener = TcpListener, Stream = TcpStream> + Clock + Files<File = File>,
@@ -192,6 +193,6 @@ fn refuse_file<E: Write>(why: Unfit, messages: &mut E) -> io::Result<ExitCode>
     ensures told { IfOk result (λ status. (exit_status status ≡ 1) × Appends (E.contents messages.old) (E.contents messages.new) (unfit_text why)) }
 {
     let stop = Stop::Run(fault_of_unfit(why));
-    let ended = report_counts(Err(stop), messages);
+    let ended = report_end_of_run(Err(stop), messages);
     report_rotation(ended, why, messages)
 }

@@ -49,7 +49,7 @@ impl<E: Write> Reporter<E> {
         self.signs.count(stamp, ending);
     }
 
-    /// Writes before an act what is new of the link, the line and the files.
+    /// Writes before an act what is new of the link and the line, unless nobody watches, and in any case what is new of the files.
     pub(crate) fn report(&mut self, noticed: Noticed, health: LinkHealth, moment: Moment) {
         let Noticed {
             odd,
@@ -62,17 +62,18 @@ impl<E: Write> Reporter<E> {
         self.report_files(files, moment);
     }
 
-    // Writes what became of the files, also if no signs of life are written.
+    // Writes what is new of the files, also if no signs of life are written.
     fn report_files(&mut self, files: FilesSeen, moment: Moment) {
-        if let Some(news) = self.files.news(files, moment) {
+        if let Some(news) = self.files.take_news(files, moment) {
             let _ = self.signs.clear(&mut self.messages);
             let _ = news.report(&mut self.messages);
         }
     }
 
-    /// Writes that a cycle was not done when the next was due, if a line of this kind may be written.
-    pub(crate) fn overran(&mut self, cycle: u64) {
-        if self.signs.may_tell_late() {
+    /// Writes that this cycle was not done when the next was due, unless nobody watches or a line of this kind was written in the last
+    /// minute.
+    pub(crate) fn report_overrun(&mut self, cycle: u64) {
+        if self.signs.may_report_overrun() {
             let _ = self.signs.clear(&mut self.messages);
             let _ = tell_overrun(&mut self.messages, cycle);
         }
@@ -80,11 +81,12 @@ impl<E: Write> Reporter<E> {
 
     /// Writes, of a run that ended because it is stale, since when no answer of a good quality came. `since` is in milliseconds since
     /// 1970. The line is written also if the choice has no signs of life.
-    pub(crate) fn stale(&mut self, since: u64) {
+    pub(crate) fn report_stale(&mut self, since: u64) {
         let _ = self.signs.report_stale(since, &mut self.messages);
     }
 
-    /// Writes at the end what wasn't reported yet, and hands the messages back.
+    /// Writes at the end how many commands were skipped that no line reported yet, as `Signs::end` does, clears the status line of a
+    /// terminal, and hands the messages back. What became of the files since the last `report` isn't written.
     pub(crate) fn end(self) -> E {
         let Reporter {
             watch: _,
@@ -97,7 +99,8 @@ impl<E: Write> Reporter<E> {
     }
 }
 
-// Writes the line of a station's start: how many commands there are, to which place they go, and what the station waits for first.
+// Writes the line of a station's start: how many commands a cycle has (`count`), to which place they go, and what the station waits
+// for first.
 fn report_start<E: Write>(place: Place<'_>, count: usize, messages: &mut E) -> io::Result<()> {
     let commands = if count == 1 { "command" } else { "commands" };
     writeln!(

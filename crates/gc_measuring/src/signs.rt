@@ -6,14 +6,14 @@ ghost use Rattle.gc_texts.specs.Endings.{ending_seen};
 
 use crate::wanted::{Wanted, has_lasted};
 use gc_links::Moment;
-use gc_messages::{Bounded, MINUTE, Oddities};
+use gc_messages::{MINUTE, Oddities, ShortText};
 use gc_station::{LinkHealth, Tally, is_well};
 use gc_texts::{Ending, Stamp, stamp_text};
 use gc_words::Watch;
 use std::io::{self, Write};
 
-// How long a trouble has to last before it is reported, in milliseconds. A station is looked at each second, so the line comes
-// within a minute.
+// How long a line that isn't quiet, or an answer that doesn't come, has to last before it is reported, in milliseconds. A station is
+// looked at each second, so the message comes within a minute.
 const LASTING: u64 = 59_000;
 
 // How many columns the status line of a terminal has at most.
@@ -22,7 +22,7 @@ const COLUMNS: usize = 79;
 // A second, in milliseconds: the status line of a terminal is rewritten once a second at most, and gives ages in seconds.
 const SECOND: u64 = 1_000;
 
-// How often a line of one kind may be written: when it was written last, in milliseconds of the clock for deadlines.
+// Limits how often a line of one kind is written. `last`: when one was written last, in milliseconds of the clock for deadlines.
 #[derive(Clone, Copy)]
 struct RateLimit {
     last: Option<u64>,
@@ -85,7 +85,7 @@ pub(crate) struct Signs {
     unquiet: RateLimit,
     unprepared: RateLimit,
     unanswered: RateLimit,
-    late: RateLimit,
+    overrun: RateLimit,
     skipping: RateLimit,
     shown: RateLimit,
 }
@@ -119,13 +119,13 @@ impl Signs {
             unquiet: RateLimit::new(),
             unprepared: RateLimit::new(),
             unanswered: RateLimit::new(),
-            late: RateLimit::new(),
+            overrun: RateLimit::new(),
             skipping: RateLimit::new(),
             shown: RateLimit::new(),
         }
     }
 
-    /// Notes a record, as `note` does, and counts it.
+    /// Counts a record by its ending, and notes its cycle, whether a command was answered or skipped, and whether the setup isn't done.
     pub(crate) fn count(&mut self, stamp: Stamp, ending: Ending<'_>)
         ensures { self.new.counts ≡ counted (ending_seen ending.entry) self.old.counts }
     {
@@ -144,14 +144,16 @@ impl Signs {
             self.unprepared_since = Some(stamp.utc);
         }
         match ending {
-            Ending::Answered(..) | Ending::Unreadable(..) | Ending::Elsewhere(_) => self.answer(),
-            Ending::Skipped => self.skip(stamp.utc),
+            Ending::Answered(..) | Ending::Unreadable(..) | Ending::Elsewhere(_) =>
+                self.note_answer(),
+            Ending::Skipped => self.note_skipped(stamp.utc),
             Ending::Late | Ending::Lost | Ending::Missed => {}
         }
     }
 
-    // Notes that an answer came, also one whose values can't be read or whose direction is elsewhere.
-    fn answer(&mut self)
+    // Notes that an answer came, also one with a return code other than 0, with values that can't be read, or
+    // with a direction that is elsewhere.
+    fn note_answer(&mut self)
         ensures { self.new.counts ≡ self.old.counts }
     {
         self.answered = Some(self.elapsed);
@@ -159,8 +161,8 @@ impl Signs {
         self.wanted.hear();
     }
 
-    // Counts a command that was skipped, for the next line on skipped commands.
-    fn skip(&mut self, utc: u64)
+    // Counts a command that was skipped at `utc`, in milliseconds since 1970, for the next line on skipped commands.
+    fn note_skipped(&mut self, utc: u64)
         ensures { self.new.counts ≡ self.old.counts }
     {
         if self.skipped == 0 {
@@ -169,13 +171,15 @@ impl Signs {
         self.skipped = self.skipped.saturating_add(1);
     }
 
-    /// Whether a line on a cycle that isn't done in time may be written now. If so, it counts as written.
-    pub(crate) fn may_tell_late(&mut self) -> bool {
-        self.watch != Watch::Nobody && self.late.allows(self.elapsed, MINUTE)
+    /// Whether a line on a cycle that wasn't done when the next was due may be written now: somebody watches, and none was written in
+    /// the last minute. If so, it counts as written.
+    pub(crate) fn may_report_overrun(&mut self) -> bool {
+        self.watch != Watch::Nobody && self.overrun.allows(self.elapsed, MINUTE)
     }
 
     /// Takes in the health of the link and the moment, and writes the lines that are due. `is_lost`: the last connection was lost
-    /// or couldn't be made. If nobody watches it does nothing.
+    /// or couldn't be made. No trouble is reported before the clock is read first (until then the moment is 0). If nobody watches
+    /// it does nothing. `Err`: the messages couldn't be written, and the lines after that are left out.
     pub(crate) fn see<E: Write>(
         &mut self,
         health: LinkHealth,
@@ -205,9 +209,9 @@ impl Signs {
         self.elapsed = moment.elapsed;
     }
 
-    // Writes the lines that are due: on a missing connection, on a setup that isn't done, on a line that isn't quiet, on an
-    // answer that doesn't come, and on the end of such a trouble. `before` is the health of the link at the last look,
-    // and `is_lost` as in `see`.
+    // Notes whether an answer is wanted, and writes the lines that are due, each kind at most once a minute: on a missing connection,
+    // on a setup that isn't done, on a line that isn't quiet, on an answer that doesn't come, and on the end of such a trouble.
+    // `before` is the health of the link at the last look, and `is_lost` as in `see`.
     fn report_troubles<E: Write>(
         &mut self,
         before: LinkHealth,
@@ -223,7 +227,7 @@ impl Signs {
         self.report_recovery(messages)
     }
 
-    // Reports how many commands were skipped, unless another one was skipped since the last look.
+    // Reports how many commands were skipped, as `report_skipped` does, unless another one was skipped since the last look.
     fn report_skipped_once_over<E: Write>(&mut self, messages: &mut E) -> io::Result<()> {
         if self.skipped == self.skipped_before {
             self.report_skipped(messages)?;
@@ -259,8 +263,9 @@ impl Signs {
         Ok(())
     }
 
-    // Reports that there is no connection, if the last one was lost or couldn't be made (`is_lost`), and the health of the link at
-    // the last look (`before`) wasn't `Idle`: after that a cycle just began, and the station makes a connection at once.
+    // Reports at most once a minute that there is no connection, if the last one was lost or couldn't be made (`is_lost`), and the
+    // health of the link at the last look (`before`) wasn't `Idle`: after that a cycle just began, and the station makes a connection
+    // at once. Without a connection an earlier answer no longer ends a trouble.
     fn report_connection<E: Write>(
         &mut self,
         before: LinkHealth,
@@ -280,7 +285,8 @@ impl Signs {
         self.report_since(self.since.utc, "no connection", messages)
     }
 
-    // Reports that the setup isn't done, if a command of it wasn't answered well.
+    // Reports at most once a minute that the setup isn't done, if a command of it wasn't answered well and no record of a cycle came
+    // since.
     fn report_unprepared<E: Write>(&mut self, messages: &mut E) -> io::Result<()> {
         match self.unprepared_since {
             Some(since) if self.unprepared.allows(self.elapsed, MINUTE) => {
@@ -290,7 +296,7 @@ impl Signs {
         }
     }
 
-    // Reports that a new connection isn't quiet, once that has lasted for `LASTING`.
+    // Reports at most once a minute that a new connection isn't quiet, once that has lasted for `LASTING`.
     fn report_unquiet<E: Write>(&mut self, messages: &mut E) -> io::Result<()> {
         if self.health != LinkHealth::Unquiet
             || !has_lasted(self.since.elapsed, self.elapsed, LASTING)
@@ -303,11 +309,12 @@ impl Signs {
         self.report_since(self.since.utc, "line not quiet", messages)
     }
 
-    // Reports that no answer comes, once that has lasted for `LASTING`, whatever became of connections meanwhile.
+    // Reports at most once a minute that no answer comes, once that has lasted for `LASTING`, whatever became of connections meanwhile.
+    // From then on the want is overdue, also if no line of this kind may be written yet.
     fn report_unanswered<E: Write>(&mut self, messages: &mut E) -> io::Result<()> {
         match self.wanted.lasting(self.elapsed, LASTING) {
             Some(since) => {
-                self.wanted.told = true;
+                self.wanted.overdue = true;
                 if !self.unanswered.allows(self.elapsed, MINUTE) {
                     return Ok(());
                 }
@@ -328,7 +335,7 @@ impl Signs {
     }
 
     // Reports that `what` has lasted since `utc` (milliseconds since 1970). From then on the station counts as troubled, until a
-    // command is answered.
+    // line says that this is over (`report_recovery`).
     fn report_since<E: Write>(&mut self, utc: u64, what: &str, messages: &mut E) -> io::Result<()> {
         self.is_troubled = true;
         self.is_answered = false;
@@ -338,7 +345,7 @@ impl Signs {
         writeln!(messages, "geocom: {what} since {since}")
     }
 
-    // Reports the end of a trouble, once a command was answered and a line of this kind may be written.
+    // Reports the end of a trouble, once a command was answered after it, unless a line of this kind was written in the last minute.
     fn report_recovery<E: Write>(&mut self, messages: &mut E) -> io::Result<()> {
         if !self.is_troubled || !self.is_answered || !self.connected.allows(self.elapsed, MINUTE) {
             return Ok(());
@@ -348,7 +355,8 @@ impl Signs {
         writeln!(messages, "geocom: connected again")
     }
 
-    // Writes how many commands were skipped, if any were and a line of this kind may be written.
+    // Writes how many commands were skipped that no line reported yet, if any were, and since when, unless a line of this kind was
+    // written in the last minute.
     fn report_skipped<E: Write>(&mut self, messages: &mut E) -> io::Result<()> {
         if self.skipped == 0 || !self.skipping.allows(self.elapsed, MINUTE) {
             return Ok(());
@@ -361,19 +369,19 @@ impl Signs {
         writeln!(messages, "geocom: commands skipped since {since}: {count}")
     }
 
-    // Rewrites the status line of a terminal, at most once a second.
+    // Rewrites the status line, if a terminal shows one, at most once a second. What has no room in `COLUMNS` is left out.
     fn show<E: Write>(&mut self, messages: &mut E) -> io::Result<()> {
         if self.watch != Watch::Terminal || !self.shown.allows(self.elapsed, SECOND) {
             return Ok(());
         }
         self.clear(messages)?;
         self.is_shown = true;
-        let mut row: Bounded<COLUMNS> = Bounded::new();
+        let mut row: ShortText<COLUMNS> = ShortText::new();
         self.show_counts(&mut row)?;
         messages.write_all(row.bytes.as_slice())
     }
 
-    // Writes the cycle, how many commands were answered, how long ago the last one was, and the other counts without those that
+    // Writes the cycle, how many commands were answered, how long ago the last answer came, and the other counts without those that
     // are 0.
     fn show_counts<E: Write>(&self, row: &mut E) -> io::Result<()> {
         let cycle = self.cycle;
@@ -383,7 +391,7 @@ impl Signs {
         show_others(self.counts, row)
     }
 
-    // Writes how long ago the last answer was, if there was one.
+    // Writes how many seconds ago the last answer of any kind came, if one did.
     fn show_age<E: Write>(&self, row: &mut E) -> io::Result<()> {
         match self.answered {
             Some(moment) => {
@@ -394,8 +402,8 @@ impl Signs {
         }
     }
 
-    /// Writes at the end of a run how many commands were skipped that no line reported yet, if that may be written, and clears
-    /// the status line of a terminal.
+    /// Writes at the end of a run how many commands were skipped that no line reported yet, unless nobody watches or a line of this
+    /// kind was written in the last minute, and clears the status line of a terminal.
     pub(crate) fn end<E: Write>(&mut self, messages: &mut E) -> io::Result<()> {
         if self.watch != Watch::Nobody {
             self.report_skipped(messages)?;

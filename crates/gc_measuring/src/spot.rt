@@ -23,8 +23,9 @@ impl<'a> Spot<'a> {
         });
     }
 
-    /// Whether the error that the system returned last may explain how the run ended: the place couldn't be reached, or no fault was
-    /// noted. The latter holds if a file couldn't be opened before there was a link, and also if the run is done.
+    /// Whether the error that the system returned last may explain how the run ended: the fault is that the system refused the
+    /// place (`Socket`, `Forbidden`, `NoTerminal`), or none was noted. None is noted if the log or the file of records can't be had,
+    /// and if the run ended without a fault.
     pub fn has_system_reason(self) -> bool {
         match self.noticed.get().fault {
             None => true,

@@ -6,12 +6,12 @@ ghost use Rattle.std.specs.Process.{exit_status};
 ghost use Rattle.gc_measuring.specs.Stops.{fault_without_link, IsFaultWithoutLink};
 ghost use Rattle.gc_measuring.specs.Telling.{ReportsMeasuring, MeasuresAll, ReportsRun, MeasuresAllFromNone, CannotBegin, acts_of};
 
-use crate::counts::report_counts;
+use crate::counts::report_end_of_run;
 use crate::logging::{LogSink, log_at, measure_logged};
 use crate::measure::run_station_text;
 use crate::spot::Spot;
 use crate::stop::Stop;
-use gc_ask::fault_of;
+use gc_ask::fault_of_reason;
 use gc_files::{RowsFile, SystemFile};
 use gc_lines::{Durable, Source};
 use gc_links::{Link, Moment, Place, PlacedLink, Telling, Unusable, Watched};
@@ -28,12 +28,12 @@ use std::process::ExitCode;
 use std::rt::Files;
 use std::time::Clock;
 
-/// Measures at a site, and reports how the run ended: by the counts, or by the fault's line. If the site has a log, its file is
-/// opened first, and what was on the link is appended to it. If the site's file `until` is there, the run ends between two
-/// chains, as one that is done. The fault is `Log` if no log can be had, `Clock` if the clock can't be read, and what is wrong with
-/// the device if the place is one and can't be used. That a log couldn't be written to its end is reported after the counts, or the
-/// fault, and changes no status. The streams are handed back, and the link, if there was one. What was seen of link and output at each
-/// act is noted in `kept`.
+/// Measures at a site, and reports how the run ended: with status 0 by the counts, or with status 1 by the fault (`Err`: the messages
+/// couldn't be written). If the site has a log, its file is opened first, and what was on the link is appended to it. If the site's
+/// file `until` is there, the run ends between two chains, as one that is done. Beside the faults of a run, the fault is `Log` if no
+/// log can be had, `Clock` if the clock can't be read, and what is wrong with the device if the place is one and can't be used. That a
+/// log isn't complete, because it ended at its bound or its file failed, is reported after that, and changes no status. The streams
+/// are handed back, and the link, if there was one. What was seen of link and output at each act is noted in `kept`.
 pub fn measure_at<
     'a,
     R: Net<Listener = TcpListener, Stream = TcpStream> + Clock + Files<File = File>,
@@ -52,7 +52,7 @@ pub fn measure_at<
     io::Result<ExitCode>,
     Option<Telling<Watched<'a, R, PlacedLink<'a, R>>>>,
 )
-    // The status and the messages report how the run ended, and then whether the log was lost. Either the text was refused, or
+    // The status and the messages report how the run ended, and then whether the log isn't complete. Either the text was refused, or
     // its commands were measured: the link that is handed back has recorded all acts of the run and no other, the sink its
     // records, and at each act all that was settled before lasted. Or log, link or clock couldn't be had, and nothing was done.
     ensures told { IfOk result.1 (λ status. ReportsRun S.Source K.Sink K.is_durable E.contents (is_some spot.entry.site.log) station
@@ -63,10 +63,10 @@ pub fn measure_at<
         → MeasuresAllFromNone S.Source K.Sink E.contents station streams result.0 (acts_of result.2) kept.old.turns kept.new.turns) }
     ensures bound { IfOk result.1 (λ status. exit_status status ≤ 1) }
 {
-    let Ends { link, moment, log } = match open_ends(rt, spot) {
-        Ok(ends) => ends,
+    let Opened { link, moment, log } = match open_link_and_log(rt, spot) {
+        Ok(opened) => opened,
         Err(fault) => {
-            let ended = report_counts(Err(Stop::Run(fault)), &mut streams.messages);
+            let ended = report_end_of_run(Err(Stop::Run(fault)), &mut streams.messages);
             return (streams, ended, None);
         }
     };
@@ -88,7 +88,7 @@ pub fn measure_at<
 
 // What a run measures over: a link, with the moment at which the run begins, and its log, if one is asked for.
 #[derive(Drop)]
-struct Ends<'a, R> {
+struct Opened<'a, R> {
     link: PlacedLink<'a, R>,
     moment: Moment,
     log: Option<LogSink<'a, RowsFile<SystemFile>>>,
@@ -96,11 +96,11 @@ struct Ends<'a, R> {
 
 // Opens the log, if one is asked for, and then the link. Fails with `Log` if the log can't be had, else with the fault of
 // `link_at`, which is also noted at `spot`.
-fn open_ends<'a, R: Net<Listener = TcpListener, Stream = TcpStream> + Clock + Files<File = File>>(
-    rt: &'a R,
-    spot: Spot<'a>,
-) -> Result<Ends<'a, R>, RunFault>
-    ensures logged { IfOk result (λ ends. is_some ends.log ≡ is_some spot.entry.site.log) }
+fn open_link_and_log<
+    'a,
+    R: Net<Listener = TcpListener, Stream = TcpStream> + Clock + Files<File = File>,
+>(rt: &'a R, spot: Spot<'a>) -> Result<Opened<'a, R>, RunFault>
+    ensures logged { IfOk result (λ opened. is_some opened.log ≡ is_some spot.entry.site.log) }
     ensures fault { IfErr result (λ fault. CannotBegin (is_some spot.entry.site.log) fault) }
 {
     let log = match log_at(rt, spot.noticed, spot.site.log) {
@@ -108,7 +108,7 @@ fn open_ends<'a, R: Net<Listener = TcpListener, Stream = TcpStream> + Clock + Fi
         Err(fault) => return Err(fault),
     };
     match link_at(rt, spot.site.place) {
-        Ok((link, moment)) => Ok(Ends { link, moment, log }),
+        Ok((link, moment)) => Ok(Opened { link, moment, log }),
         Err(fault) => {
             spot.note_fault(fault);
             Err(fault)
@@ -126,26 +126,27 @@ fn link_at<'a, R: Net<Listener = TcpListener, Stream = TcpStream> + Clock + File
 {
     let mut link = match PlacedLink::new(rt, place) {
         Ok(link) => link,
-        Err(reason) => return Err(without_link(reason)),
+        Err(reason) => return Err(fault_without_link(reason)),
     };
     match link.now() {
         Ok(moment) => Ok((link, moment)),
-        Err(_) => Err(without_link(None)),
+        Err(_) => Err(fault_without_link(None)),
     }
 }
 
 // The fault if there is no link: for `Some` by what is wrong with the device, and for `None` that the clock can't be read.
-fn without_link(reason: Option<Unusable>) -> RunFault
+fn fault_without_link(reason: Option<Unusable>) -> RunFault
     ensures { result ≡ fault_without_link reason }
 {
     match reason {
-        Some(unusable) => fault_of(Some(unusable)),
+        Some(unusable) => fault_of_reason(Some(unusable)),
         None => RunFault::Clock,
     }
 }
 
 /// Measures over a link, reports how the run ended, and notes at `spot` the fault, if the run stopped for one. Returns the streams
-/// and the status of the report. What was seen of link and output at each act is noted in `kept`.
+/// and the status of the report, or the error if it couldn't be written. What was seen of link and output at each act is noted in
+/// `kept`.
 pub(crate) fn measure_over<L: Link, S: Source, K: Durable, E: Write>(
     alloc: Global,
     link: &mut L,
@@ -165,7 +166,7 @@ pub(crate) fn measure_over<L: Link, S: Source, K: Durable, E: Write>(
 {
     let (mut streams, end) = run_station_text(alloc, link, station, spot, streams, u64::MAX, kept);
     note_stop(spot, end);
-    let ended = report_counts(end, &mut streams.messages);
+    let ended = report_end_of_run(end, &mut streams.messages);
     (streams, ended)
 }
 

@@ -10,7 +10,7 @@ use std::io::{self, Write};
 /// Why a station stopped before its end.
 #[derive(Clone, Copy, Debug, PartialEq, Eq)]
 pub enum Stop {
-    /// The text was refused, for this fault, before anything was done.
+    /// The text couldn't be read or was refused, for this fault, before anything was done.
     Text(RunFault),
     /// The text has no command of a cycle. Nothing was done.
     Empty,

@@ -1,8 +1,8 @@
 //! A station's text, read whole from a source.
 
 ghost use Rattle.std.specs.Prelude.{◌+◌, ◌≤◌, IfOk, IfErr};
-ghost use Rattle.gc_measuring.specs.TaskTexts.{GivesTasks, RefusesTasks, IsRefusal};
-ghost use Rattle.gc_texts.specs.WholeTexts.{Gave, input_of};
+ghost use Rattle.gc_measuring.specs.TaskTexts.{IsRefusal, ReadsNoTasks, ReadsTasks};
+ghost use Rattle.gc_texts.specs.WholeTexts.{input_of};
 ghost use Rattle.gc_texts.specs.declared.text.TheConstants.{TEXT_LIMIT};
 
 use crate::stop::Stop;
@@ -13,17 +13,15 @@ use std::alloc::Global;
 
 /// Reads the whole text of a station from a source, and returns its tasks and names, with the text itself. Until a line says
 /// otherwise the commands have the deadline of `choice`, and are chained or not as `choice` says. It fails with the faults of
-/// `read_text` and `read_tasks`, with the field at fault for a faulty line, and with `Empty` if the text has no command of a
-/// cycle.
+/// `read_text` and `read_tasks` (`Text`), with the field at fault for a faulty line (`Line`), and with `Empty` if the text has no
+/// command of a cycle.
 pub fn read_task_text<S: Source>(
     alloc: Global,
     source: &mut S,
     choice: &Choice,
 ) -> Result<(Tasks, Vec<u8>), Stop>
-    ensures found { IfOk result (λ all. Gave (input_of S.Source source.old) (input_of S.Source source.new) (λ given.
-        GivesTasks given (input_of S.Source source.old) (input_of S.Source source.new) choice.now all.0.setup all.0.tasks.items all.0.names.items)) }
-    ensures refused { IfErr result (λ stop. Gave (input_of S.Source source.old) (input_of S.Source source.new) (λ given.
-        RefusesTasks given (input_of S.Source source.old) (input_of S.Source source.new) stop)) }
+    ensures found { IfOk result (λ all. ReadsTasks (input_of S.Source source.old) (input_of S.Source source.new) choice.now all.0) }
+    ensures refused { IfErr result (λ stop. ReadsNoTasks (input_of S.Source source.old) (input_of S.Source source.new) stop) }
     ensures bounded { S.reads source.new ≤ S.reads source.old + (TEXT_LIMIT + 1) }
 {
     let text = match read_text(alloc, source) {

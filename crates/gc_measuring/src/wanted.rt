@@ -14,8 +14,8 @@ pub(crate) struct Wanted {
     pub since: Option<Moment>,
     // Whether an answer came since the last cycle ended.
     pub heard: bool,
-    // Whether a message said that no answer comes.
-    pub told: bool,
+    // Whether an answer has been wanted for so long that a message on that is due, or was written.
+    pub overdue: bool,
 }
 
 impl Wanted {
@@ -24,7 +24,7 @@ impl Wanted {
         Wanted {
             since: None,
             heard: false,
-            told: false,
+            overdue: false,
         }
     }
 
@@ -34,11 +34,12 @@ impl Wanted {
     {
         self.since = None;
         self.heard = true;
-        self.told = false;
+        self.overdue = false;
     }
 
-    /// Notes by the health of the link at this moment whether an answer is wanted: it is if there is no connection, if the
-    /// line isn't quiet, and if a request has no reply. `Idle` ends the cycle, and `Fine` changes nothing.
+    /// Notes by the health of the link at this moment whether an answer is wanted: it is from now on, or from earlier on as before, if
+    /// there is no connection, if a new one isn't quiet yet, or if a request has no reply. `Idle` ends the cycle, and `Fine` changes
+    /// nothing.
     pub(crate) fn look(&mut self, health: LinkHealth, moment: Moment)
         ensures { self.new ≡ after_look health moment self.old }
     {
@@ -51,12 +52,12 @@ impl Wanted {
         }
     }
 
-    // Ends a cycle, of which nothing is left to be asked. If the cycle had an answer, none is wanted until the next cycle
-    // asks; but a want that was reported stays until an answer comes.
+    // Notes that a cycle has ended: nothing of it is left to be asked. If it had an answer, none is wanted until the next cycle
+    // asks; but a want that is overdue stays until an answer comes.
     fn end_cycle(&mut self)
         ensures { self.new ≡ after_cycle self.old }
     {
-        if self.heard && !self.told {
+        if self.heard && !self.overdue {
             self.since = None;
         }
         self.heard = false;
@@ -72,7 +73,8 @@ impl Wanted {
         };
     }
 
-    /// Since when an answer is wanted, if at `elapsed`, by the clock for deadlines, that is at least `least` milliseconds ago; else `None`.
+    /// Since when an answer is wanted, if at `elapsed`, in milliseconds of the clock for deadlines, that is at least `least`
+    /// milliseconds ago. `None`: it isn't, or no answer is wanted.
     pub(crate) fn lasting(&self, elapsed: u64, least: u64) -> Option<Moment>
         ensures { result ≡ lasting elapsed least self.now.since }
     {
@@ -83,7 +85,8 @@ impl Wanted {
     }
 }
 
-/// Whether at least `least` milliseconds passed from `from` to `elapsed`, both by the clock for deadlines.
+/// Whether at least `least` milliseconds passed from `from` to `elapsed`, both in milliseconds of the clock for deadlines. If that
+/// clock went back, none passed.
 pub(crate) fn has_lasted(from: u64, elapsed: u64, least: u64) -> bool
     ensures { result ≡ has_lasted from elapsed least }
 {

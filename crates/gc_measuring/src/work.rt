@@ -18,7 +18,8 @@ pub struct Work {
     pub commands: usize,
 }
 
-/// Takes the tasks of a text apart into the work of a run: the tasks, the names of their targets, and the number of commands.
+/// Takes the tasks of a text apart into the work of a run: the tasks, the names of their targets, and the number of a cycle's
+/// commands, of which no clause speaks.
 pub fn work_of(alloc: Global, tasks: Tasks) -> Work
     ensures setup { result.setup ≡ tasks.setup }
     ensures tasks { result.tasks.items ≡ tasks.tasks.items }

@@ -1,11 +1,11 @@
--- A file of rows that is left joins those that were left before, and the next file has taken nothing yet.
+-- A file of rows that is left joins the earlier ones, and the next file has taken nothing yet.
 use Rattle.std.proofs.Common.{◌≡◌, ℕ, List, [], ◌++◌, ap, ◌∙◌}
 use Rattle.std.proofs.lemmas.List.{append-nil}
 use Rattle.gc_files.specs.Files.{Step}
 use Rattle.gc_files.specs.Rows.{appended}
 use Rattle.gc_files.proofs.Adding.{appended_two}
 
--- if a file, whose steps appended `taken`, joins the files that were left, and the new file has taken nothing (`next`, and
+-- if a file, whose steps appended `taken`, joins the earlier files, and the new file has taken nothing (`next`, and
 -- `after` a sync), what was appended to all files is what it was before
 pub appended_after_leaving : (left left' steps : List Step) (taken next after : List ℕ) → left' ≡ left ++ steps → appended steps ≡ taken → next ≡ [] → after ≡ next
     → appended left' ++ after ≡ appended left ++ taken

@@ -9,7 +9,8 @@ use Rattle.gc_messages.specs.declared.standard.Standard.{Standard}
 abbrev pub are_open : Standard → Bool
 are_open s = (s.input && s.output) && s.messages
 
--- what the program reports if a standard stream is closed: status 1, and the fault's line if the messages are open
+-- what the program reports if a standard stream is closed: status 1, and the fault's line if the messages are open; nothing is
+-- written if they are closed
 pub record ReportsClosed (s : Standard) (status : ℕ) (old new : Option (List ℕ)) : Type 0 where
   pub is : status ≡ 1
   pub told : s.messages ≡ true → Appends old new (fault_line (run_fault_text StreamClosed))

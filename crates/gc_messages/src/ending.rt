@@ -14,7 +14,7 @@ use gc_texts::RunFault;
 use std::io::{self, Write};
 use std::process::ExitCode;
 
-/// Reports a number that is out of its range, with status 2.
+/// Reports, with status 2, that a number on the command line is out of its range. `Err`: the messages couldn't be written.
 pub fn refuse_numbers<E: Write>(messages: &mut E) -> io::Result<ExitCode>
     ensures status { IfOk result (λ status. exit_status status ≡ 2) }
     ensures told { IfOk result (λ status. (exit_status status ≡ 2) × Appends (E.contents messages.old) (E.contents messages.new) range_line) }
@@ -26,7 +26,8 @@ pub fn refuse_numbers<E: Write>(messages: &mut E) -> io::Result<ExitCode>
     Ok(ExitCode::from(2))
 }
 
-/// Reports with status 2 that a station's run would end for want of an answer before its second cycle is due.
+/// Reports, with status 2, that a station's run would end for want of an answer before its second cycle is due. `Err`: the messages
+/// couldn't be written.
 pub fn refuse_stale<E: Write>(messages: &mut E) -> io::Result<ExitCode>
     ensures told { IfOk result (λ status. (exit_status status ≡ 2) × Appends (E.contents messages.old) (E.contents messages.new) stale_line) }
 {
@@ -37,8 +38,8 @@ pub fn refuse_stale<E: Write>(messages: &mut E) -> io::Result<ExitCode>
     Ok(ExitCode::from(2))
 }
 
-/// Reports with status 2 that a word is no place: where `serves` is set, no port or device to serve a simulator on, and else no
-/// place of an instrument.
+/// Reports, with status 2, that a word is no place: where `serves` is set, none to serve a simulator on (a port, a device, or an address
+/// with `--any-address`), and else none of an instrument. `Err`: the messages couldn't be written.
 pub fn refuse_place<E: Write>(serves: bool, messages: &mut E) -> io::Result<ExitCode>
     ensures told { IfOk result (λ status. (exit_status status ≡ 2) × Appends (E.contents messages.old) (E.contents messages.new) (place_line serves)) }
 {
@@ -56,7 +57,8 @@ pub fn refuse_place<E: Write>(serves: bool, messages: &mut E) -> io::Result<Exit
     Ok(ExitCode::from(2))
 }
 
-/// Reports how a run ended: with status 0, or with status 1 and the line of the fault.
+/// Reports how a run ended: with status 0 and no line, or with status 1 and the line of the fault. `Err`: the messages couldn't be
+/// written.
 pub fn report_end<E: Write>(end: Result<(), RunFault>, messages: &mut E) -> io::Result<ExitCode>
     ensures told { IfOk result (λ status. Tells run_fault_text end (exit_status status) (E.contents messages.old) (E.contents messages.new)) }
     ensures bound { IfOk result (λ status. exit_status status ≤ 1) }
@@ -71,7 +73,7 @@ pub fn report_end<E: Write>(end: Result<(), RunFault>, messages: &mut E) -> io::
 }
 
 /// Reports as `report_end` does how a run over a connection to this place ended, and writes after the line of some faults a line with
-/// the place and the reason (`tell_place`).
+/// the place and the reason (`tell_place`). `Err`: the line of the fault couldn't be written.
 pub fn report_end_at<E: Write>(
     place: Place<'_>,
     end: Result<(), RunFault>,
@@ -87,7 +89,8 @@ pub fn report_end_at<E: Write>(
     ended
 }
 
-/// Reports how serving or checking ended: with status 0, or with status 1 and the line of the fault.
+/// Reports how serving or checking ended: with status 0 and no line, or with status 1 and the line of the fault. `Err`: the messages
+/// couldn't be written.
 pub fn report_served<E: Write>(
     end: Result<Served, ServeFault>,
     messages: &mut E,

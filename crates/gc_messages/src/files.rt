@@ -1,5 +1,5 @@
 //! What becomes of the files that a station writes while it runs, and how that is reported. No record and no request depends on
-//! it. The path of the rows leads astray if it doesn't lead to the file of rows, and no new file can be had there.
+//! it. The path of the rows leads astray if it doesn't lead to the file that takes the rows, and no new file can be had there.
 
 ghost use Rattle.std.specs.Prelude.{OnOk};
 ghost use Rattle.std.specs.Io.KnownBytes.{Appends};
@@ -8,7 +8,8 @@ ghost use Rattle.gc_messages.specs.Repairs.{copied_line, torn_line};
 use gc_links::Moment;
 use std::io::{self, Write};
 
-/// The least time between two lines of one kind that a station writes on the messages while it measures, in milliseconds.
+/// A minute, in milliseconds: the least time between two lines of a kind that may come again and again while a station measures. Lines
+/// on what changed of its files are written at once.
 pub const MINUTE: u64 = 60_000;
 
 /// What became of the log.
@@ -58,7 +59,8 @@ impl FilesSeen {
 pub struct FilesTold {
     // What was reported last.
     told: FilesSeen,
-    // When it was reported last that the path of the rows leads astray, in milliseconds of the clock for deadlines.
+    // When it was reported last that the path of the rows leads astray, in milliseconds of the clock for deadlines. `None`: it hasn't been
+    // since the path led to the file.
     astray: Option<u64>,
 }
 
@@ -71,9 +73,11 @@ impl FilesTold {
         }
     }
 
-    /// What is to be reported now: what is new, and once a minute that the path of the rows leads astray. It then counts as reported.
+    /// Returns what is to be reported now, which then counts as reported: what is new since the last call, and that the path of the rows
+    /// leads astray, at once and then once a minute while it does.
+    ///
     /// `None`: there is nothing to report. `Some` may have nothing to write, as when the path leads to the file again.
-    pub fn news(&mut self, seen: FilesSeen, moment: Moment) -> Option<FilesNews> {
+    pub fn take_news(&mut self, seen: FilesSeen, moment: Moment) -> Option<FilesNews> {
         let is_due = match self.astray {
             Some(last) => moment.elapsed.saturating_sub(last) >= MINUTE,
             None => true,
@@ -104,12 +108,13 @@ pub struct FilesNews {
     // What was reported before, and what was seen now: what differs is news.
     before: FilesSeen,
     now: FilesSeen,
-    // Whether it is to be reported that the path of the rows leads astray.
+    // Whether it is to be reported, for the first time or again, that the path of the rows leads astray.
     is_astray: bool,
 }
 
 impl FilesNews {
-    /// Writes the news, a line for each thing.
+    /// Writes the news, a line for each thing: of the log, of new files for the rows, and of their path. `Err`: a line couldn't be written;
+    /// those after it aren't.
     pub fn report<E: Write>(self, messages: &mut E) -> io::Result<()> {
         self.report_log(messages)?;
         self.report_moves(messages)?;
@@ -146,7 +151,7 @@ impl FilesNews {
         }
     }
 
-    // Writes that bytes of an incomplete line of the log were cut off, if that is new.
+    // Writes how many bytes of an incomplete line of the log were cut off, if that is new.
     fn report_torn_log<E: Write>(self, messages: &mut E) -> io::Result<()> {
         let torn = self.now.log_torn;
         if torn == self.before.log_torn {
@@ -158,7 +163,7 @@ impl FilesNews {
         )
     }
 
-    // Writes that the rows go on in a new file, if that is new.
+    // Writes that the rows go on in a new file, if that is new, and of the last such file what was copied into it and cut off it.
     fn report_moves<E: Write>(self, messages: &mut E) -> io::Result<()> {
         if self.now.moves == self.before.moves {
             return Ok(());
@@ -172,7 +177,7 @@ impl FilesNews {
     }
 }
 
-/// Writes how many rows were copied because the run before was killed or a sync failed; nothing if there were none.
+/// Writes how many rows were copied to a new file, because the run before was killed or a sync failed; nothing if there were none.
 pub fn report_copied<E: Write>(copied: u64, messages: &mut E) -> io::Result<()>
     ensures { OnOk result (Appends (E.contents messages.old) (E.contents messages.new) (copied_line copied)) }
 {

@@ -1,4 +1,4 @@
-//! A file of rows that is where its path leads: if it was moved or deleted, rows go on in a new one at that path.
+//! A file of rows that is looked for at its path: if it was moved or deleted, rows go on in a new one at that path.
 
 ghost use Rattle.std.specs.Prelude.{◌≡◌, [], Some};
 ghost use Rattle.gc_files.specs.Sinks.{has_failed, is_durable, steps_in};
@@ -12,8 +12,8 @@ use std::cell::Cell;
 use std::fs::File;
 use std::rt::Files;
 
-/// A file of rows by its path. Between two rows it looks whether the path still leads to the file. If it doesn't, and a file
-/// can be had there as at the start, the rows go on in that one, after its head; otherwise they go on in the old one. What
+/// A file of rows by its path. Each `sync` looks whether the path still leads to the file. If it doesn't, and a file can be had
+/// there as at the start (`open_at`), the rows go on in that one, after its head; otherwise they go on in the old one. What
 /// became of it is noted in `noticed`. What was appended to all of these files, in order, counts as taken.
 #[derive(Drop)]
 pub struct Followed<'a, R> {
@@ -22,8 +22,8 @@ pub struct Followed<'a, R> {
     path: &'a str,
     /// The file that takes the rows.
     pub rows: RowsFile<SystemFile>,
-    // What was done to the files that were left, one after the other: in proofs alone.
-    left: Past,
+    // What was done to the earlier files, one after the other: in proofs alone.
+    earlier: Past,
     noticed: &'a Cell<Noticed>,
 }
 
@@ -46,26 +46,27 @@ impl<'a, R: Files<File = File>> Followed<'a, R> {
             alloc,
             path,
             rows,
-            left: Past::new(),
+            earlier: Past::new(),
             noticed,
         }
     }
 
-    /// Ends the appending to the file that takes the rows now. If the path leads to that file, and all that it holds is on the
-    /// disk, if need be after one more sync, this takes away the mark by which the next start would copy the file.
+    /// Ends the appending to the file that takes the rows now, as `end_at` does: if the path leads to that file, and all that it
+    /// holds is on the disk, if need be after one more sync, this removes the mark by which the next start would copy the file. A
+    /// file that was opened without `sync` is only closed.
     pub fn end(self) {
         let Followed {
             rt,
             alloc,
             path,
             rows,
-            left: _,
+            earlier: _,
             noticed: _,
         } = self;
         end_at(rt, alloc, path, rows);
     }
 
-    // Notes what became of the file.
+    // Notes what became of the file of rows and of the log (`files`), and keeps what else was noticed.
     fn note(&self, files: FilesSeen) {
         let seen = self.noticed.get();
         self.noticed.set(Noticed { files, ..seen });
@@ -79,7 +80,7 @@ impl<'a, R: Files<File = File>> Sink for Followed<'a, R> {
 
     ghost failed = { λ f. has_failed f.rows };
 
-    // Writes into the file that takes the rows now.
+    // Writes into the file that takes the rows now. `Err`: that file failed, now or before.
     fn write(&mut self, bytes: &[u8]) -> Result<usize, PortFailed> {
         match self.rows.write(bytes) {
             Ok(n) => Ok(n),
@@ -95,8 +96,9 @@ impl<'a, R: Files<File = File>> Sink for Followed<'a, R> {
 impl<'a, R: Files<File = File>> Durable for Followed<'a, R> {
     ghost is_durable = { λ f. is_durable f.rows };
 
-    // Syncs the rows. Then, if the path no longer leads to their file, they go on in a new one there, if it can be had. `Err`:
-    // the file failed, or the new one did.
+    // Syncs the rows. Then, if the path no longer leads to their file, they go on in a new one there, if it can be had, and that one
+    // is synced; else they go on in the old one, and it is noted that the path leads astray. `Err`: the file failed, or the new one
+    // did, which takes the rows then.
     fn sync(&mut self) -> Result<(), PortFailed> {
         match self.rows.sync() {
             Ok(()) => {}
@@ -118,7 +120,7 @@ impl<'a, R: Files<File = File>> Durable for Followed<'a, R> {
             self.path,
             self.rows.head(),
             self.rows.sign(),
-            self.rows.is_synced(),
+            self.rows.asks_sync(),
         );
         match opened {
             Ok((rows, copied)) => {
@@ -129,7 +131,7 @@ impl<'a, R: Files<File = File>> Durable for Followed<'a, R> {
                     is_astray: false,
                     ..files
                 });
-                self.left = self.left.then(&Done::All(self.rows.past()));
+                self.earlier = self.earlier.then(&Done::All(self.rows.past()));
                 self.rows = rows;
                 match self.rows.sync() {
                     Ok(()) => Ok(()),

@@ -2,20 +2,19 @@
 //! connection and of files; and the standard streams, one of which takes them.
 #![tactic(auto)]
 
-mod bounded;
 mod ending;
 mod files;
 mod following;
 mod lossy;
 mod noting;
 mod oddity;
+mod short_text;
 mod spaces;
 mod standard;
 mod streams;
 mod turns;
 mod unasked;
 
-pub use bounded::Bounded;
 pub use ending::{
     refuse_numbers, refuse_place, refuse_stale, report_end, report_end_at, report_served,
 };
@@ -24,8 +23,9 @@ pub use following::Followed;
 pub use lossy::Lossy;
 pub use noting::Noting;
 pub use oddity::{Noticed, Noticing, Oddities, tell_place};
+pub use short_text::ShortText;
 pub use spaces::report_spaces;
 pub use standard::{Places, Standard};
 pub use streams::Streams;
-pub use turns::report_turns;
+pub use turns::report_odd_angles;
 pub use unasked::{report_unasked, report_unused_names};

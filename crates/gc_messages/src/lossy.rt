@@ -1,9 +1,10 @@
-//! Messages that may be lost: a full disk after standard error changes nothing of a run, nor its status.
+//! Messages that may be lost: where standard error goes to a file on a full disk, a run and its status are as if all were
+//! written.
 
 use std::io::{self, ErrorKind, Write};
 
-/// A place for messages that takes all, and loses what the place inside doesn't take. An interrupted write alone fails, and is
-/// made again.
+/// A place for messages that takes all, and loses what the place inside doesn't take. An interrupted write alone fails, so that its
+/// caller makes it again.
 #[derive(Drop)]
 pub struct Lossy<E> {
     pub inner: E,

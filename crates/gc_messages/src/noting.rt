@@ -2,10 +2,11 @@
 
 ghost use Rattle.std.specs.Prelude.{◌≡◌, ◌≤◌, Ok, length, IfOk};
 
-use crate::bounded::Bounded;
+use crate::short_text::ShortText;
 use crate::standard::Standard;
 use std::alloc::Allocator;
 use std::cell::Cell;
+use std::fmt::Display;
 use std::fs::{Files, Metadata, OpenOptions};
 use std::io::{self, Write};
 use std::net::{Net, SocketAddr};
@@ -19,12 +20,12 @@ const NAME_ROOM: usize = 120;
 // What was refused, by the first bytes of its name, and why.
 #[derive(Drop)]
 struct Refusal {
-    name: Bounded<NAME_ROOM>,
+    name: ShortText<NAME_ROOM>,
     why: io::Error,
 }
 
-/// A runtime that notes the last error of an opening, a bind, a connect or a look-up of the one inside, with its path, address or
-/// name. The next opening, bind or connect that succeeds clears the note.
+/// A runtime that notes the last error of an opening, a bind, a connect or a look-up of the one inside, with the first 120 bytes of
+/// its path, address or name. The next opening, bind or connect that succeeds clears the note.
 #[derive(Drop)]
 pub struct Noting<'a, R> {
     rt: &'a R,
@@ -40,28 +41,17 @@ impl<'a, R> Noting<'a, R> {
         }
     }
 
-    // Notes the outcome of a call on a path, and returns it: a success clears the note, an error is noted with the path.
-    fn note<T: Drop>(&self, path: &str, had: io::Result<T>) -> io::Result<T> {
-        let mut name = Bounded::new();
-        let _ = write!(name, "{path}");
-        self.note_named(name, had)
-    }
-
-    // Notes the outcome of a call on an address, as `note` does on a path.
-    fn note_at<T: Drop>(&self, address: SocketAddr, had: io::Result<T>) -> io::Result<T> {
-        let mut name = Bounded::new();
-        let _ = write!(name, "{address}");
-        self.note_named(name, had)
-    }
-
-    // Notes the outcome of a call on what has this name, and returns it: a success clears the note.
-    fn note_named<T: Drop>(&self, name: Bounded<NAME_ROOM>, had: io::Result<T>) -> io::Result<T> {
-        match had {
-            Ok(had) => {
+    // Notes the outcome of a call on `what`, a path, an address or a name, and returns it: a success clears the note, an error is
+    // noted with `what`.
+    fn note<N: Display + Drop, T: Drop>(&self, what: N, outcome: io::Result<T>) -> io::Result<T> {
+        match outcome {
+            Ok(value) => {
                 self.last.set(None);
-                Ok(had)
+                Ok(value)
             }
             Err(why) => {
+                let mut name = ShortText::new();
+                let _ = write!(name, "{what}");
                 self.last.set(Some(Refusal { name, why }));
                 Err(why)
             }
@@ -73,8 +63,8 @@ impl<'a, R> Noting<'a, R> {
         self.last.set(None);
     }
 
-    /// If a run ended with a fault (`ended`), writes after the fault's line what the system refused last, and why, unless the
-    /// note was cleared since or the messages are closed. Returns `ended`.
+    /// If a run ended (`ended`) with another status than 0, writes a line with what the system refused last, and why, and clears the
+    /// note; nothing where nothing is noted or the messages are closed. Returns `ended`, also if that line couldn't be written.
     pub fn report<E: Write>(
         &self,
         standard: Standard,
@@ -91,7 +81,7 @@ impl<'a, R> Noting<'a, R> {
         Ok(status)
     }
 
-    // Writes the line of what was refused last, if anything was.
+    // Writes the line of what was refused last, if anything is noted, and clears the note, also if the line can't be written.
     fn write<E: Write>(&self, messages: &mut E) -> io::Result<()> {
         match self.last.take() {
             Some(refusal) => {
@@ -105,6 +95,7 @@ impl<'a, R> Noting<'a, R> {
     }
 }
 
+// The clock of the runtime inside; nothing of it is noted.
 impl<'a, R: Clock> Clock for Noting<'a, R> {
     fn monotonic(&self) -> io::Result<Duration> {
         self.rt.monotonic()
@@ -119,21 +110,22 @@ impl<'a, R: Clock> Clock for Noting<'a, R> {
     }
 }
 
+// The net of the runtime inside; what becomes of each bind and connect is noted with its address.
 impl<'a, R: Net> Net for Noting<'a, R> {
     type Stream = R::Stream;
 
     type Listener = R::Listener;
 
     fn bind(&self, addr: SocketAddr) -> io::Result<R::Listener> {
-        self.note_at(addr, self.rt.bind(addr))
+        self.note(addr, self.rt.bind(addr))
     }
 
     fn connect(&self, addr: SocketAddr) -> io::Result<R::Stream> {
-        self.note_at(addr, self.rt.connect(addr))
+        self.note(addr, self.rt.connect(addr))
     }
 
     fn connect_timeout(&self, addr: SocketAddr, timeout: Duration) -> io::Result<R::Stream> {
-        self.note_at(addr, self.rt.connect_timeout(addr, timeout))
+        self.note(addr, self.rt.connect_timeout(addr, timeout))
     }
 
     // Looks a name up, and notes an error with the name. A success clears no note.
@@ -150,6 +142,7 @@ impl<'a, R: Net> Net for Noting<'a, R> {
     }
 }
 
+// The files of the runtime inside; what becomes of each opening is noted with its path, and of the other calls nothing.
 impl<'a, R: Files> Files for Noting<'a, R> {
     type File = R::File;
 

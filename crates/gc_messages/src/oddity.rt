@@ -54,8 +54,8 @@ impl Noticed {
     }
 }
 
-/// Writes the place and a reason in words, for the faults of a connection that come without an error of the system's. For any
-/// other fault it writes nothing.
+/// Writes a line with the place and a reason in words, for the faults of a run over a connection that are listed here. For any other
+/// fault, such as `Socket`, whose reason the system gives, it writes nothing. `Err`: the messages couldn't be written.
 pub fn tell_place<E: Write>(place: Place<'_>, fault: RunFault, messages: &mut E) -> io::Result<()> {
     let why = match fault {
         RunFault::LinkClosed => "the connection ended",
@@ -70,7 +70,7 @@ pub fn tell_place<E: Write>(place: Place<'_>, fault: RunFault, messages: &mut E)
 }
 
 // The longest read of a link, in milliseconds: what watches a station between two reads gets its turn at least that often.
-const LOOK: u64 = 1_000;
+const LONGEST_READ: u64 = 1_000;
 
 /// A link that notices what is odd about its line, and what becomes of its connection. Its acts are those of the link inside. A
 /// read of it lasts no longer than a second.
@@ -86,7 +86,7 @@ pub struct Noticing<'a, L> {
 }
 
 impl<'a, L: Link> Noticing<'a, L> {
-    /// Notices what comes over `link`, over which nothing came yet, and notes it in `seen`.
+    /// A link over `link`, over which nothing came yet. What it notices it notes in `seen`, beside what is noted there already.
     pub fn new(link: L, seen: &'a Cell<Noticed>) -> Noticing<'a, L>
         ensures { result.link ≡ link }
     {
@@ -115,7 +115,7 @@ impl<'a, L> Noticing<'a, L> {
         link
     }
 
-    // Takes bytes that came, and judges each line that they end.
+    // Takes bytes that came, and judges each line that they end, also one that began in earlier bytes.
     fn look(&mut self, bytes: &[u8])
         ensures { self.new.link ≡ self.old.link }
     {
@@ -132,7 +132,7 @@ impl<'a, L> Noticing<'a, L> {
     }
 
     // Notes what is odd about the line that a line feed has just ended: it begins as a request (`echoes`), or it begins as a
-    // reply and has no CR at its end (`bare`).
+    // reply and has no CR at its end (`bare`). What was noted of earlier lines stays, and a line of less than four bytes is neither.
     fn judge(&self) {
         let seen = self.seen.get();
         let odd = seen.odd;
@@ -146,7 +146,7 @@ impl<'a, L> Noticing<'a, L> {
     }
 
     // Notes whether the connection is lost: it ended or failed, or couldn't be made.
-    fn note(&self, is_lost: bool) {
+    fn note_loss(&self, is_lost: bool) {
         let seen = self.seen.get();
         self.seen.set(Noticed { is_lost, ..seen });
     }
@@ -155,40 +155,42 @@ impl<'a, L> Noticing<'a, L> {
 impl<'a, L: Link> Link for Noticing<'a, L> {
     ghost acts = { λ n. L.acts n.link };
 
+    // The moment that the link inside gives.
     fn now(&mut self) -> Result<Moment, PortFailed> {
         self.link.now()
     }
 
-    // Reads for a second at most, judges the lines that came, and notes an end or a failure as a lost connection.
+    // Reads for `millis` milliseconds, but for a second at most; judges the lines that came to their end, and notes an end or a failure
+    // as a lost connection.
     fn read(&mut self, buf: &mut [u8], millis: u64) -> Came {
-        let came = self.link.read(buf, millis.min(LOOK));
+        let came = self.link.read(buf, millis.min(LONGEST_READ));
         match came {
             Came::Bytes(n, _) => self.look(&buf[..n]),
-            Came::End | Came::Failure => self.note(true),
+            Came::End | Came::Failure => self.note_loss(true),
             Came::Silence(_) | Came::NoMoment => {}
         }
         came
     }
 
-    // Writes, and notes a write that was cut as a lost connection.
+    // Writes, and notes a write that fails as a lost connection.
     fn put(&mut self, bytes: &[u8]) -> Result<(), usize> {
         let put = self.link.put(bytes);
         if put.is_err() {
-            self.note(true);
+            self.note_loss(true);
         }
         put
     }
 
-    // Closes, and forgets half a line that came. That isn't noted as a lost connection.
+    // Closes, and forgets the front of a line that hasn't ended. That isn't noted as a lost connection.
     fn close(&mut self) {
         self.count = 0;
         self.link.close();
     }
 
-    // Makes a connection, and notes whether none could be made.
+    // Makes a connection, and notes as lost one that couldn't be made; one that was made is noted as not lost.
     fn open(&mut self) -> Result<(), PortFailed> {
         let opened = self.link.open();
-        self.note(opened.is_err());
+        self.note_loss(opened.is_err());
         opened
     }
 }

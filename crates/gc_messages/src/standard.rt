@@ -41,7 +41,7 @@ impl Standard {
     }
 
     /// Opens `/dev/null` for each stream that is closed. It takes that stream's place, because the system gives a file the
-    /// lowest place that is free, and holds it until it is dropped. `Err`: it couldn't be opened.
+    /// lowest place that is free, and holds it until the result is dropped. `Err`: it couldn't be opened for one of them.
     pub fn fill<R: Files>(self, rt: &R) -> io::Result<Places<R::File>> {
         Ok(Places {
             input: null_for(rt, self.input)?,
@@ -50,7 +50,8 @@ impl Standard {
         })
     }
 
-    /// Ends a command with status 1 because a standard stream is closed, and says so if the messages are open.
+    /// Reports, with status 1, that a standard stream is closed: the line of `StreamClosed` if the messages are open, else no line.
+    /// `Err`: that line couldn't be written.
     pub fn refuse<E: Write>(self, messages: &mut E) -> io::Result<ExitCode>
         ensures told { IfOk result (λ status. ReportsClosed self (exit_status status) (E.contents messages.old) (E.contents messages.new)) }
         ensures bound { IfOk result (λ status. exit_status status ≤ 1) }
@@ -71,7 +72,8 @@ pub struct Places<F> {
 }
 
 // Whether a stream is open: then a second handle of the stream can be had, which is given back at once. That handle's number is
-// above those of the three streams, so it takes no stream's place.
+// above those of the three streams, so it takes no stream's place. Where the process may open
+// nothing more, an open stream counts as closed, too.
 fn is_open<F: AsFd>(stream: &F) -> bool {
     match stream.as_fd().try_clone_to_owned() {
         Ok(_) => true,
@@ -79,7 +81,8 @@ fn is_open<F: AsFd>(stream: &F) -> bool {
     }
 }
 
-// `/dev/null`, which takes all and gives nothing, for a stream that is closed, and `None` for one that is open.
+// `/dev/null`, which takes all and gives nothing, for a stream that is closed, and `None` for one that is open. `Err`: it couldn't be
+// opened.
 fn null_for<R: Files>(rt: &R, is_open: bool) -> io::Result<Option<R::File>> {
     if is_open {
         return Ok(None);

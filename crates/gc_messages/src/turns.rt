@@ -1,4 +1,5 @@
-//! Angles outside one turn, in radians: a station reports them at its start, because they look like angles in gon or in degrees.
+//! Angles outside one turn, in radians: a station reports them at its start, and so does a check of its text, because they look like
+//! angles in gon or in degrees.
 
 use gc_catalogue::{Asked, Call};
 use gc_texts::{Task, Tasks};
@@ -6,48 +7,48 @@ use gc_values::Decimal;
 use std::io::{self, Write};
 
 // One turn in radians, 2π, cut after 24 places. No decimal has more places, so exactly those above 2π are above this.
-fn turn() -> Decimal {
+fn one_turn() -> Decimal {
     Decimal::literal(6_283_185_307_179_586_476_925_286, 24)
 }
 
-// One turn backwards, -2π, cut after 24 places.
-fn turn_back() -> Decimal {
+// One turn backwards in radians, -2π, cut after 24 places: exactly the decimals below -2π are below this.
+fn one_turn_back() -> Decimal {
     Decimal::literal(-6_283_185_307_179_586_476_925_286, 24)
 }
 
-// Whether a horizontal angle is beyond one turn, either way.
-fn is_beyond_a_turn(hz: Decimal) -> bool {
-    hz > turn() || hz < turn_back()
+// Whether a horizontal angle is outside one turn: above one turn, or below one backwards.
+fn is_hz_outside_a_turn(hz: Decimal) -> bool {
+    hz > one_turn() || hz < one_turn_back()
 }
 
-// Whether a vertical angle is outside one turn: below 0, or above one turn.
-fn is_outside_a_turn(v: Decimal) -> bool {
-    v > turn() || v < Decimal::zero()
+// Whether a vertical angle is outside one turn: above one turn, or below 0.
+fn is_v_outside_a_turn(v: Decimal) -> bool {
+    v > one_turn() || v < Decimal::zero()
 }
 
-/// Writes a line for each angle outside one turn that a positioning of `text` has, with the number of its line. `all` has the
-/// tasks that were read from the text.
-pub fn report_turns<E: Write>(text: &[u8], all: &Tasks, messages: &mut E) -> io::Result<()> {
+/// Writes a line for each angle outside one turn that a positioning of `text` has, with the number of its line, counted from 1. `all`
+/// has the tasks that were read from this text. `Err`: the messages couldn't be written, and the lines after it aren't reported.
+pub fn report_odd_angles<E: Write>(text: &[u8], all: &Tasks, messages: &mut E) -> io::Result<()> {
     let mut setup = all.tasks.iter().take(all.setup);
     let mut cycle = all.tasks.iter().skip(all.setup);
-    let mut at_start = false;
+    let mut is_setup = false;
     let mut line = 1u32;
     let mut begins = true;
     for (place, byte) in text.iter().enumerate() {
         if begins {
             let rest = text.get(place..).unwrap_or(b"");
-            at_start = is_at_start(rest, at_start);
+            is_setup = is_setup_after(rest, is_setup);
         }
         // A command's line begins with a digit of its target, and no other line does. So the tasks of a section are those of its
         // lines that begin so, in order; those of a cycle once more for each further attempt.
         if begins && byte.is_ascii_digit() {
-            let task = if at_start {
+            let task = if is_setup {
                 setup.next()
             } else {
                 cycle.find(|task| task.turn.attempt == 1)
             };
             if let Some(task) = task {
-                report_turn(line, task, messages)?;
+                report_odd_angles_of(line, task, messages)?;
             }
         }
         begins = *byte == b'\n';
@@ -58,24 +59,25 @@ pub fn report_turns<E: Write>(text: &[u8], all: &Tasks, messages: &mut E) -> io:
     Ok(())
 }
 
-// Whether the commands after the line at the front of `rest` are the setup. `before`: whether those before it are.
-fn is_at_start(rest: &[u8], before: bool) -> bool {
-    if before {
+// Whether the commands after the line at the front of `rest` are those of the setup; `is_setup` says it of those before that line. As the
+// text was read as tasks, only its lines `at start` and `each cycle` begin with these words.
+fn is_setup_after(rest: &[u8], is_setup: bool) -> bool {
+    if is_setup {
         !rest.starts_with(b"each cycle")
     } else {
         rest.starts_with(b"at start")
     }
 }
 
-// Writes a line for each angle outside one turn, if the task of this line is a positioning.
-fn report_turn<E: Write>(line: u32, task: &Task, messages: &mut E) -> io::Result<()> {
+// Writes a line for each angle outside one turn, if the task of the line with this number is a positioning; else nothing.
+fn report_odd_angles_of<E: Write>(line: u32, task: &Task, messages: &mut E) -> io::Result<()> {
     let Asked::Table(Call::Position { hz, v, .. }) = task.command.call else {
         return Ok(());
     };
-    if is_beyond_a_turn(hz) {
+    if is_hz_outside_a_turn(hz) {
         report_angle(line, "HZ", hz, messages)?;
     }
-    if is_outside_a_turn(v) {
+    if is_v_outside_a_turn(v) {
         report_angle(line, "V", v, messages)?;
     }
     Ok(())

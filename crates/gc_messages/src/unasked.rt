@@ -4,17 +4,19 @@
 use gc_texts::Tasks;
 use std::io::{self, Write};
 
-/// Writes a line for each target of which the text says where it is (`near`), though no command measures its direction.
+/// Writes a line for each target of which the text says where it is (`near`), though no command measures its direction, neither of the
+/// setup nor of the cycle. `Err`: the messages couldn't be written, and the targets after it aren't reported.
 pub fn report_unasked<E: Write>(tasks: &Tasks, messages: &mut E) -> io::Result<()> {
     for near in tasks.nears.as_slice() {
         if !tasks.asks_direction_of(near.target) {
-            report_target(near.target, messages)?;
+            report_unasked_target(near.target, messages)?;
         }
     }
     Ok(())
 }
 
-/// Writes a line for each target that has a name in the text, and for which the text has no command.
+/// Writes a line for each target that has a name in the text, and for which the text has no command, neither of the setup nor of the
+/// cycle. `Err`: the messages couldn't be written, and the targets after it aren't reported.
 pub fn report_unused_names<E: Write>(tasks: &Tasks, messages: &mut E) -> io::Result<()> {
     for name in tasks.names.as_slice() {
         if !tasks
@@ -33,7 +35,7 @@ pub fn report_unused_names<E: Write>(tasks: &Tasks, messages: &mut E) -> io::Res
 }
 
 // Writes the line of a target whose direction no command measures.
-fn report_target<E: Write>(target: u32, messages: &mut E) -> io::Result<()> {
+fn report_unasked_target<E: Write>(target: u32, messages: &mut E) -> io::Result<()> {
     writeln!(
         messages,
         "geocom: near {target}: no command measures the direction of target {target}"

@@ -1,11 +1,12 @@
 -- Rows and the replies that they speak of, one after the other.
 use Rattle.std.proofs.Common.{◌≡◌, ℕ, ◌+◌, ◌<◌, ◌≤◌, List, [], ◌∷◌, ◌++◌, length, take, get_or, inl, inr, Option, Some, None, refl, ap, subst, sym, ◌∙◌, arith}
 use Rattle.std.specs.Prelude.{slice_get}
-use Rattle.std.proofs.lemmas.List.{take_more, take_all}
+use Rattle.std.proofs.lemmas.List.{take_all}
 use Rattle.std.proofs.lemmas.Option.{slice_get_within, slice_get-get_or}
 use Rattle.gc_nights.specs.Claims.{SpeaksOf, IsTrueAt, MatchesNext, AreTrue}
 use Rattle.gc_nights.specs.declared.claim.Claim.{Claim}
 use Rattle.gc_rehearsal.specs.declared.truth.Truth.{Truth}
+use Rattle.gc_texts.proofs.SettlementLines.{at_place}
 
 -- one more reply leaves rows true
 stays_true_by_one_reply_more : (claims : List Claim) (truths : List Truth) (truth : Truth) → AreTrue claims truths → AreTrue claims (truths ++ truth ∷ [])
@@ -32,16 +33,12 @@ pub record HasMatched (claims : List Claim) (truths : List Truth) (matched seen 
 pub matched_first : (claims : List Claim) (truths : List Truth) → HasMatched claims truths 0 0
 matched_first claims truths = record { within = omega arith; are = tt }
 
--- the first `i + 1` elements of a list are the first `i` and the one at place `i`
-next_front : {X : Type 0} (xs : List X) (i : ℕ) (x : X) → i < length xs → x ≡ get_or xs i x → take (i + 1) xs ≡ take i xs ++ x ∷ []
-next_front xs i x within is = take_more xs i x within ∙ ap (λ y. take i xs ++ y ∷ []) (sym is)
-
 -- a further reply with which no row is matched: as many rows are true by one reply more
 pub matched_skip : (claims : List Claim) (truths : List Truth) (matched seen : ℕ) (truth : Truth) → HasMatched claims truths matched seen → seen < length truths → truth ≡ get_or truths seen truth
     → HasMatched claims truths matched (seen + 1)
 matched_skip claims truths matched seen truth so_far within is = record {
   within = so_far.within;
-  are = subst (λ ts. AreTrue (take matched claims) ts) (sym (next_front truths seen truth within is)) (stays_true_by_one_reply_more (take matched claims) (take seen truths) truth so_far.are);
+  are = subst (λ ts. AreTrue (take matched claims) ts) (sym (at_place truths seen truth within is).0) (stays_true_by_one_reply_more (take matched claims) (take seen truths) truth so_far.are);
 }
 
 -- a further reply of which the next row speaks: one row more is true by one reply more
@@ -54,8 +51,8 @@ matched_more claims truths matched seen truth so_far within is at =
     cc in
     record {
       within = omega (arith, some);
-      are = subst (λ cs. AreTrue cs (take (seen + 1) truths)) (sym (next_front claims matched at.claim some here))
-          (subst (λ ts. AreTrue (take matched claims ++ at.claim ∷ []) ts) (sym (next_front truths seen truth within is))
+      are = subst (λ cs. AreTrue cs (take (seen + 1) truths)) (sym (at_place claims matched at.claim some here).0)
+          (subst (λ ts. AreTrue (take matched claims ++ at.claim ∷ []) ts) (sym (at_place truths seen truth within is).0)
           (one_row_more_is_true (take matched claims) (take seen truths) at.claim truth so_far.are at.is));
     }
 

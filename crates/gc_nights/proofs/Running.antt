@@ -1,10 +1,10 @@
 -- Runs of a station, one after the other.
 use Rattle.std.proofs.Common.{◌≡◌, ℕ, List, [], ◌∷◌, ◌++◌, Option, Some, Result, Ok, Err, inl, inr, refl, sym, ap, subst, ◌∙◌, append_assoc, append-nil}
 use Rattle.std.specs.List.{AllByRecursion}
+use Rattle.gc_lines.proofs.Lists.{all_append, all_on}
 use Rattle.gc_links.specs.Acts.{Act, Closed}
 use Rattle.gc_rehearsal.specs.Carrying.{IsOfLine, IsQuiet}
-use Rattle.gc_rehearsed.specs.Rehearsals.{Station, RunsAndStops, AreAskable, RowsOfRehearsalsAreFaithful, acts_of_all}
-use Rattle.gc_station.proofs.Lists.{all_append}
+use Rattle.gc_rehearsed.specs.Rehearsals.{Station, RunsAndStops, AreAskable, RehearsalsInARowAreFaithful, acts_of_all}
 use Rattle.gc_station.specs.Model.{Runs, opening}
 use Rattle.gc_station.specs.Records.{Record}
 use Rattle.gc_station.specs.Runs.{Ran}
@@ -16,7 +16,7 @@ use Rattle.gc_texts.specs.declared.fault.RunFault.TheVariants.{Output}
 use Rattle.gc_texts.specs.declared.tasks.Task.{Task}
 use Rattle.gc_nights.specs.Runs.{IsRunOf, AreRuns, AreFaithfulRuns}
 
--- where no act was made there was no run: nothing comes after `acts`
+-- no runs at all lead from these acts to the same acts
 pub no_runs : (commands : List Task) (acts : List Act) → AreRuns commands acts acts
 no_runs commands acts = record { stations = []; each = tt; told = sym (append-nil acts) }
 
@@ -24,9 +24,9 @@ no_runs commands acts = record { stations = []; each = tt; told = sym (append-ni
 acts_of_all_append : (xs ys : List Station) → acts_of_all (xs ++ ys) ≡ acts_of_all xs ++ acts_of_all ys
 acts_of_all_append [] ys = refl
 acts_of_all_append (x ∷ xs) ys =
-    ap (λ acts. x.acts ++ (x.behind ++ acts)) (acts_of_all_append xs ys)
-    ∙ ap (λ acts. x.acts ++ acts) (sym (append_assoc x.behind (acts_of_all xs) (acts_of_all ys)))
-    ∙ sym (append_assoc x.acts (x.behind ++ acts_of_all xs) (acts_of_all ys))
+    ap (λ acts. x.acts ++ (x.after_run ++ acts)) (acts_of_all_append xs ys)
+    ∙ ap (λ acts. x.acts ++ acts) (sym (append_assoc x.after_run (acts_of_all xs) (acts_of_all ys)))
+    ∙ sym (append_assoc x.acts (x.after_run ++ acts_of_all xs) (acts_of_all ys))
 
 -- runs that made the acts from `old` to `mid`, and then others from `mid` to `new`, made those from `old` to `new`
 pub runs_behind : (commands : List Task) (old mid new : List Act) → AreRuns commands old mid → AreRuns commands mid new → AreRuns commands old new
@@ -41,7 +41,7 @@ module _ (plan : Plan) (commands : List Task) (scope : Scope) (text : Record →
   -- the acts of a run, and quiet acts after them, are those of one run
   run_then_quiet : (acts behind : List Act) → Runs plan commands (opening plan scope) acts → AllByRecursion IsQuiet behind → new ≡ old ++ (acts ++ behind) → AreRuns commands old new
   run_then_quiet acts behind runs quiet told = record {
-    stations = record { plan = plan; commands = commands; scope = scope; acts = acts; behind = behind } ∷ [];
+    stations = record { plan = plan; commands = commands; scope = scope; acts = acts; after_run = behind } ∷ [];
     each = ((refl, record { askable = askable; runs = runs; quiet = quiet }), tt);
     told = told ∙ ap (λ xs. old ++ (acts ++ xs)) (sym (append-nil behind));
   }
@@ -53,16 +53,11 @@ module _ (plan : Plan) (commands : List Task) (scope : Scope) (text : Record →
   run_is_one (Err Output) (inr r) = run_then_quiet r.acts (Closed ∷ []) r.runs (tt, tt) r.tells
   run_is_one (Err fault) r = run_then_quiet r.2.acts [] r.2.runs tt (r.2.tells ∙ ap (λ xs. old ++ xs) (sym (append-nil r.2.acts)))
 
--- each of these runs of a station with the same commands is a run that stops
-each_runs : (commands : List Task) (xs : List Station) → AllByRecursion (IsRunOf commands) xs → AllByRecursion RunsAndStops xs
-each_runs commands [] each = tt
-each_runs commands (x ∷ xs) each = (each.0.1, each_runs commands xs each.1)
-
 -- runs that made all acts of the line from the first on are faithful
-pub faithful_runs : (commands : List Task) (acts : List Act) → RowsOfRehearsalsAreFaithful → IsOfLine acts → AreRuns commands [] acts → AreFaithfulRuns commands acts
+pub faithful_runs : (commands : List Task) (acts : List Act) → RehearsalsInARowAreFaithful → IsOfLine acts → AreRuns commands [] acts → AreFaithfulRuns commands acts
 faithful_runs commands acts law line runs = record {
   stations = runs.stations;
   each = runs.each;
   told = runs.told;
-  faithful = λ few. law runs.stations (subst IsOfLine runs.told line) (each_runs commands runs.stations runs.each) few;
+  faithful = λ few. law runs.stations (subst IsOfLine runs.told line) (all_on (IsRunOf commands) RunsAndStops runs.stations (λ x run. run.1) runs.each) few;
 }

@@ -5,18 +5,18 @@ use Rattle.gc_catalogue.specs.Asked.{asked_line}
 use Rattle.gc_nights.specs.declared.claim.Claim.{Claim}
 use Rattle.gc_rehearsal.specs.declared.truth.Truth.{Truth}
 
--- a reply to a request that was sent at `sent` came at the moment `at`: before the deadline if it came in time (`true`), and otherwise
--- not before it. `at` may be before `sent`, because the clock may go back
-abbrev pub IsTimed : Bool → ℕ → ℕ → ℕ → Type 0
-IsTimed true sent at deadline = at < sent + deadline
-IsTimed false sent at deadline = sent + deadline ≤ at
+-- a reply to a request that was sent at `sent` came at the moment `at`: before the deadline, which is `deadline` after `sent`, if it came
+-- in time (`true`), and otherwise not before it. `at` may be before `sent`, because the clock may go back
+abbrev pub IsInTimeIff : (in_time : Bool) (sent at deadline : ℕ) → Type 0
+IsInTimeIff true sent at deadline = at < sent + deadline
+IsInTimeIff false sent at deadline = sent + deadline ≤ at
 
 -- the claim speaks of this reply: the reply came at the claim's moment, in time exactly if the claim has a line, which then is the
 -- reply's; and its request asked for the claim's command, with one of the ids 0 to 7, and was sent when the claim says
 pub record SpeaksOf (claim : Claim) (truth : Truth) : Type 0 where
   pub at : claim.at ≡ truth.given
   pub sent : claim.sent ≡ truth.sent
-  pub timed : IsTimed claim.has_line claim.sent claim.at claim.deadline
+  pub timed : IsInTimeIff claim.has_line claim.sent claim.at claim.deadline
   pub asked : (id : ℕ) × (id < 8) × (truth.asked.items ≡ asked_line (Some id) claim.call)
   pub line : claim.has_line ≡ true → claim.line.items ≡ truth.reply.items
 
@@ -28,7 +28,7 @@ pub record IsTrueAt (claims : List Claim) (place : ℕ) (truth : Truth) : Type 0
 
 -- the first `matched` claims were matched with replies, and with this further reply the first `next` are: as many as before, or one
 -- more, which then speaks of the reply
-abbrev pub MatchesNext : List Claim → ℕ → Truth → ℕ → Type 0
+abbrev pub MatchesNext : List Claim → (matched : ℕ) → Truth → (next : ℕ) → Type 0
 MatchesNext claims matched truth next = (next ≡ matched) ⊎ ((next ≡ matched + 1) × IsTrueAt claims matched truth)
 
 -- the claims speak of replies that came, in their order: each of one that came after the reply of the claim before it

@@ -13,7 +13,7 @@ use gc_station::{Book, LinkHealth};
 use gc_texts::{Ending, Stamp, Tasks, Wish};
 use gc_words::Layout;
 
-/// What was seen of the rows: what those of the present run claim, and the counts over all nights.
+/// What was seen of the rows: what those of the present run claim, and the counts of all runs.
 #[derive(Drop)]
 pub(crate) struct Seen {
     // When the line was made, in milliseconds since 1970.
@@ -42,7 +42,8 @@ impl Seen {
         }
     }
 
-    // Counts a row and, if it says that a reply came, notes what it claims. Sets `lacks_memory` if memory is refused.
+    // Counts a row and, if it says that a reply came, notes what it claims. If memory is refused, a count or the claim is missing, and
+    // `lacks_memory` is set.
     fn see(&mut self, stamp: Stamp, command: &Wish, ending: Ending<'_>) {
         if self.summary.note(stamp, command, ending).is_err() {
             self.lacks_memory = true;
@@ -95,12 +96,14 @@ pub(crate) struct RunBook<K> {
     // The names of targets, in a `Tasks` whose own tasks are empty.
     named: Tasks,
     pub(crate) seen: Seen,
-    // How many acts the station may yet make, and whether it was killed at the end of them.
+    // How many acts the station may yet make in the run, and whether it was killed at the end of them.
     left: u64,
     is_killed: bool,
-    // When the night ends, in milliseconds since 1970, and whether the station has read that moment, or a later one.
+    // When the night ends, in milliseconds since 1970; whether the station has read that moment, or a later one; and whether `sync` cut
+    // the run off for it.
     until: u64,
     is_over: bool,
+    is_cut_off: bool,
     // Whether a row of the run couldn't be written, or the run was ended by `sync`.
     has_failed: bool,
 }
@@ -117,30 +120,32 @@ impl<K> RunBook<K> {
             is_killed: false,
             until: 0,
             is_over: false,
+            is_cut_off: false,
             has_failed: false,
         }
     }
 
-    /// Begins a run of the station at the moment `run`. The run is killed after `acts` acts, and cut off at the moment `until`. Both
-    /// moments are in milliseconds since 1970.
+    /// Begins a run of the station at the moment `run`. The run is killed after `acts` acts, and cut off once the station has read the
+    /// moment `until` or a later one. Both moments are in milliseconds since 1970. The claims of the run before are dropped.
     pub(crate) fn begin(&mut self, run: u64, acts: u64, until: u64) {
         self.layout.run = run;
         self.left = acts;
         self.is_killed = false;
         self.until = until;
         self.is_over = false;
+        self.is_cut_off = false;
         self.has_failed = false;
         self.seen.claims.clear();
     }
 
-    /// Whether the station was killed.
+    /// Whether the station was killed in the present run.
     pub(crate) fn is_killed(&self) -> bool {
         self.is_killed
     }
 
-    /// Whether the station has read the end of its night, or a later moment, from the clock.
-    pub(crate) fn is_over(&self) -> bool {
-        self.is_over
+    /// Whether the present run was cut off at the end of its night.
+    pub(crate) fn is_cut_off(&self) -> bool {
+        self.is_cut_off
     }
 
     /// Ends the book, and hands back the sink, what was seen of the rows, and the names of targets.
@@ -154,6 +159,7 @@ impl<K> RunBook<K> {
             is_killed: _,
             until: _,
             is_over: _,
+            is_cut_off: _,
             has_failed: _,
         } = self;
         (sink, seen, named)
@@ -169,7 +175,7 @@ impl<K: Sink> Book for RunBook<K> {
 
     ghost is_durable = { λ _. true };
 
-    // Writes a row, and notes what it claims.
+    // Writes a row, counts it, and notes what it claims, also if it can't be written.
     fn write(
         &mut self,
         stamp: Stamp,
@@ -194,9 +200,10 @@ impl<K: Sink> Book for RunBook<K> {
         }
     }
 
-    // Counts the act that comes next. `Err`: no act is left, so that the station is killed, or the night is over.
+    // Counts the act that comes next, or the end of the run. `Err`: the night is over, or no act is left, so that the station is killed.
     fn sync(&mut self) -> Result<(), PortFailed> {
         if self.is_over {
+            self.is_cut_off = true;
             self.has_failed = true;
             return Err(PortFailed);
         }
@@ -209,13 +216,13 @@ impl<K: Sink> Book for RunBook<K> {
         Ok(())
     }
 
-    // Notes whether the night is over at this moment.
+    // Notes if the night is over at this moment.
     fn sees(&mut self, _health: LinkHealth, moment: Moment) {
         if moment.utc >= self.until {
             self.is_over = true;
         }
     }
 
-    // Does nothing: the summary has the cycles that aren't whole.
+    // Does nothing: the summary doesn't count overruns.
     fn overran(&mut self, _cycle: u64) {}
 }

@@ -1,15 +1,16 @@
-//! Claims: what rows say of replies, and the comparison with the truth.
+//! Claims: what rows say of replies, and the comparison with the truth. The contract of each test here says what `true` means; of `false`
+//! it says nothing.
 
 ghost use Rattle.std.specs.Prelude.{◌≡◌, ◌<◌, ℕ, IsTrue, IfNone, IfSome, length, Some, true};
 ghost use Rattle.gc_catalogue.specs.Asked.{asked_line};
-ghost use Rattle.gc_nights.specs.Claims.{IsTimed, SpeaksOf, IsTrueAt, MatchesNext, AreTrue};
+ghost use Rattle.gc_nights.specs.Claims.{IsInTimeIff, SpeaksOf, IsTrueAt, MatchesNext, AreTrue};
 
 use gc_catalogue::{Asked, encode_asked};
 use gc_lines::Line;
 use gc_rehearsal::Truth;
 use gc_texts::Stamp;
 
-/// What a row says of a reply: that the request of its command was answered by it, or that the reply came late. Times are in
+/// What a row says of a reply: that the request of its command was answered by it, or that the reply came late. `sent` and `at` are in
 /// milliseconds since the line was made.
 #[derive(Debug, Drop)]
 pub struct Claim {
@@ -17,7 +18,7 @@ pub struct Claim {
     pub sent: u64,
     /// The last moment that the clock gave when the command ended.
     pub at: u64,
-    /// How long after `sent` a reply is in time.
+    /// How long after `sent` a reply is in time, in milliseconds.
     pub deadline: u64,
     /// What was asked.
     pub call: Asked,
@@ -25,7 +26,7 @@ pub struct Claim {
     pub has_line: bool,
     /// That line; empty if the row has none.
     pub line: Line,
-    /// The row's moments and place.
+    /// The row's moments, in milliseconds since 1970, and its place.
     pub stamp: Stamp,
     /// The row's target.
     pub target: u32,
@@ -61,10 +62,11 @@ fn same_line(has_line: bool, line: &[u8], reply: &[u8]) -> bool
     !has_line || line == reply
 }
 
-// Whether a reply that came at the moment `at`, to a request that was sent at the moment `sent`, came before the deadline, if `in_time`
-// is set, and otherwise whether it came at the deadline or later.
-fn is_timed(in_time: bool, sent: u64, at: u64, deadline: u64) -> bool
-    ensures { IsTrue result → IsTimed in_time sent at deadline }
+// Whether a reply that came at the moment `at`, to a request that was sent at the moment `sent`, came before the deadline, `deadline`
+// milliseconds after `sent`, if `in_time` is set; otherwise whether it came then or later. A reply before `sent`, as a clock that was set
+// back gives it, is in time.
+fn is_in_time_iff(in_time: bool, sent: u64, at: u64, deadline: u64) -> bool
+    ensures { IsTrue result → IsInTimeIff in_time sent at deadline }
 {
     if in_time {
         at < sent || at - sent < deadline
@@ -80,7 +82,7 @@ fn speaks_of(claim: &Claim, truth: &Truth) -> bool
 {
     claim.at == truth.given
         && claim.sent == truth.sent
-        && is_timed(claim.has_line, claim.sent, claim.at, claim.deadline)
+        && is_in_time_iff(claim.has_line, claim.sent, claim.at, claim.deadline)
         && same_line(
             claim.has_line,
             claim.line.as_slice(),
@@ -113,7 +115,7 @@ fn matched_with(claims: &[Claim], matched: usize, truth: &Truth) -> usize
 }
 
 /// The place of the first claim that isn't true: the claims before it speak of replies that came, in their order, and it speaks of none
-/// of those that came after them. `None`: all claims are true.
+/// of those that came after them. `None`: all claims are true. Of a place the contract says only that there is a claim at it.
 pub fn first_false(claims: &[Claim], truths: &[Truth]) -> Option<usize>
     ensures all_true { IfNone result (AreTrue claims.now truths.now) }
     ensures within { IfSome result (λ k. k < length claims.now) }

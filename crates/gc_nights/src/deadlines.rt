@@ -11,7 +11,7 @@ pub(crate) struct Deadlines {
 }
 
 impl Deadlines {
-    /// The deadlines of these tasks, of which the first `setup` are the setup.
+    /// The deadlines of these tasks, of which the first `setup` are the setup. It fails if memory is refused.
     pub(crate) fn new(
         alloc: Global,
         tasks: &[Task],

@@ -11,7 +11,7 @@ use std::io::{self, Write};
 /// The number of the fault that a row is false.
 pub(crate) const ROW_FALSE: u8 = 70;
 
-/// A row that isn't true: which row it is, counted from 1, its moments and place, and its target.
+/// A row that isn't true: which row it is, counted from 1 over all nights, its moments and place, and its target.
 #[derive(Clone, Copy, Drop)]
 pub(crate) struct FalseRow {
     pub(crate) row: u64,
@@ -61,7 +61,7 @@ pub(crate) enum Halt {
     File(FileOption, RunFault),
     /// The output failed, or memory was refused.
     Fault(RunFault),
-    /// A row is false in the rehearsal with this seed.
+    /// This row is false, in the rehearsal with this seed.
     Untrue(u64, FalseRow),
 }
 
@@ -80,7 +80,8 @@ impl Halt {
     }
 }
 
-// Writes why the text of the file of `--line` was refused.
+// Writes the fault for which the text of the file of `--line` was refused, and which file it is or what is at fault in its first faulty
+// line.
 fn tell_refusal<E: Write>(refusal: Refusal, messages: &mut E) -> io::Result<()> {
     match refusal {
         Refusal::TooLong => tell_file(FileOption::Line, RunFault::InputTooLong, messages),
@@ -92,7 +93,7 @@ fn tell_refusal<E: Write>(refusal: Refusal, messages: &mut E) -> io::Result<()> 
     }
 }
 
-// Writes which line of the scene is faulty, and what is at fault in it.
+// Writes the fault of a scene with a faulty line, and what is at fault in that line.
 fn tell_scene<E: Write>(line: u32, trouble: SceneTrouble, messages: &mut E) -> io::Result<()> {
     RunFault::Schedule { line }.tell(messages)?;
     trouble.tell(line, messages)
@@ -114,7 +115,8 @@ fn tell_untrue<E: Write>(seed: u64, row: FalseRow, messages: &mut E) -> io::Resu
     tell_row(row, messages)
 }
 
-// Writes which row is false, by its target, its cycle, its place and its time.
+// Writes which row is false, by its target, its cycle (0: the setup), the place of its command in a cycle or the setup, counted from 0, and
+// the time at which the command ended.
 fn tell_row<E: Write>(row: FalseRow, messages: &mut E) -> io::Result<()> {
     let target = row.target;
     let cycle = row.stamp.cycle;

@@ -13,7 +13,7 @@ use gc_lines::Sink;
 use gc_measuring::plan_of;
 use gc_rehearsal::Rehearsed;
 use gc_rehearsed::are_askable;
-use gc_rehearsed::laws::rows_of_rehearsals_are_faithful;
+use gc_rehearsed::laws::rehearsals_in_a_row_are_faithful;
 use gc_station::{Kept, Plan, run_station};
 use gc_texts::{RunFault, Task};
 use gc_words::{Choice, DAY};
@@ -35,13 +35,15 @@ pub(crate) struct Programme<'a> {
     pub(crate) setup: usize,
     /// How many commands a cycle has.
     pub(crate) commands: u64,
+    /// What the operator chose. Its number of cycles isn't used: each run has as many as are left of its night.
     pub(crate) choice: Choice,
     /// How many nights there are.
     pub(crate) nights: u64,
     /// How many cycles a night has.
     pub(crate) cycles: u64,
-    /// How often the station is killed a night.
+    /// How often the station is killed a night, unless the night is done before.
     pub(crate) kills: u64,
+    /// The seed of all draws.
     pub(crate) seed: u64,
     /// When the first night begins, in milliseconds since 1970.
     pub(crate) start: u64,
@@ -86,7 +88,10 @@ enum RunEnd {
 /// Rehearses all nights over a link that is new. However they end, the acts that the link recorded are those of a station, run after
 /// run. As long as fewer than six runs in a row ended while they synchronized, each run is one in the field: whatever the line lost,
 /// repeated, held or closed, each answer that it recorded was made on executing the very request of its cycle and place. Runs that
-/// end before they are done are counted in `counts`. It fails as `run_once` does.
+/// end before they are done are counted in `counts`.
+///
+/// It fails after the first run with a false row, with `Untrue`, and with the fault `Memory` or `Output` if memory was refused or the
+/// output failed. The nights that are left aren't rehearsed then.
 pub(crate) fn run_nights<K: Sink>(
     link: &mut Rehearsed<Seeded>,
     book: &mut RunBook<K>,
@@ -98,7 +103,7 @@ pub(crate) fn run_nights<K: Sink>(
 {
     let end = run_each_night(link, book, programme, counts);
     link.is_of_line();
-    rows_of_rehearsals_are_faithful();
+    rehearsals_in_a_row_are_faithful();
     end
 }
 
@@ -109,7 +114,8 @@ fn wait_until(link: &mut Rehearsed<Seeded>, moment: u64)
     link.wait(moment.saturating_sub(link.elapsed()));
 }
 
-// Rehearses the nights in turn. It fails as `run_once` does.
+// Rehearses the nights in turn: each begins a day after the one before was due, or once that one is over, if that is later. It fails as
+// `run_nights` does.
 fn run_each_night<K: Sink>(
     link: &mut Rehearsed<Seeded>,
     book: &mut RunBook<K>,
@@ -125,7 +131,9 @@ fn run_each_night<K: Sink>(
     Ok(())
 }
 
-// Rehearses a night, run after run; the first is night 0. It fails as `run_once` does.
+// Rehearses a night, run after run, until its cycles are done or its time is over; the first is night 0. A station that was killed begins
+// again at once, and one that gave up after `RESTART_DELAY`. Runs that end before they are done are counted in `counts`. It fails as
+// `run_nights` does.
 fn run_night<K: Sink>(
     link: &mut Rehearsed<Seeded>,
     book: &mut RunBook<K>,
@@ -175,8 +183,8 @@ fn run_night<K: Sink>(
     Ok(())
 }
 
-// When a night is over that began `begins` milliseconds after the line was made, in milliseconds since 1970: after a day or, if that is
-// longer, after the time of all its cycles and of one more.
+// When a night is over that was due `begins` milliseconds after the line was made, in milliseconds since 1970: a day after it was due or,
+// if that is longer, after the time of all its cycles and of one more.
 fn end_of_night(programme: Programme<'_>, begins: u64) -> u64 {
     let every = programme.choice.every;
     let cycles = every.saturating_mul(programme.cycles).saturating_add(every);
@@ -186,15 +194,16 @@ fn end_of_night(programme: Programme<'_>, begins: u64) -> u64 {
         .saturating_add(cycles.max(DAY))
 }
 
-// How many cycles are left at `now` of a night that began at `begins`, both in milliseconds since the line was made.
+// How many cycles are left at `now` of a night that was due at `begins`, both in milliseconds since the line was made: all but those whose
+// next one is due by then. All of them are left if the choice has no interval of cycles (0).
 fn cycles_left(programme: Programme<'_>, begins: u64, now: u64) -> u64 {
     let gone = quotient(now.saturating_sub(begins), programme.choice.every);
     programme.cycles.saturating_sub(gone)
 }
 
-// After how many acts of its run the next kill of a night comes, if `left` kills are left of the night. The number is drawn uniformly.
-// Its mean is about the night's acts divided by one more than its kills, so that the kills are spread over the night. Each planned kill
-// has a draw of its own, whether it comes or not.
+// After how many acts of its run the next kill of a night comes, if `left` kills are left of the night. The number is drawn uniformly
+// from `ACTS_BEFORE_KILL` on. Its mean is about the night's least number of acts divided by one more than its kills, so that the kills are
+// spread over the night. Each planned kill has a draw of its own, whether it comes or not.
 fn acts_until_kill(programme: Programme<'_>, night: u64, left: u64) -> u64 {
     let acts = programme
         .commands
@@ -225,9 +234,9 @@ fn run_by_plan<K: Sink>(
     run_station(link, book, programme.tasks, plan, u64::MAX, &mut kept).err()
 }
 
-// Runs the station over the line for this many cycles, in at most `acts` acts, and at most until the moment `until`, in milliseconds
-// since 1970. Then all rows of the run are compared with the truth. It fails with `Untrue` if one is false, and with the fault `Memory` or
-// `Output` if memory was refused or the output failed.
+// Runs the station over the line for this many cycles, in at most `acts` acts, and until it has read the moment `until`, in milliseconds
+// since 1970, or a later one. Then all rows of the run are compared with the truth, and only then is its end judged (`end_of_run`). It
+// fails with `Untrue` if a row is false, and with the fault `Memory` or `Output` if memory was refused or the output failed.
 fn run_once<K: Sink>(
     link: &mut Rehearsed<Seeded>,
     book: &mut RunBook<K>,
@@ -250,8 +259,9 @@ fn run_once<K: Sink>(
     end_of_run(book, fault)
 }
 
-// How a run ended that stopped for this fault, or is done (`None`). If it is done, its last cycle is counted, and else the cycle that
-// was going on isn't. It fails with the fault `Memory` or `Output` if memory was refused or the output failed.
+// How a run ended: it stopped for this fault, or is done (`None`). The summary counts the last cycle of a run that is done, and leaves out
+// the one that was going on in any other. The fault of a run that was killed, or cut off at the end of its night, is that end's. Otherwise
+// the fault `Output` is a failure; so is `Memory`, if memory was refused for the last cycle.
 fn end_of_run<K>(book: &mut RunBook<K>, fault: Option<RunFault>) -> Result<RunEnd, Halt> {
     let Some(fault) = fault else {
         if book.seen.summary.finish().is_err() {
@@ -263,7 +273,7 @@ fn end_of_run<K>(book: &mut RunBook<K>, fault: Option<RunFault>) -> Result<RunEn
     if book.is_killed() {
         return Ok(RunEnd::Killed);
     }
-    if book.is_over() {
+    if book.is_cut_off() {
         return Ok(RunEnd::CutOff);
     }
     match fault {
@@ -272,8 +282,8 @@ fn end_of_run<K>(book: &mut RunBook<K>, fault: Option<RunFault>) -> Result<RunEn
     }
 }
 
-// Compares the rows of a run with the truth. It fails with `Untrue` at the first false one, and with the fault `Memory` if memory was
-// refused, so that claims or replies are missing.
+// Compares the rows of a run with the truth. It fails with `Untrue` at the first false one, and before that with the fault `Memory` if
+// memory was refused in this run or an earlier one, so that claims, counts or truths are missing.
 fn compare<K>(link: &Rehearsed<Seeded>, book: &RunBook<K>, seed: u64) -> Result<(), Halt> {
     if book.seen.lacks_memory || link.missing_truths() > 0 {
         return Err(Halt::Fault(RunFault::Memory));
@@ -283,6 +293,7 @@ fn compare<K>(link: &Rehearsed<Seeded>, book: &RunBook<K>, seed: u64) -> Result<
     };
     match book.seen.claims.get(place) {
         Some(claim) => Err(Halt::Untrue(seed, FalseRow::of(claim))),
+        // Never: there is a claim at the place of a false one.
         None => Ok(()),
     }
 }

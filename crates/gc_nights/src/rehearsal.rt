@@ -28,13 +28,14 @@ use std::process::ExitCode;
 // When the first night begins: 2026-01-01T20:00Z, in milliseconds since 1970.
 const BEGINNING: u64 = 1_767_297_600_000;
 
-// The scene of the simulator's three targets.
+// A scene of the simulator's three targets. The serial number and the name that it leaves out are the simulator's, too.
 const SIMULATOR: &[u8] =
     b"target 0.5 1.5 25.125\ntarget 2.25 1.625 110.0625\ntarget 4.0 1.5 48.5\n";
 
 /// Rehearses the nights of a station with the text of the input, writes its rows on the output, and reports on the messages how commands
 /// ended, with status 0. Status 1, with the line of the fault: a text was refused, a file couldn't be read, the output failed, memory was
-/// refused, or a row is false. The streams are handed back.
+/// refused, or a row is false; the rows up to then are written. It fails itself only if the fault can't be reported. The streams are
+/// handed back.
 pub fn rehearse<R: Files, S: Source, K: Sink + Drop, E: Write>(
     rt: &R,
     alloc: Global,
@@ -61,7 +62,7 @@ pub fn rehearse<R: Files, S: Source, K: Sink + Drop, E: Write>(
     (streams, ended)
 }
 
-// Reports how a rehearsal ended: with status 0, or with status 1 and the lines of its fault.
+// Reports how a rehearsal ended: with status 0, or with status 1 and the lines of its fault. It fails if these can't be written.
 fn report<E: Write>(end: Result<(), Halt>, messages: &mut E) -> io::Result<ExitCode>
     ensures { IfOk result (λ status. exit_status status ≤ 1) }
 {
@@ -147,7 +148,8 @@ fn instrument_of<R: Files>(
     instrument_in(alloc, text.as_slice())
 }
 
-// The instrument of the text of a scene. A line that delays replies is refused, because `serve` alone has an instrument that does.
+// The instrument of the text of a scene. It fails with `Scene` at the first faulty line, such as one with `delay` or `busy`, because
+// `serve` alone delays replies; and with `File` for a fault that isn't one line's.
 fn instrument_in(alloc: Global, text: &[u8]) -> Result<SceneInstrument, Halt> {
     match read_rule_scene(alloc, text) {
         Ok(instrument) => Ok(instrument),
@@ -159,7 +161,7 @@ fn instrument_in(alloc: Global, text: &[u8]) -> Result<SceneInstrument, Halt> {
     }
 }
 
-// How many times a night the station is killed by these rules; 0 without a rule on that.
+// How many times a night the station is to be killed by these rules; 0 without a rule on that.
 fn kills_of(rules: &Rules) -> u64 {
     match rules.chance(Word::Kill) {
         Some(chance) => u64::from(chance.least),
@@ -167,8 +169,8 @@ fn kills_of(rules: &Rules) -> u64 {
     }
 }
 
-// Rehearses the nights of these texts, writes the rows on the output, which is handed back, and the summary on the messages. Fails as
-// `run_once` does.
+// Rehearses the nights of these texts, writes the rows on the output, with a header if their form has one, and the summary on the messages.
+// The output is handed back. Fails as `run_nights` does, and before the first night if memory is refused or the header can't be written.
 fn rehearse_texts<K: Sink + Drop, E: Write>(
     alloc: Global,
     rehearsal: Rehearsal<'_>,
@@ -215,7 +217,7 @@ fn rehearse_texts<K: Sink + Drop, E: Write>(
     rehearse_over(programme, link, book, messages)
 }
 
-// Rehearses the nights over a link that is new, and writes the summary if they are done. The output is handed back. Fails as `run_once`
+// Rehearses the nights over a link that is new, and writes the summary if they are done. The output is handed back. Fails as `run_nights`
 // does.
 fn rehearse_over<K: Sink + Drop, E: Write>(
     programme: Programme<'_>,

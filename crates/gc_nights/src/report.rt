@@ -3,7 +3,7 @@
 use crate::nights::{Programme, RunCounts};
 use crate::quotient::quotient;
 use crate::summary::{Summary, TargetTally};
-use gc_measuring::{write_ends, write_others, write_target};
+use gc_measuring::{write_main_counts, write_other_counts, write_target};
 use gc_rehearsal::Counts;
 use gc_station::Tally;
 use gc_texts::Tasks;
@@ -20,7 +20,7 @@ pub(crate) fn tell_summary<E: Write>(
 ) -> io::Result<()> {
     tell_nights(programme, runs, summary.rows, messages)?;
     tell_tally(summary.tally, messages)?;
-    // If memory for the sorting is refused, the spans stay in their order, and only the figures on cycles are wrong.
+    // If memory for the sorting is refused, the spans stay in their order, and only the figures on how long cycles took are wrong.
     let _ = summary.spans.sort();
     tell_cycles(programme, summary, messages)?;
     for target in &summary.targets {
@@ -55,15 +55,15 @@ fn tell_nights<E: Write>(
     writeln!(messages, " rows {rows} false 0")
 }
 
-// Writes a line of how commands ended.
+// Writes how commands ended, and the end of the line.
 fn tell_tally<E: Write>(tally: Tally, messages: &mut E) -> io::Result<()> {
-    write_ends(tally, messages)?;
-    write_others(tally, messages)?;
+    write_main_counts(tally, messages)?;
+    write_other_counts(tally, messages)?;
     writeln!(messages)
 }
 
 // Writes how many of the cycles that were due are whole, and the least, the median and the greatest of the spans of `summary`, which
-// are in order.
+// are in order; 0 for each if there is no span. Of an even number the median is the greater of the two in the middle.
 fn tell_cycles<E: Write>(
     programme: Programme<'_>,
     summary: &Summary,
@@ -110,7 +110,7 @@ fn tell_target<E: Write>(target: TargetTally, name: &[u8], messages: &mut E) -> 
     tell_tally(target.tally, messages)
 }
 
-// Writes the front of what happened on the line: to requests and replies.
+// Writes the first half of the counts of what happened on the line: requests, replies, and which of them were lost or repeated.
 fn tell_lines<E: Write>(counts: Counts, messages: &mut E) -> io::Result<()> {
     let requests = counts.requests;
     let replies = counts.replies;
@@ -120,7 +120,7 @@ fn tell_lines<E: Write>(counts: Counts, messages: &mut E) -> io::Result<()> {
     write!(messages, "lost {lost} repeated {repeated} ")
 }
 
-// Writes the end of what happened on the line: to connections and to the instrument.
+// Writes the second half of the counts, after `tell_lines`: holds, closes and refusals of connections, and restarts of the instrument.
 fn tell_connections<E: Write>(counts: Counts, messages: &mut E) -> io::Result<()> {
     let holds = counts.holds;
     let closes = counts.closes;
@@ -130,8 +130,8 @@ fn tell_connections<E: Write>(counts: Counts, messages: &mut E) -> io::Result<()
     writeln!(messages, "refusals {refusals} restarts {restarts}")
 }
 
-// Writes what each lost line cost on average: how many commands have no answer, and how many milliseconds cycles took above the least.
-// Writes nothing if no line was lost.
+// Writes what each lost line cost on average: how many commands have no answer, and how many milliseconds cycles took above the least of
+// the spans of `summary`, which are in order. Writes nothing if no line was lost.
 fn tell_cost<E: Write>(summary: &Summary, counts: Counts, messages: &mut E) -> io::Result<()> {
     if counts.lost == 0 {
         return Ok(());
@@ -150,7 +150,7 @@ fn tell_cost<E: Write>(summary: &Summary, counts: Counts, messages: &mut E) -> i
     )
 }
 
-// How many commands have no answer: they were late, lost, skipped or missed.
+// How many commands have no answer: they were late, lost, skipped or missed. One that was sent in several attempts counts in each.
 fn count_unanswered(tally: Tally) -> u64 {
     tally
         .late
@@ -159,7 +159,7 @@ fn count_unanswered(tally: Tally) -> u64 {
         .saturating_add(tally.missed)
 }
 
-// By how many milliseconds these spans are longer than `least`, the least of them, all together.
+// By how many milliseconds these spans are longer than `least`, all together.
 fn time_above(spans: &[u64], least: u64) -> u64 {
     let mut longer = 0u64;
     for span in spans {

@@ -1,12 +1,12 @@
 //! What decides on the line of a rehearsal: the rules of its text, and a seed.
 
-use gc_fates::{Draws, Rules, Way, fate_of, restarts_at};
+use gc_fates::{Direction, Draws, Rules, fate_of, restarts_at};
 use gc_rehearsal::{Chance, Fate};
 
-// At a close that cuts a request fewer bytes than this go out of the request.
+// Of a request that is cut by a close fewer bytes than this are sent.
 const CUT_MAX: u64 = 512;
 
-// Which draw of a request gives the number of bytes that go out of it at such a close.
+// Which draw of a request gives the number of its bytes that are sent before such a close.
 const CUT_DRAW: u64 = 10;
 
 // Which draw of the request that set out last decides at a close about all lines in flight: odd, they are lost; even, they arrive.
@@ -19,12 +19,12 @@ pub(crate) struct Seeded {
     // The draws of requests, and those of replies.
     up: Draws,
     down: Draws,
-    // How many lines set out, in each direction.
+    // How many requests set out, and how many replies, one for each request that reached the instrument.
     ups: u64,
     downs: u64,
     // Whether a request reached the instrument, so that the next line to set out is its reply.
-    replies: bool,
-    // For how many milliseconds the next connection is refused.
+    is_reply_next: bool,
+    // For how many milliseconds the next connection is refused; 0 if it isn't.
     refused: u64,
 }
 
@@ -33,19 +33,20 @@ impl Seeded {
     pub(crate) fn new(rules: Rules, seed: u64) -> Seeded {
         Seeded {
             rules,
-            up: Draws::new(seed, Way::Up),
-            down: Draws::new(seed, Way::Down),
+            up: Draws::new(seed, Direction::Up),
+            down: Draws::new(seed, Direction::Down),
             ups: 0,
             downs: 0,
-            replies: false,
+            is_reply_next: false,
             refused: 0,
         }
     }
 
-    // What happens to the next line of its direction.
+    // Counts the line that sets out next, the reply to the request that reached the instrument or else a request, and returns what happens
+    // to it.
     fn next_fate(&mut self) -> gc_fates::Fate {
-        if self.replies {
-            self.replies = false;
+        if self.is_reply_next {
+            self.is_reply_next = false;
             self.downs = self.downs.saturating_add(1);
             return fate_of(&self.rules, self.down, self.downs);
         }
@@ -55,7 +56,8 @@ impl Seeded {
 }
 
 impl Chance for Seeded {
-    // What happens to the next line. If the connection closes at it, this also notes for how long the next connection is refused.
+    // What happens to the line that sets out next. If the connection closes at it, this also notes for how long the next connection is
+    // refused.
     fn fate(&mut self) -> Fate {
         let fate = self.next_fate();
         if fate.closes {
@@ -70,7 +72,7 @@ impl Chance for Seeded {
         }
     }
 
-    // How many bytes go out of the last request, at which the connection closes: drawn for that request, and below `CUT_MAX`.
+    // How many bytes are sent of the last request, at which the connection closes: drawn for that request, and below `CUT_MAX`.
     fn cut(&mut self) -> usize {
         (self.up.draw(self.ups, CUT_DRAW) % CUT_MAX) as usize
     }
@@ -92,7 +94,7 @@ impl Chance for Seeded {
     // Whether the instrument restarts before it executes a request that reached it, by a draw of the reply to that request. The next
     // line to set out is that reply.
     fn restarts(&mut self) -> bool {
-        self.replies = true;
+        self.is_reply_next = true;
         restarts_at(&self.rules, self.down, self.downs.saturating_add(1))
     }
 }

@@ -4,7 +4,7 @@ use gc_station::{Tally, is_well};
 use gc_texts::{Ending, Stamp, Wish};
 use std::alloc::{AllocError, Global};
 
-/// How the commands of a target ended.
+/// How the commands of a target ended, in all its rows.
 #[derive(Clone, Copy, Drop)]
 pub(crate) struct TargetTally {
     pub(crate) target: u32,
@@ -14,14 +14,18 @@ pub(crate) struct TargetTally {
 /// What is counted over all nights. Times are in milliseconds.
 #[derive(Drop)]
 pub(crate) struct Summary {
+    // How many rows there are.
     pub(crate) rows: u64,
+    // How the commands of all rows ended, those of the setup and of each attempt of a chain, too; and those of each target.
     pub(crate) tally: Tally,
     pub(crate) targets: Vec<TargetTally>,
-    // How long each cycle took that has a row for each command, from the first request to the last row.
+    // How long each cycle took that has a row for each command: from its first request until the last command that was sent ended. A cycle
+    // in which nothing was sent has no span.
     pub(crate) spans: Vec<u64>,
-    // How many cycles have an answer of a good quality for each command.
+    // How many of the cycles with a row for each command have an answer of a good quality for each.
     pub(crate) whole: u64,
-    // The cycle of the last row; 0 where none is going on. When its first request went out, and when its last row ended.
+    // The cycle of the last row that isn't one of the setup; 0 where none is going on. When its first request went out (`None`: nothing was
+    // sent yet), and when the last of its commands ended that were sent.
     cycle: u64,
     first: Option<u64>,
     last: u64,
@@ -32,8 +36,8 @@ pub(crate) struct Summary {
     count: u64,
 }
 
-// The place of a target among these; behind them, if it isn't one of them.
-fn place_of(targets: &[TargetTally], target: u32) -> usize {
+// The place of a target among these; how many they are, if it isn't one of them.
+fn place_of_target(targets: &[TargetTally], target: u32) -> usize {
     match targets.iter().position(|tally| tally.target == target) {
         Some(place) => place,
         None => targets.len(),
@@ -58,7 +62,7 @@ impl Summary {
         })
     }
 
-    /// Counts a row. At the first row of a cycle the cycle before it is finished.
+    /// Counts a row. At the first row of a cycle the cycle before it is finished. A row of the setup, whose cycle is 0, is of no cycle.
     pub(crate) fn note(
         &mut self,
         stamp: Stamp,
@@ -97,7 +101,7 @@ impl Summary {
 
     // Counts a row of a target, which gets a tally at its first row.
     fn count_target(&mut self, target: u32, ending: Ending<'_>) -> Result<(), AllocError> {
-        let place = place_of(self.targets.as_slice(), target);
+        let place = place_of_target(self.targets.as_slice(), target);
         if let Some(target) = self.targets.get_mut(place) {
             target.tally.count(ending);
             return Ok(());
@@ -108,8 +112,8 @@ impl Summary {
         Ok(())
     }
 
-    /// Ends the cycle that is going on, if there is one, once it has a row for each command: counts how long it took, and whether it is
-    /// whole.
+    /// Ends the cycle that is going on, if there is one, once it has a row for each command: counts how long it took, unless nothing was
+    /// sent, and whether it is whole.
     pub(crate) fn finish(&mut self) -> Result<(), AllocError> {
         if self.cycle == 0 {
             return Ok(());

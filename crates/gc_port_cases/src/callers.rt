@@ -5,12 +5,12 @@
 //!     do again 39 %R1Q,0,0:\r\n    the last caller writes this that many times more
 //!     do shut, leave           the last caller writes no more, or goes away
 //!     do serve 2 9             so many callers are served, in that many reads each
-//!     do keep 3                so many callers are served at a kept port, which gives up one that is idle for a second
+//!     do keep 3                so many callers are served at a kept port, which closes on one that is idle for a second
 //!     do slow drop 5003 200    a caller is served by an instrument whose reply to this procedure takes this many milliseconds, and
 //!                              that drops what comes meanwhile, or queues it (`queue`)
-//!     do hear 0                what this caller, counted from 0, has heard at the end of its connection, or that it waits
+//!     do hear 0                what this caller, counted from 0, has heard at the end of its connection, or `it waits` if no end comes
 //!     do ask 9 7 5003\n        these commands are asked at the port, in that many reads
-//!     do accept                the connection that `ask` made is accepted, and its end here is one more caller
+//!     do accept                the connection that `ask` or `at` made is accepted, and its end here is one more caller
 //!     do listen [::1]          another port, of this address; on a machine without such addresses `at` reports `done`
 //!     do at [::1]              a text without commands is asked there
 //!     do port 7                a text without commands is asked at this port, by its number and as a place, and the port is served
@@ -19,12 +19,12 @@
 ghost use Rattle.std.specs.Prelude.{◌≤◌};
 
 use crate::ends::{tell_cut_ends, tell_ends, written_word};
-use crate::streams::{accepted, bounded, hear, local_address, tell_end_behind};
+use crate::streams::{accepted, bounded, hear, listener_at_1024, tell_end_behind};
 use arrayvec::ArrayVec;
 use gc_ask::{Address, BusyClock, Keeping, Slow, ask_at, ask_tcp, keep_on, serve_on, serve_tcp};
 use gc_cases::{Case, Player, Rows, Told, bytes_behind, cut_word, play_rows, port_of};
 use gc_instrument::Instrument;
-use gc_links::Place;
+use gc_links::{Place, listen};
 use gc_probes::{PieceSink, PieceSource};
 use gc_scenes::{Delay, SceneInstrument, SlowInstrument, Ways};
 use gc_texts::{RunFault, number_of};
@@ -35,12 +35,12 @@ use std::net::{Ipv6Addr, Shutdown, SocketAddr, TcpListener, TcpStream};
 use std::time::Instant;
 
 /// Plays `.callers`.
-pub struct Callers;
+pub struct CallersPlayer;
 
-impl Player for Callers {
-    // Plays a case at a free port of its own.
+impl Player for CallersPlayer {
+    // Plays a case at a free port of its own. `Err`: no port could be listened at.
     fn play(&self, rt: &HostRuntime, case: &Case<'_>, wrong: &mut Told) -> io::Result<()> {
-        let listener = TcpListener::bind(rt, local_address(0))?;
+        let listener = listen(rt, 0)?;
         play_at(rt, listener, case, wrong);
         Ok(())
     }
@@ -87,18 +87,23 @@ impl<'a> Rows for Played<'a> {
     }
 }
 
-// The number that digits write, if it is at most `most`; otherwise 0.
-fn number(digits: &str, most: u64) -> u64 {
+// The number that digits write, if it is at most `most`; otherwise, or if the word isn't of digits, 0.
+fn u64_up_to(digits: &str, most: u64) -> u64 {
     number_of(digits.as_bytes(), most).unwrap_or(0)
 }
 
-// The number that digits write, in 32 bits, if it is at most `most`; otherwise 0.
-fn small_number(digits: &str, most: u32) -> u32 {
-    u32::try_from(number(digits, u64::from(most))).unwrap_or(0)
+// What `u64_up_to` returns, in 32 bits.
+fn u32_up_to(digits: &str, most: u32) -> u32 {
+    u32::try_from(u64_up_to(digits, u64::from(most))).unwrap_or(0)
 }
 
-// Reports how asking or serving ended. Of a write that failed, the number of replies before it is left out, because it isn't known how
-// many the system takes.
+// The number of 16 bits that digits write, as of a port or of a procedure; otherwise 0.
+fn u16_of(digits: &str) -> u16 {
+    u16::try_from(u64_up_to(digits, 65535)).unwrap_or(0)
+}
+
+// Reports how asking or serving ended. Of a write that failed, the number of replies before it is reported as `+` if there were any,
+// because it isn't known how many the system takes.
 fn tell_end(end: Result<(), RunFault>, came: &mut Told) {
     match end {
         Ok(()) => came.text("done"),
@@ -109,7 +114,8 @@ fn tell_end(end: Result<(), RunFault>, came: &mut Told) {
     }
 }
 
-// Reports these lines, with `+` for the number after the first `reply`, because it isn't known how many replies the system takes.
+// Reports these lines, with `+` for the number between the first ` reply ` and the ` byte ` after it, because it isn't known how many
+// replies the system takes. Lines without a ` reply ` are reported as they are.
 fn tell_uncounted(lines: &str, came: &mut Told) {
     let Some((front, behind)) = lines.split_once(" reply ") else {
         return came.text(lines);
@@ -120,11 +126,12 @@ fn tell_uncounted(lines: &str, came: &mut Told) {
 }
 
 impl<'a> Played<'a> {
-    // Plays a row in which a caller does something, or in which another port is listened at, and reports what can't be done.
+    // Plays a row in which a caller does something, or in which another port is listened at, and reports what can't be done, or that the
+    // word is unknown.
     fn prepare(&mut self, word: &str, what: &str, bytes: &[u8], came: &mut Told) {
         match word {
             "call" => tell_done(self.call(bytes), came),
-            "again" => tell_done(self.write_again(cut_word(what).0, bytes), came),
+            "again" => tell_done(self.write_times(cut_word(what).0, bytes), came),
             "shut" => tell_done(self.shut(), came),
             "leave" => drop(self.callers.pop()),
             "accept" => tell_done(self.accept(), came),
@@ -136,26 +143,29 @@ impl<'a> Played<'a> {
     // Connects one more caller, who writes these bytes, and returns whether that could be done.
     fn call(&mut self, bytes: &[u8]) -> bool {
         let stream = connected(self.rt, &self.listener);
-        self.keep_caller(stream) && self.write(bytes)
+        self.add_caller(stream) && self.write(bytes)
     }
 
-    // Accepts the connection that `ask` made, and returns whether its end could be kept as one more caller.
+    // Accepts the connection that `ask` or `ask_at` made, and returns whether its end here is one more caller now. It waits for ever if
+    // none was made.
     fn accept(&mut self) -> bool {
         let stream = accepted(&self.listener);
-        self.keep_caller(stream)
+        self.add_caller(stream)
     }
 
-    // Keeps the end of a connection as one more caller, and returns whether there is one.
-    fn keep_caller(&mut self, stream: io::Result<TcpStream>) -> bool {
+    // Adds the end of a connection to the callers, as the last one. Returns whether that could be done: `false` if there is no connection,
+    // or memory ran out.
+    fn add_caller(&mut self, stream: io::Result<TcpStream>) -> bool {
         match stream {
             Ok(stream) => self.callers.push(stream).is_ok(),
             Err(_) => false,
         }
     }
 
-    // The last caller writes what is in `bytes` after the number `times`, that many times. Returns whether that could be done.
-    fn write_again(&mut self, times: &str, bytes: &[u8]) -> bool {
-        for _ in 0..number(times, 1000) {
+    // The last caller writes what is in `bytes` after the number `times`, that many times; a number above 1000, or a word that is none,
+    // counts as 0. Returns whether that could be done; it stops at the first write that fails.
+    fn write_times(&mut self, times: &str, bytes: &[u8]) -> bool {
+        for _ in 0..u64_up_to(times, 1000) {
             if !self.write(bytes_behind(times, bytes)) {
                 return false;
             }
@@ -180,7 +190,7 @@ impl<'a> Played<'a> {
     }
 
     // Listens at a free port of the address 127.0.0.2, if `what` says so, and otherwise of ::1, from now on. Returns whether that could be
-    // done; a machine without ::1 counts as one that could, and `is_absent` notes it.
+    // done. A machine without ::1 counts as one on which it could: then `is_absent` is true, and the listener from before stays.
     fn listen(&mut self, what: &str) -> bool {
         if what == "127.0.0.2" {
             let address = SocketAddr::from(([127, 0, 0, 2], 0));
@@ -190,7 +200,7 @@ impl<'a> Played<'a> {
         true
     }
 
-    // Takes this listener from now on, if there is one, and returns whether there is.
+    // Listens by this listener from now on, if there is one, and returns whether there is. Without one the listener from before stays.
     fn listen_by(&mut self, listener: io::Result<TcpListener>) -> bool {
         match listener {
             Ok(listener) => {
@@ -201,11 +211,13 @@ impl<'a> Played<'a> {
         }
     }
 
-    // Serves callers, and reports how that ended. `what` says how many callers, and how many reads each may take.
+    // Serves callers, and reports how that ended. `what` says how many callers, and how many reads each may take, each a digit; anything
+    // else counts as 0.
     fn serve(&mut self, what: &str, came: &mut Told) {
         let (count, reads) = cut_word(what);
-        let count = small_number(count, 9).min(1000);
-        let reads = small_number(reads, 9);
+        // The count is at most 9 as it is; `min` shows `serve_on` that it is at most 1000.
+        let count = u32_up_to(count, 9).min(1000);
+        let reads = u32_up_to(reads, 9);
         let end = serve_on(
             self.rt,
             &self.listener,
@@ -218,13 +230,14 @@ impl<'a> Played<'a> {
     }
 
     // Serves a caller with an instrument whose reply to a procedure takes time. `what` is `drop` or `queue`, the procedure and the time in
-    // milliseconds. Reports how serving ended, and `late` if it took at least that time.
+    // milliseconds, at most 9999; a procedure or a time that is no such number counts as 0. Reports how serving ended, and `late` if it
+    // took at least that time; or `no clock`, with nobody served, if the clock can't be read.
     fn serve_slowly(&mut self, what: &str, came: &mut Told) {
         let (busy, rest) = cut_word(what);
         let (rpc, ms) = cut_word(rest);
         let delay = Delay {
-            rpc: u16::try_from(number(rpc, 65535)).unwrap_or(0),
-            ms: small_number(ms, 9_999),
+            rpc: u16_of(rpc),
+            ms: u32_up_to(ms, 9_999),
         };
         let drops = busy == "drop";
         let (Ok(clock), Ok(begun)) = (BusyClock::new(self.rt, drops), Instant::now(self.rt)) else {
@@ -245,11 +258,11 @@ impl<'a> Played<'a> {
         }
     }
 
-    // Serves as many callers as `what` says at a kept port, which gives up one that is idle for a second. Reports
-    // the lines that it wrote on their faults, and whether all could be written.
+    // Serves as many callers as the digit `what` says (0 if it is no digit) at a kept port, which closes the connection of one that is idle
+    // for a second. Reports whether all lines on their faults could be written, and these lines.
     fn keep(&mut self, alloc: Global, what: &str, came: &mut Told) {
         let keeping = Keeping {
-            connections: Some(small_number(what, 9)),
+            connections: Some(u32_up_to(what, 9)),
             idle: 1,
             max_reads: 9,
         };
@@ -265,17 +278,18 @@ impl<'a> Played<'a> {
         tell_kept(all, messages.as_slice(), came);
     }
 
-    // Reports what the caller of this place has heard. A place above 9 counts as 0, as everything does that isn't a digit.
+    // Reports what the caller at the place `what`, counted from 0, has heard, or that there is no such caller. Anything but a digit counts
+    // as 0.
     fn hear(&mut self, alloc: Global, what: &str, came: &mut Told) {
-        let place = usize::try_from(number(what, 9)).unwrap_or(usize::MAX);
+        let place = usize::try_from(u64_up_to(what, 9)).unwrap_or(usize::MAX);
         match self.callers.get_mut(place) {
             Some(caller) => tell_heard(alloc, caller, came),
             None => came.text("no such caller"),
         }
     }
 
-    // Asks the commands in `bytes` after the number `reads` at the port, in that many reads, and reports what was written and how it
-    // ended.
+    // Asks the commands in `bytes` after the digit `reads` at the port, in at most that many reads (0 if it is no digit), and reports what
+    // was written and how it ended; or `no port` if the system doesn't say which port it is.
     fn ask(&mut self, alloc: Global, reads: &str, bytes: &[u8], came: &mut Told) {
         let port = port_of(&self.listener);
         if port == 0 {
@@ -283,14 +297,14 @@ impl<'a> Played<'a> {
         }
         let mut source = PieceSource::new(bytes_behind(reads, bytes), &[], u64::MAX);
         let mut sink = PieceSink::new(alloc, 1000, u64::MAX);
-        let reads = small_number(reads, 9);
+        let reads = u32_up_to(reads, 9);
         let end = ask_tcp(self.rt, alloc, port, &mut source, &mut sink, reads);
         came.bytes(sink.taken());
         tell_end(end, came)
     }
 
-    // Asks a text without commands at the address or name `what`, with the listener's port, and reports how that ended. On a machine
-    // without that address `done` is reported.
+    // Asks a text without commands at the address or name `what`, with the listener's port, and reports how that ended. If `is_absent`,
+    // nobody is asked, and `done` is reported.
     fn ask_at(&mut self, alloc: Global, what: &str, came: &mut Told) {
         if self.is_absent {
             return came.text("done");
@@ -303,17 +317,16 @@ impl<'a> Played<'a> {
     }
 
     // Asks a text without commands at the port that `what` says, by its number and as a place, then serves that port, and reports how
-    // each of these ended.
+    // each of these ended; or `no port` if `what` is no number from 1 to 65535.
     fn ask_port(&mut self, alloc: Global, what: &str, came: &mut Told) {
-        let port = u16::try_from(number(what, 65535)).unwrap_or(0);
+        let port = u16_of(what);
         if port == 0 {
             return came.text("no port");
         }
-        // A listener at 1024: a port below that is no other one, so nothing connects there.
-        let _other = TcpListener::bind(self.rt, local_address(1024));
+        let _other = listener_at_1024(self.rt);
         tell_asked(self.rt, alloc, port, came);
         // Serving fails then: the port is in use, or this user can't bind it.
-        let _taken = TcpListener::bind(self.rt, local_address(port));
+        let _taken = listen(self.rt, port);
         let end = serve_tcp(
             self.rt,
             Address::Here(port),
@@ -343,7 +356,7 @@ fn slow_instrument(delay: Delay, drops: bool) -> SlowInstrument {
     SlowInstrument::new(scene, delays, drops)
 }
 
-// The name of the slow instrument. These plain bytes make a text.
+// The name of the slow instrument. It is never empty, because plain bytes as these make a text.
 fn slow_name() -> Text {
     Text::new(b"SLOW").unwrap_or(Text::empty())
 }
@@ -361,20 +374,21 @@ fn tell_done(is_done: bool, came: &mut Told) {
     came.either(is_done, "", "it can't be done");
 }
 
-// Connects to the port of this listener, and returns the caller's end, of which each read waits for a bounded time.
+// Connects to this listener, and returns the caller's end, of which each read waits for a bounded time (`bounded`).
 fn connected(rt: &HostRuntime, listener: &TcpListener) -> io::Result<TcpStream> {
     let address = listener.local_addr()?;
     bounded(TcpStream::connect(rt, address)?)
 }
 
-// Reports whether all lines on the callers of a kept port were written (`all`), and these lines, `messages`.
+// Reports whether all lines on the faults of a kept port's callers were written (`all`), and these lines, `messages`, as `tell_uncounted`
+// does.
 fn tell_kept(all: bool, messages: &[u8], came: &mut Told) {
     came.text(written_word(all));
     came.text(": ");
     tell_uncounted(str::from_utf8(messages).unwrap_or("no text"), came);
 }
 
-// Reports what a caller hears until the end of its connection, or that it is still waiting.
+// Reports what a caller hears until the end of its connection, or `it waits` if no end comes, or a read fails.
 fn tell_heard(alloc: Global, caller: &mut TcpStream, came: &mut Told) {
     let mut bytes = Vec::new(alloc);
     if !hear(caller, &mut bytes) {

@@ -1,33 +1,33 @@
 //! Links over devices and connections that are there already: a pseudo terminal's controlling end, which is a terminal, too, an
 //! address that doesn't answer, and a socket that leads to itself.
 
-use crate::links::{dots, put_of, silence_of};
+use crate::links::{await_silence, dots, put_counted};
 use crate::rig::{Done, Rig};
-use crate::streams::local_address;
 use gc_cases::Told;
 use gc_links::{Came, Link, Place, PlacedLink, TcpLink, Unusable};
 use std::alloc::Global;
 use std::cell::RefCell;
 use std::fs::{File, OpenOptions};
-use std::net::{TcpStream, UdpSocket};
+use std::net::{SocketAddr, TcpStream, UdpSocket};
 use std::os::fd::OwnedFd;
 use std::os::unix::net::UnixStream;
 use std::time::Duration;
 use std::{io, thread};
 
-/// Reports what the row of this word comes to: `device`, `pulled`, `second_address` or `own_connection`.
-pub fn tell_placed(rt: &HostRuntime, alloc: Global, word: &str, came: &mut Told) {
+/// Reports what the link of the row with this word comes to: `device`, `pulled`, `second_address` or `own_connection`. Any other word is
+/// reported as unknown.
+pub fn tell_outcome(rt: &HostRuntime, alloc: Global, word: &str, came: &mut Told) {
     match word {
         "device" => tell_device(rt, alloc, came),
-        "pulled" => came.text(pulled(rt).text()),
-        "second_address" => came.text(second_address(rt).text()),
-        "own_connection" => came.text(own_connection(rt).text()),
+        "pulled" => came.text(pulled_outcome(rt).text()),
+        "second_address" => came.text(second_address_outcome(rt).text()),
+        "own_connection" => came.text(own_connection_outcome(rt).text()),
         _ => came.text("an unknown word"),
     }
 }
 
-// A terminal that nobody reads or writes at the other end, opened for writing, and with `reads` for reading, too. None: this
-// machine has none.
+// A terminal that nobody reads or writes at the other end, opened for writing, and with `reads` for reading, too. `None`: this
+// machine has none, or it can't be opened.
 fn terminal(rt: &HostRuntime, reads: bool) -> Option<File> {
     OpenOptions::new()
         .read(reads)
@@ -41,17 +41,17 @@ fn terminal(rt: &HostRuntime, reads: bool) -> Option<File> {
 enum Outcome {
     // The connections or the clock that the link needs couldn't be had.
     Nothing,
-    // Another program holds the device.
+    // No link to the device could be had in four seconds: another program holds it.
     Held,
-    // A second link to the device could be had.
+    // A second link to the device wasn't refused as held.
     Shared,
-    // It couldn't be opened, or nothing could be put.
+    // It couldn't be opened, or not all bytes of a put were sent.
     Shut,
     // It could be opened and closed again, and a put was sent.
     Open,
-    // A read wasn't silent in its time.
+    // Something else than silence came, or the silence was too short.
     Unquiet,
-    // A put wasn't cut, or not in a part of its bytes.
+    // A put that was to be cut after a part of its bytes was sent whole, or not at all.
     Uncut,
     // A read failed.
     Failure,
@@ -82,40 +82,40 @@ impl Outcome {
 // Reports what a link over a device comes to.
 fn tell_device(rt: &HostRuntime, alloc: Global, came: &mut Told) {
     match dots(alloc, 1_000_000) {
-        Ok(much) => came.text(device(rt, much.as_slice()).text()),
+        Ok(much) => came.text(device_outcome(rt, much.as_slice()).text()),
         Err(_) => came.lack(),
     }
 }
 
-// What a link over a device comes to, if a put of the bytes `much` is more than the system takes. It should refuse the device
-// to a second link, take its time for a read if nothing comes, and cut a put once the system takes no more. A machine without
-// such devices counts as right.
-fn device(rt: &HostRuntime, much: &[u8]) -> Outcome {
+// What a link over a device comes to; `much` is more bytes than the system takes. It should be `Device`: a second link is refused the
+// device, a read takes its time if nothing comes, and a put is cut once the system takes no more. A machine without such devices counts
+// as right.
+fn device_outcome(rt: &HostRuntime, much: &[u8]) -> Outcome {
     match (terminal(rt, true), terminal(rt, true)) {
-        (Some(one), Some(other)) => line_outcome(rt, [one, other].as_slice(), much),
+        (Some(one), Some(other)) => opened_twice_outcome(rt, [one, other].as_slice(), much),
         _ => Outcome::Device,
     }
 }
 
-// What a link to the first of two devices comes to: whether it can be had, whether the second, which is the same device, is refused then,
-// and what the link's acts come to.
-fn line_outcome(rt: &HostRuntime, devices: &[File], much: &[u8]) -> Outcome {
+// What a link comes to over a device that was opened twice (`devices`): `Held` if it can't be had, `Shared` if a second link, over the
+// other opening, isn't refused then, and otherwise what the first link's acts come to.
+fn opened_twice_outcome(rt: &HostRuntime, devices: &[File], much: &[u8]) -> Outcome {
     let done = RefCell::new(Done::nothing());
     let rig = Rig {
         devices,
         connections: &[],
         done: &done,
     };
-    let Some(mut link) = link_to(rt, &rig) else {
+    let Some(mut link) = device_link(rt, &rig) else {
         return Outcome::Held;
     };
     if !is_held(&rig) {
         return Outcome::Shared;
     }
-    acts_outcome(&mut link, much)
+    device_acts_outcome(&mut link, much)
 }
 
-// Whether the second device is refused as held: it is the same one as the first, which a link has.
+// Whether a link over a rig's second opening of a device is refused as held, while another link has the first opening.
 fn is_held(rig: &Rig<'_, '_, '_>) -> bool {
     match PlacedLink::new(rig, Place::Device("/dev/1")) {
         Err(Some(unusable)) => unusable == Unusable::Held,
@@ -123,24 +123,25 @@ fn is_held(rig: &Rig<'_, '_, '_>) -> bool {
     }
 }
 
-// What an opening of this link, a read and a put of the bytes `much` come to: `Device` if all is as it should be.
-fn acts_outcome<L: Link>(link: &mut L, much: &[u8]) -> Outcome {
+// What an opening of this link, a read and a put of the bytes `much` come to: `Device` if all is as it should be, and otherwise `Shut`,
+// `Unquiet` or `Uncut`.
+fn device_acts_outcome<L: Link>(link: &mut L, much: &[u8]) -> Outcome {
     if link.open().is_err() {
         return Outcome::Shut;
     }
-    if silence_of(link, 100) < 100 {
+    if await_silence(link, 100) < 100 {
         return Outcome::Unquiet;
     }
-    let sent = put_of(link, much);
+    let sent = put_counted(link, much);
     if sent == 0 || sent >= much.len() {
         return Outcome::Uncut;
     }
     Outcome::Device
 }
 
-// A link to the first device of a rig. All such terminals have one lock, so another run of these cases may hold it for a moment. None: it
-// was held for four seconds.
-fn link_to<'a, 'b, 'c, 'd>(
+// A link to the first device of a rig. All such terminals have one lock, so another run of these cases may hold it for a moment: it is
+// tried every 20 milliseconds. `None`: none could be had within four seconds.
+fn device_link<'a, 'b, 'c, 'd>(
     rt: &HostRuntime,
     rig: &'a Rig<'b, 'c, 'd>,
 ) -> Option<PlacedLink<'a, Rig<'b, 'c, 'd>>> {
@@ -155,7 +156,7 @@ fn link_to<'a, 'b, 'c, 'd>(
 
 // What a link comes to over a device of which each read fails, as of one that was pulled out. It should be `Failure`; a machine without
 // such devices counts as right.
-fn pulled(rt: &HostRuntime) -> Outcome {
+fn pulled_outcome(rt: &HostRuntime) -> Outcome {
     let Some(device) = terminal(rt, false) else {
         return Outcome::Failure;
     };
@@ -166,7 +167,7 @@ fn pulled(rt: &HostRuntime) -> Outcome {
         connections: &[],
         done: &done,
     };
-    match link_to(rt, &rig) {
+    match device_link(rt, &rig) {
         Some(mut link) => failure_outcome(&mut link),
         None => Outcome::Held,
     }
@@ -184,7 +185,7 @@ fn failure_outcome<L: Link>(link: &mut L) -> Outcome {
     }
 }
 
-// Opens this link, puts bytes and closes it. Returns `Open` if both could be done, and otherwise `Shut`.
+// Opens this link, puts bytes and closes it. Returns `Open` if it could be opened and all bytes were sent, and otherwise `Shut`.
 fn opening_outcome<L: Link>(link: &mut L) -> Outcome {
     if link.open().is_err() {
         return Outcome::Shut;
@@ -216,9 +217,9 @@ fn named_link<'a, 'b, 'c, 'd>(rig: &'a Rig<'b, 'c, 'd>) -> Option<TcpLink<'a, Ri
     TcpLink::to_host(rig, "station:4001").ok()
 }
 
-// What a link comes to whose name has a first address that doesn't answer and a second one that does. `Nothing`: there are no sockets
-// for it.
-fn second_address(rt: &HostRuntime) -> Outcome {
+// What a link comes to whose name has a first address that doesn't answer and a second one that does. It should be `Open`. `Nothing`: there
+// are no sockets for it, or no link.
+fn second_address_outcome(rt: &HostRuntime) -> Outcome {
     match UnixStream::pair(rt) {
         Ok((near, _far)) => {
             named_outcome([None, Some(TcpStream::from(OwnedFd::from(near)))].as_slice())
@@ -227,17 +228,18 @@ fn second_address(rt: &HostRuntime) -> Outcome {
     }
 }
 
-// What a link comes to whose connection leads to itself. `Nothing`: there is no such connection.
-fn own_connection(rt: &HostRuntime) -> Outcome {
+// What a link comes to whose first connection leads to itself, and whose name has no other that can be made. It should be `Shut`, because
+// such a connection counts as none. `Nothing`: there is no such connection, or no link.
+fn own_connection_outcome(rt: &HostRuntime) -> Outcome {
     match own_socket(rt) {
         Ok(own) => named_outcome([Some(TcpStream::from(OwnedFd::from(own)))].as_slice()),
         Err(_) => Outcome::Nothing,
     }
 }
 
-// A socket that is connected to itself.
+// A UDP socket of this machine that is connected to itself. `Err`: the system gives none.
 fn own_socket(rt: &HostRuntime) -> io::Result<UdpSocket> {
-    let own = UdpSocket::bind(rt, local_address(0))?;
+    let own = UdpSocket::bind(rt, SocketAddr::from(([127, 0, 0, 1], 0)))?;
     own.connect(own.local_addr()?)?;
     Ok(own)
 }

@@ -30,7 +30,7 @@ const FIRST_ENDS: [Result<(), CallerFault>; 7] = [
 impl Callers for Ends {
     ghost served = { λ _. None };
 
-    // Serves nobody: the end is the next of `FIRST_ENDS`, and after these a good one.
+    // Serves nobody, and counts a caller as served. The end is the next of `FIRST_ENDS`, and after these a good one.
     fn serve_next(&mut self) -> Result<(), CallerFault> {
         let end = FIRST_ENDS.get(self.at).copied().unwrap_or(Ok(()));
         self.at = self.at.saturating_add(1);
@@ -38,8 +38,8 @@ impl Callers for Ends {
     }
 }
 
-/// Serves eight callers whose connections end as `FIRST_ENDS` says, and reports how many were served, whether all lines on them were
-/// written, and these lines.
+/// Serves eight callers, whose first seven connections end as `FIRST_ENDS` says, and the eighth well. Reports how many were served,
+/// whether the lines of all faults were written, and these lines.
 pub fn tell_ends(alloc: Global, came: &mut Told) {
     let mut ends = Ends { at: 0 };
     let mut messages = Vec::new(alloc);
@@ -49,8 +49,8 @@ pub fn tell_ends(alloc: Global, came: &mut Told) {
     came.bytes(messages.as_slice());
 }
 
-/// Serves the same eight callers with room for forty bytes of messages, and reports how many were served and whether all lines
-/// were written.
+/// Serves the same eight callers with room for forty bytes of messages, which is less than the lines of their faults have. Reports how many
+/// were served, and whether all of these lines were written.
 pub fn tell_cut_ends(came: &mut Told) {
     let mut ends = Ends { at: 0 };
     let mut room = [0; 40];
@@ -59,13 +59,13 @@ pub fn tell_cut_ends(came: &mut Told) {
     tell_served(ends.at, all, came);
 }
 
-// Reports that `count` callers were served, and whether all lines on them were written (`all`).
+// Reports that `count` callers were served, and whether the lines of all faults were written (`all`).
 fn tell_served(count: usize, all: bool, came: &mut Told) {
     came.counted(&count, " served, ");
     came.text(written_word(all));
 }
 
-/// The words by which a case says that all lines were written, or that not all were.
+/// The words by which a case says whether the lines of all faults were written (`all`).
 pub fn written_word(all: bool) -> &'static str {
     if all { "all told" } else { "not all told" }
 }

@@ -1,23 +1,24 @@
-//! Rows of a link over TCP, and of its far end, which is the case's own, in one thread. The link leads to a port if the case
-//! listens, or to the one under `port`, from 0 to 65535. A put on the link waits for no more milliseconds than `patience` says,
-//! and without a patience for ten seconds. What comes of a row is appended to `came`, and what isn't as the case expects to
-//! `wrong`.
+//! Rows of a link over TCP, and of its far end, which is the case's own, in one thread. The link leads to a free port at which the case
+//! listens, or to the port under `port`, from 0 to 65535. One write on the link, and the making of its connection, waits for at most as
+//! many milliseconds as `patience` says, and without a patience for ten seconds. What comes of a row is appended to `came`, and what isn't
+//! as the case expects to `wrong`.
 //!
-//!     do open, close           the link, which is open or shut then
+//!     do open                  the link is opened: `open`, or `shut` if it can't be
+//!     do close                 the link is closed
 //!     do put abc               sent, or cut after so many bytes
 //!     do stall                 puts more than a connection takes while nobody reads
 //!     do read                  at most two bytes, within a second
 //!     do look                  at most sixteen, within a millisecond
 //!     do wait 50               a silence of this many milliseconds
 //!     do accept, far abc       the far end, and what it writes
-//!     do hear                  what it has heard at the end of the connection, `open` before that
+//!     do hear                  what it has heard at the end of the connection, or `open` if no end comes
 //!     do go, deaf              the far end goes away; nobody listens any more
 //!     do device, pulled, second_address, own_connection   in devices.rt
 
-use crate::devices::tell_placed;
-use crate::streams::{accepted, hear, local_address, tell_end_behind};
+use crate::devices::tell_outcome;
+use crate::streams::{accepted, hear, listener_at_1024, tell_end_behind};
 use gc_cases::{Case, Player, Rows, Told, play_rows};
-use gc_links::{Came, Link, TcpLink};
+use gc_links::{Came, Link, TcpLink, listen};
 use gc_texts::number_of;
 use std::alloc::{AllocError, Global};
 use std::io::{self, Write};
@@ -26,24 +27,23 @@ use std::net::{TcpListener, TcpStream};
 // A moment of November 2023 in milliseconds since 1970, which has passed.
 const YEAR_2023: u64 = 1_700_000_000_000;
 
-// How long a put waits at most if the case says no patience, in milliseconds.
-const PATIENCE: u64 = 10_000;
+// How long one write, or the making of a connection, waits at most if the case says no patience, in milliseconds.
+const DEFAULT_PATIENCE: u64 = 10_000;
 
 /// Plays `.links`.
-pub struct Links;
+pub struct LinksPlayer;
 
-impl Player for Links {
-    // Plays a case, with a free port of its own for the link to lead to.
+impl Player for LinksPlayer {
+    // Plays a case, with a free port of its own for the link to lead to. `Err`: no port could be listened at.
     fn play(&self, rt: &HostRuntime, case: &Case<'_>, wrong: &mut Told) -> io::Result<()> {
-        let listener = TcpListener::bind(rt, local_address(0))?;
-        // A listener at 1024: a port below that is no other one, so nothing connects there.
-        let _other = TcpListener::bind(rt, local_address(1024));
+        let listener = listen(rt, 0)?;
+        let _other = listener_at_1024(rt);
         play_at(rt, listener, case, wrong);
         Ok(())
     }
 }
 
-// Plays a case whose link leads to this listener, or to the port that the case names.
+// Plays a case whose link leads to this listener, or to the port that the case names. If there is no such link, only that is reported.
 fn play_at(rt: &HostRuntime, listener: TcpListener, case: &Case<'_>, wrong: &mut Told) {
     match link_of(rt, &listener, case) {
         Some(link) => play_over(rt, listener, link, case, wrong),
@@ -52,7 +52,7 @@ fn play_at(rt: &HostRuntime, listener: TcpListener, case: &Case<'_>, wrong: &mut
 }
 
 // The link of a case, with the port and the patience that it says; without a port it leads to the listener. `None`: the port is
-// above 65535, or the link can't be made.
+// above 65535, the listener's port can't be had, or the link can't be made.
 fn link_of<'a>(
     rt: &'a HostRuntime,
     listener: &TcpListener,
@@ -60,7 +60,7 @@ fn link_of<'a>(
 ) -> Option<TcpLink<'a, HostRuntime>> {
     let own = u64::from(listener.local_addr().ok()?.port());
     let port = u16::try_from(case.number("port", own)).ok()?;
-    TcpLink::with_patience(rt, port, case.number("patience", PATIENCE)).ok()
+    TcpLink::with_patience(rt, port, case.number("patience", DEFAULT_PATIENCE)).ok()
 }
 
 // Plays the rows of a case over this link.
@@ -110,13 +110,13 @@ impl<'a> Rows for Played<'a> {
             "far" => self.write_far(bytes, came),
             "go" => self.far = None,
             "deaf" => self.listener = None,
-            _ => tell_placed(self.rt, alloc, word, came),
+            _ => tell_outcome(self.rt, alloc, word, came),
         }
     }
 }
 
 impl<'a> Played<'a> {
-    // Puts bytes on the link, and reports whether all were sent, or after how many bytes the put was cut.
+    // Puts bytes on the link, and reports whether all were sent, or after how many bytes the put was cut; or that there is nothing to put.
     fn put(&mut self, bytes: &[u8], came: &mut Told) {
         if bytes.is_empty() {
             return came.text("nothing to put");
@@ -135,11 +135,11 @@ impl<'a> Played<'a> {
         }
     }
 
-    // Puts more than a connection takes while nobody reads. A part of it is to be sent, and the put is to end within two
-    // seconds; otherwise it is reported how many bytes were sent in how many milliseconds.
+    // Puts `much`, more than a connection takes while nobody reads, and stores in `sent` how many of its bytes were sent. A part of it is
+    // to be sent, and the put is to end within two seconds; otherwise it is reported how many bytes were sent in how many milliseconds.
     fn put_much(&mut self, much: &[u8], came: &mut Told) {
         let begun = elapsed(&mut self.link);
-        let sent = put_of(&mut self.link, much);
+        let sent = put_counted(&mut self.link, much);
         let waited = elapsed(&mut self.link).saturating_sub(begun);
         self.sent = sent;
         if waited >= 2000 || sent == 0 || sent >= much.len() {
@@ -167,14 +167,14 @@ impl<'a> Played<'a> {
     // than a second, or else for how many milliseconds the link was silent.
     fn wait(&mut self, what: &str, came: &mut Told) {
         let millis = number_of(what.as_bytes(), u64::MAX).unwrap_or(0);
-        let waited = silence_of(&mut self.link, millis);
+        let waited = await_silence(&mut self.link, millis);
         if waited < millis || waited >= 1000 {
             return came.counted(&waited, " milliseconds of silence");
         }
         came.text("silence, in its time")
     }
 
-    // Reports what the far end heard.
+    // Reports what the far end heard until the end of its connection, or that there is no far end.
     fn hear(&mut self, alloc: Global, came: &mut Told) {
         match &mut self.far {
             Some(far) => tell_heard(alloc, far, self.sent, came),
@@ -187,7 +187,8 @@ impl<'a> Played<'a> {
         came.either(write_all(&mut self.far, bytes), "", "it can't be written");
     }
 
-    // Accepts the connection that the link made, and returns its far end. `None`: none was made, or nobody listens any more.
+    // Accepts the connection that the link made, and returns its far end. It waits for ever if none was made. `None`: nobody listens any
+    // more, or the system can't accept it.
     fn accept(&self) -> Option<TcpStream> {
         accepted(self.listener.as_ref()?).ok()
     }
@@ -201,15 +202,15 @@ fn write_all(far: &mut Option<TcpStream>, bytes: &[u8]) -> bool {
     }
 }
 
-// Reports what the far end hears until its connection is shut, or `open` if it isn't shut. `sent` is how many bytes the stalled
-// put sent: so many are reported as "that part".
+// Reads what the far end hears until its connection is shut, and reports it as `tell_heard_bytes` says. `sent` is how many bytes the
+// stalled put sent.
 fn tell_heard(alloc: Global, far: &mut TcpStream, sent: usize, came: &mut Told) {
     let mut bytes = Vec::new(alloc);
     let is_end = hear(far, &mut bytes);
     tell_heard_bytes(is_end, bytes.as_slice(), sent, came);
 }
 
-// Reports what a far end heard: `bytes` until its connection was shut, or `open` where it isn't shut (`is_end` is false). Of a hundred
+// Reports what a far end heard: `bytes` until its connection was shut, or `open` if that end didn't come (`is_end` is false). Of a hundred
 // bytes or more only the number is reported, and as "that part" if it is `sent`, how many bytes the stalled put sent.
 fn tell_heard_bytes(is_end: bool, bytes: &[u8], sent: usize, came: &mut Told) {
     if !is_end {
@@ -225,12 +226,12 @@ fn tell_heard_bytes(is_end: bool, bytes: &[u8], sent: usize, came: &mut Told) {
     came.text(" bytes");
 }
 
-/// This many dots, as bytes to put.
+/// This many dots, as bytes to put. `Err`: memory ran out.
 pub fn dots(alloc: Global, count: usize) -> Result<Vec<u8>, AllocError> {
     Ok(vec![in alloc; b'.'; count]?)
 }
 
-// The moment by a link's clock for deadlines, in milliseconds; the greatest number if it can't be read.
+// The moment by a link's clock for deadlines, in milliseconds; `u64::MAX` if it can't be read.
 fn elapsed<L: Link>(link: &mut L) -> u64 {
     match link.now() {
         Ok(moment) => moment.elapsed,
@@ -239,7 +240,7 @@ fn elapsed<L: Link>(link: &mut L) -> u64 {
 }
 
 /// Puts bytes, and returns how many of them were sent.
-pub fn put_of<L: Link>(link: &mut L, bytes: &[u8]) -> usize {
+pub fn put_counted<L: Link>(link: &mut L, bytes: &[u8]) -> usize {
     if bytes.is_empty() {
         return 0;
     }
@@ -264,9 +265,9 @@ fn tell_came(ended: Came, buf: &[u8], came: &mut Told) {
     }
 }
 
-/// Reads a link until it was silent for `millis` milliseconds, and returns for how many milliseconds it was: 0 if something else came. A
-/// read that ends early is made again, up to a thousand times.
-pub fn silence_of<L: Link>(link: &mut L, millis: u64) -> u64 {
+/// Reads a link until it was silent for `millis` milliseconds, and returns for how many milliseconds it was: 0 if something else came, and
+/// fewer than `millis` if a thousand reads, each of which may end early, were too few.
+pub fn await_silence<L: Link>(link: &mut L, millis: u64) -> u64 {
     let begun = elapsed(link);
     let mut buf = [0; 2];
     let mut waited = 0;

@@ -9,15 +9,15 @@ mod links;
 mod rig;
 mod streams;
 
-use callers::Callers;
+use callers::CallersPlayer;
 use gc_cases::play_folder;
-use links::Links;
+use links::LinksPlayer;
 use std::io;
 use std::process::ExitCode;
 
 // Plays the files of links and of callers. The status is 1 if a case came to something else than it expects.
 fn main(rt: HostRuntime) -> io::Result<ExitCode> {
-    let mut are_right = play_folder(&rt, ".", ".links", &Links)?;
-    are_right &= play_folder(&rt, ".", ".callers", &Callers)?;
+    let mut are_right = play_folder(&rt, ".", ".links", &LinksPlayer)?;
+    are_right &= play_folder(&rt, ".", ".callers", &CallersPlayer)?;
     Ok(ExitCode::from(u8::from(!are_right)))
 }

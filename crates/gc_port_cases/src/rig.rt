@@ -1,7 +1,7 @@
 //! A runtime whose devices and connections a case made before, and whose clock goes only while a link rests. It has no other file
 //! and no folder.
 
-use gc_cases::{in_use, not_found};
+use gc_cases::{in_use, millis_of, not_found};
 use std::alloc::Allocator;
 use std::cell::RefCell;
 use std::fs::{File, Files, Metadata, OpenOptions};
@@ -12,9 +12,9 @@ use std::time::{Clock, Duration};
 // What was done so far.
 #[derive(Drop)]
 pub(crate) struct Done {
-    // How many milliseconds a link rested.
+    // How many milliseconds links have rested.
     rested: u64,
-    // How many connections were tried.
+    // How often a link tried to connect.
     tried: usize,
 }
 
@@ -38,7 +38,7 @@ pub(crate) struct Rig<'a, 'b, 'c> {
 }
 
 impl<'a, 'b, 'c> Clock for Rig<'a, 'b, 'c> {
-    // How long links have rested so far.
+    // How long links have rested so far. `Err`: `done` is in use.
     fn monotonic(&self) -> io::Result<Duration> {
         let Ok(done) = self.done.try_borrow() else {
             return Err(in_use());
@@ -51,11 +51,10 @@ impl<'a, 'b, 'c> Clock for Rig<'a, 'b, 'c> {
         self.monotonic()
     }
 
-    // Counts a rest, and returns at once.
+    // Adds a rest, in whole milliseconds, to those before, and returns at once.
     fn sleep(&self, duration: Duration) {
         if let Ok(mut done) = self.done.try_borrow_mut() {
-            let millis = u64::try_from(duration.as_millis()).unwrap_or(u64::MAX);
-            done.rested = done.rested.saturating_add(millis);
+            done.rested = done.rested.saturating_add(millis_of(duration));
         }
     }
 }
@@ -75,7 +74,8 @@ impl<'a, 'b, 'c> Net for Rig<'a, 'b, 'c> {
         not_found()
     }
 
-    // The next of the connections, in their order; an error if it is `None`, or none is left.
+    // Counts the attempt, and returns a handle of the next of the connections, whatever the address. `Err`: the next is `None`, none is
+    // left, no further handle of it can be had, or `done` is in use.
     fn connect_timeout(&self, _addr: SocketAddr, _timeout: Duration) -> io::Result<TcpStream> {
         let Ok(mut done) = self.done.try_borrow_mut() else {
             return Err(in_use());
@@ -88,18 +88,20 @@ impl<'a, 'b, 'c> Net for Rig<'a, 'b, 'c> {
         }
     }
 
-    // Finds two addresses for each name. Which they are says nothing, because connections are made in their order.
+    // Finds two addresses for each name. It leaves in `found` what is there: no address decides which connection is made.
     fn lookup_host(&self, _host: &str, _port: u16, found: &mut [SocketAddr]) -> io::Result<usize> {
         Ok(found.len().min(2))
     }
 }
 
+// No file is found but the devices, and no folder.
 impl<'a, 'b, 'c> Files for Rig<'a, 'b, 'c> {
     type File = File;
 
     type Dir = File;
 
-    // A handle of device 0 if the path ends in `0`, and otherwise of device 1.
+    // A handle of device 0 if the path ends in `0`, and otherwise of device 1. `Err`: the rig has no such device, or no further handle of
+    // it can be had.
     fn open_file(&self, _how: &OpenOptions, path: &str) -> io::Result<File> {
         let number = match path.as_bytes().last() {
             Some(b'0') => 0,

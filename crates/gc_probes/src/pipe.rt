@@ -43,7 +43,7 @@ impl Pipe {
         PipeSink {
             pipe: self,
             most,
-            answers,
+            answers_left: answers,
             failed: false,
         }
     }
@@ -133,7 +133,7 @@ pub struct PipeSink<'a> {
     // How many bytes are taken for each call at most.
     most: usize,
     // How many more writes are answered.
-    answers: u64,
+    answers_left: u64,
     // Whether a write has failed.
     failed: bool,
 }
@@ -144,7 +144,7 @@ impl<'a> Sink for PipeSink<'a> {
     ghost failed = { λ s. s.failed };
 
     fn write(&mut self, bytes: &[u8]) -> Result<usize, PortFailed> {
-        if self.failed || self.answers == 0 {
+        if self.failed || self.answers_left == 0 {
             self.failed = true;
             return Err(PortFailed);
         }
@@ -154,7 +154,7 @@ impl<'a> Sink for PipeSink<'a> {
             self.failed = true;
             return Err(PortFailed);
         }
-        self.answers -= 1;
+        self.answers_left -= 1;
         Ok(n)
     }
 

@@ -16,7 +16,7 @@ pub struct PieceSink {
     // How many bytes are taken for each call at most.
     most: usize,
     // How many more writes are answered.
-    answers: u64,
+    answers_left: u64,
     // Whether a write has failed.
     failed: bool,
     // Whether a write failed because memory ran out.
@@ -32,7 +32,7 @@ impl Model for PieceSink {
     ghost view = { λ s. record {
       taken = s.taken.items;
       most = s.most;
-      answers = s.answers;
+      answers_left = s.answers_left;
       failed = s.failed;
       lacks_memory = s.lacks_memory;
     } };
@@ -45,12 +45,12 @@ impl PieceSink {
     /// at the next one: so 0 fails at once, and `u64::MAX` never fails in a test but for memory.
     pub fn new(alloc: Global, most: usize, answers: u64) -> PieceSink
         requires { 0 < most }
-        ensures { result ≡ record { taken = []; most = most; answers = answers; failed = false; lacks_memory = false } }
+        ensures { result ≡ record { taken = []; most = most; answers_left = answers; failed = false; lacks_memory = false } }
     {
         PieceSink {
             taken: Vec::new(alloc),
             most,
-            answers,
+            answers_left: answers,
             failed: false,
             lacks_memory: false,
         }
@@ -84,7 +84,7 @@ impl Sink for PieceSink {
         // The sink takes as many bytes as the test asked for, and fails exactly at the call that the test named, or where memory ran out.
         ensures told { WritesAsAsked self.old self.new bytes.now result }
     {
-        if self.failed || self.answers == 0 {
+        if self.failed || self.answers_left == 0 {
             self.failed = true;
             return Err(PortFailed);
         }
@@ -94,7 +94,7 @@ impl Sink for PieceSink {
             self.lacks_memory = true;
             return Err(PortFailed);
         }
-        self.answers -= 1;
+        self.answers_left -= 1;
         Ok(n)
     }
 

@@ -65,7 +65,7 @@ impl<'a> PieceSource<'a> {
 
     // Takes the next size off the list, and returns how many bytes the next piece has: as many as the size, at least one, but at
     // most `room`, and no more than are left. Without a size: as many as are left and fit into `room`.
-    fn next_size(&mut self, room: usize) -> usize
+    fn take_size(&mut self, room: usize) -> usize
         ensures size { result ≡ piece_size self.old.sizes (length self.old.left) room }
         ensures within { (result ≤ length self.old.left) × (result ≤ room) }
         ensures some { 0 < room → result ≡ 0 → length self.old.left ≡ 0 }
@@ -104,7 +104,7 @@ impl<'a> Source for PieceSource<'a> {
             self.failed = true;
             return Err(PortFailed);
         }
-        let n = self.next_size(buf.len());
+        let n = self.take_size(buf.len());
         let left = self.left;
         buf[..n].copy_from_slice(&left[..n]);
         self.left = &left[n..];

@@ -1,7 +1,7 @@
 //! The far end of a case: a connection of one process, at which a simulator answers while the station waits, and a clock that
 //! goes only as it waits. So no case waits, and each moment is known.
 
-use gc_cases::{Told, in_use};
+use gc_cases::{Told, in_use, millis_of};
 use gc_console::{Oddities, run_exec};
 use gc_lines::{FromReader, ToWriter};
 use std::alloc::Global;
@@ -24,8 +24,8 @@ const NO_WAIT: u64 = 10;
 pub struct Seen {
     // How many milliseconds have passed.
     pub elapsed: u64,
-    // How many connections were tried, with those that were refused.
-    pub opened: u32,
+    // How often a connection was tried, with the attempts that were refused.
+    pub tried: u32,
     // What came, with a `>` wherever the station waited after it.
     pub heard: Told,
     // The paths of the files that were to be opened, a line each. None is there.
@@ -37,7 +37,7 @@ impl Seen {
     pub fn new(alloc: Global) -> Seen {
         Seen {
             elapsed: 0,
-            opened: 0,
+            tried: 0,
             heard: Told::new(alloc),
             files: Told::new(alloc),
         }
@@ -48,15 +48,15 @@ impl Seen {
         self.elapsed = self.elapsed.saturating_add(millis);
     }
 
-    // Counts one more attempt to connect, and returns how many there were.
+    // Counts one more attempt to connect, and returns how many there were, this one included.
     fn count_attempt(&mut self) -> u64 {
-        self.opened = self.opened.saturating_add(1);
-        u64::from(self.opened)
+        self.tried = self.tried.saturating_add(1);
+        u64::from(self.tried)
     }
 }
 
 // Makes a connection, and returns both ends, the station's first. They are a pair of Unix sockets, because what is written to one can be
-// read at the other at once. No read of either waits.
+// read at the other at once. No read of either waits. `Err`: the system gives no such pair.
 pub fn both_ends(net: &impl Net) -> io::Result<(TcpStream, TcpStream)> {
     let ends = UnixStream::pair(net)?;
     unblock_both(&ends)?;
@@ -85,7 +85,7 @@ fn stream_of(end: UnixStream) -> TcpStream {
 pub struct FarEnd<'a, 'b> {
     pub ends: &'a (TcpStream, TcpStream),
     pub seen: &'b RefCell<Seen>,
-    // How many milliseconds an answer takes: less than the station waits for it. None: nothing is answered.
+    // How many milliseconds an answer takes: less than the station waits for it. `None`: nothing is answered.
     pub answer: Option<u64>,
     // After this many milliseconds the clock can't be read any more.
     pub until: u64,
@@ -98,15 +98,16 @@ pub struct FarEnd<'a, 'b> {
 }
 
 impl<'a, 'b> FarEnd<'a, 'b> {
-    // How long the station waits in its read, in milliseconds, by the time-out that it set; 0 if it set none.
+    // How long the station waits in its read, in milliseconds, by the time-out that it set; 0 if it set none. `Err`: the system doesn't
+    // say.
     fn patience(&self) -> io::Result<u64> {
         let Some(wait) = self.ends.0.read_timeout()? else {
             return Ok(0);
         };
-        Ok(u64::try_from(wait.as_millis()).unwrap_or(u64::MAX))
+        Ok(millis_of(wait))
     }
 
-    // Counts one more attempt to connect, and returns how many there were. The error is that `seen` is in use.
+    // Counts one more attempt to connect, and returns how many there were, this one included. `Err`: `seen` is in use.
     fn count_attempt(&self) -> io::Result<u64> {
         match self.seen.try_borrow_mut() {
             Ok(mut seen) => Ok(seen.count_attempt()),
@@ -114,9 +115,9 @@ impl<'a, 'b> FarEnd<'a, 'b> {
         }
     }
 
-    // Answers the requests of a piece, after an echo of it if the line echoes. Returns whether there were any, and `false` if the echo
-    // can't be sent.
-    fn answers(&self, piece: &[u8]) -> bool {
+    // Answers the requests of a piece, after an echo of it if the line echoes. Returns whether there were any; `false` also if the echo or
+    // a reply can't be sent.
+    fn answer_piece(&self, piece: &[u8]) -> bool {
         let mut far = &self.ends.1;
         if self.odd.echoes && far.write_all(piece).is_err() {
             return false;
@@ -124,7 +125,8 @@ impl<'a, 'b> FarEnd<'a, 'b> {
         self.serve_piece(piece)
     }
 
-    // Has a simulator answer the requests of a piece. Returns whether there were any, and `false` if a reply can't be sent.
+    // Has a new simulator answer the requests of a piece: none knows of an earlier piece. Returns whether there were any; `false` also if a
+    // reply can't be sent.
     fn serve_piece(&self, piece: &[u8]) -> bool {
         let mut source = FromReader::new(piece);
         let mut sink = ToWriter::new(Changing {
@@ -137,8 +139,8 @@ impl<'a, 'b> FarEnd<'a, 'b> {
         }
     }
 
-    // The moment of the clock. If the station has waited in a read before it asks for the moment, that wait is played first. The error:
-    // more than `until` milliseconds have passed, or the station's time-out can't be read.
+    // The moment of the clock. If the station has waited in a read before it asks for the moment, which is so if its time-out is above
+    // `NO_WAIT`, that wait is played first. `Err`: more than `until` milliseconds have passed, or the station's time-out can't be read.
     fn moment(&self, seen: &mut Seen) -> io::Result<Duration> {
         let patience = self.patience()?;
         if patience > NO_WAIT {
@@ -150,8 +152,8 @@ impl<'a, 'b> FarEnd<'a, 'b> {
         Ok(Duration::from_millis(seen.elapsed))
     }
 
-    // Plays a wait of the station of at most `millis` milliseconds. What the station sent is noted and answered, which takes the time of
-    // an answer. If there is nothing to answer, the whole wait passes.
+    // Plays a wait of the station of at most `millis` milliseconds. What the station sent, up to 256 bytes, is noted and answered, which
+    // takes the time of an answer. If there is nothing to answer, the whole wait passes.
     fn wait(&self, seen: &mut Seen, millis: u64) {
         let mut buf = [0; 256];
         let mut far = &self.ends.1;
@@ -161,13 +163,15 @@ impl<'a, 'b> FarEnd<'a, 'b> {
         }
     }
 
-    // Notes a piece that came, and answers it, which takes the time of an answer. If nothing is answered, `millis` milliseconds pass, the
-    // station's whole wait.
+    // Notes a piece that came, and answers it, which takes the time of an answer. If nothing is answered, or not any more (`silent`),
+    // `millis` milliseconds pass, the station's whole wait.
     fn hear(&self, piece: &[u8], seen: &mut Seen, millis: u64) {
         seen.heard.bytes(piece);
         seen.heard.text(">");
         match self.answer {
-            Some(answer) if seen.elapsed <= self.silent && self.answers(piece) => seen.pass(answer),
+            Some(answer) if seen.elapsed <= self.silent && self.answer_piece(piece) => {
+                seen.pass(answer)
+            }
             _ => seen.pass(millis),
         }
     }
@@ -181,7 +185,7 @@ struct Changing<'a> {
 }
 
 impl<'a> Write for Changing<'a> {
-    // Writes each byte, and a CR as LF if the line is bare.
+    // Writes all bytes, a CR as LF if the line is bare. `Err`: one can't be written; those before it were.
     fn write(&mut self, buf: &[u8]) -> io::Result<usize> {
         let mut stream = self.stream;
         for b in buf {
@@ -197,7 +201,8 @@ impl<'a> Write for Changing<'a> {
 }
 
 impl<'a, 'b> Clock for FarEnd<'a, 'b> {
-    // How much time has passed, with the wait in which the station has just read.
+    // How much time has passed. If the station has waited in a read before it asks, that wait is played first (`moment`). `Err`: as of
+    // `moment`, or `seen` is in use.
     fn monotonic(&self) -> io::Result<Duration> {
         match self.seen.try_borrow_mut() {
             Ok(mut seen) => self.moment(&mut seen),
@@ -205,7 +210,8 @@ impl<'a, 'b> Clock for FarEnd<'a, 'b> {
         }
     }
 
-    // The moment at which the clock began, and the time that has passed since.
+    // The moment at which the clock began (`BEGIN`), plus the time that has passed since. No wait is played, and `until` doesn't count.
+    // `Err`: `seen` is in use.
     fn since_1970(&self) -> io::Result<Duration> {
         match self.seen.try_borrow() {
             Ok(seen) => Ok(Duration::from_millis(BEGIN.saturating_add(seen.elapsed))),
@@ -216,7 +222,7 @@ impl<'a, 'b> Clock for FarEnd<'a, 'b> {
     // Lets this much time pass by the clock, and returns at once.
     fn sleep(&self, duration: Duration) {
         if let Ok(mut seen) = self.seen.try_borrow_mut() {
-            seen.pass(u64::try_from(duration.as_millis()).unwrap_or(u64::MAX));
+            seen.pass(millis_of(duration));
         }
     }
 }
@@ -237,7 +243,8 @@ impl<'a, 'b> Net for FarEnd<'a, 'b> {
         Err(io::Error::from(ErrorKind::Unsupported))
     }
 
-    // Refuses the first connections, as many as `refused` says. Each further one is the station's end of the same connection.
+    // Counts the attempt. It refuses the first connections, as many as `refused` says. Each further one is the station's end of the same
+    // connection.
     fn connect_timeout(&self, _addr: SocketAddr, _timeout: Duration) -> io::Result<TcpStream> {
         if self.count_attempt()? <= self.refused {
             return Err(io::Error::from(ErrorKind::ConnectionRefused));

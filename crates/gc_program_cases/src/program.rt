@@ -1,6 +1,19 @@
 //! Cases of the program: it is run with a case's words and standard streams, over the system, or at a far end if the case has
 //! one. The case expects a status, the output and the messages; of a far end also what came there, and how much time passed by
-//! its clock.
+//! its clock (said.rt).
+//!
+//!     words ask PORT         the words after the program's name; `PORT` stands for the case's own port
+//!     port free              nobody listens at that port; otherwise, as with `used`, the case does
+//!     input 7 5003\n         standard input (`input_of`)
+//!     reads fail             each read of standard input fails
+//!     room 20                the output has room for this many bytes
+//!     closed input output    these of `input`, `output` and `messages` are closed
+//!     terminal yes           the messages go to a terminal
+//!     far 20                 there is a far end, whose answers take this many milliseconds; with another word it gives none
+//!     line echoes            of a far end: what is sent comes back; with `bare` a CR comes as LF
+//!     refused 2              of a far end: this many connections are refused before one is made
+//!     silent 500             of a far end: after this many milliseconds nothing is answered any more
+//!     until 9000             of a far end: after this many milliseconds its clock can't be read any more
 
 use crate::far_end::{FarEnd, Seen, both_ends};
 use crate::said::{Said, tell_seen};
@@ -21,7 +34,7 @@ const HOUR: u64 = 3_600_000;
 pub struct Program;
 
 impl Player for Program {
-    // Plays a case with a port that was free, and is held meanwhile unless the case wants it free.
+    // Plays a case with a port that was free, and is held meanwhile unless the case wants it free. `Err`: no port could be listened at.
     fn play(&self, rt: &HostRuntime, case: &Case<'_>, wrong: &mut Told) -> io::Result<()> {
         let listener = TcpListener::bind(rt, SocketAddr::from(([127, 0, 0, 1], 0)))?;
         let port = port_of(&listener);
@@ -74,7 +87,7 @@ fn oddities_of(case: &Case<'_>) -> Oddities {
 }
 
 // Runs the program at a far end whose answers take `answer` milliseconds. `None`: it gives no answers. If the connection can't
-// be made, the program isn't run.
+// be made, the program isn't run, and `said` has no status.
 fn run_far(
     rt: &HostRuntime,
     case: &Case<'_>,
@@ -113,7 +126,8 @@ fn far_end_of<'a, 'b>(
     }
 }
 
-// Runs the program over this runtime with the case's input. If memory runs out for the input, the program isn't run.
+// Runs the program over this runtime with the case's input. If memory runs out for the input, the program isn't run, and `said` has no
+// status.
 fn run<R: Net<Listener = TcpListener, Stream = TcpStream> + Clock + Files<File = File>>(
     rt: &R,
     alloc: Global,
@@ -122,13 +136,13 @@ fn run<R: Net<Listener = TcpListener, Stream = TcpStream> + Clock + Files<File =
     said: &mut Said,
 ) {
     if let Ok(input) = input_of(alloc, case) {
-        run_on(rt, alloc, case, port, input.as_slice(), said);
+        run_with_input(rt, alloc, case, port, input.as_slice(), said);
     }
 }
 
 // Runs the program with this input and the case's words and streams. `said` takes the output, the messages and the status, which is
 // `None` if the run ended with an error of the system.
-fn run_on<R: Net<Listener = TcpListener, Stream = TcpStream> + Clock + Files<File = File>>(
+fn run_with_input<R: Net<Listener = TcpListener, Stream = TcpStream> + Clock + Files<File = File>>(
     rt: &R,
     alloc: Global,
     case: &Case<'_>,
@@ -159,7 +173,8 @@ fn standard_of(case: &Case<'_>) -> Standard {
     }
 }
 
-// The program's name and the words of a case after it, or the error that the program gets in their place (`!no memory`, `!no text`).
+// The program's name and the words of a case after it. `Err`: the error that the program gets in their place, because the case says so
+// (`!no memory`, `!no text`), or memory ran out.
 fn words_of(alloc: Global, case: &Case<'_>, port: &str) -> io::Result<Args> {
     match case.value("words") {
         "!no memory" => Err(io::Error::from(ErrorKind::OutOfMemory)),
@@ -175,7 +190,7 @@ fn split_words(alloc: Global, words: &str, port: &str) -> Result<Args, AllocErro
     Ok(all.into_iter())
 }
 
-// Appends the program's name and these words, the port in place of `PORT`.
+// Appends the program's name and these words, the port in place of `PORT`. `Err`: memory ran out; some words may be appended.
 fn push_words(
     alloc: Global,
     words: &str,
@@ -197,7 +212,7 @@ fn port_or_word<'a>(word: &'a str, port: &'a str) -> &'a str {
     if word == "PORT" { port } else { word }
 }
 
-// Appends a word, unless it is empty.
+// Appends a word, unless it is empty. `Err`: memory ran out, and nothing was appended.
 fn push_word(alloc: Global, word: &str, all: &mut Vec<String>) -> Result<(), AllocError> {
     if !word.is_empty() {
         all.push(String::from_str(alloc, word)?)?;
@@ -213,6 +228,7 @@ struct Input<'a> {
 }
 
 impl<'a> Read for Input<'a> {
+    // Gives the next bytes, or fails if the input is broken.
     fn read(&mut self, buf: &mut [u8]) -> io::Result<usize> {
         if self.is_broken {
             return Err(io::Error::from(ErrorKind::BrokenPipe));

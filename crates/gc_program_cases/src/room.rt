@@ -21,7 +21,7 @@ impl Room {
 }
 
 impl Write for Room {
-    // Stores as many of the bytes as there is room for, and returns how many: 0 once there is no room.
+    // Stores as many of the bytes as there is room for, and returns how many: 0 once there is no room. `Err`: memory ran out.
     fn write(&mut self, buf: &[u8]) -> io::Result<usize> {
         let left = usize::try_from(self.left).unwrap_or(usize::MAX);
         let taken = buf.get(..left).unwrap_or(buf);

@@ -1,7 +1,7 @@
 //! What came of a run of the program, and what a case asks of it: its `status`, the `output` and the `messages`; of a far end
-//! what was `heard` there, how often a connection was tried (`opened`), the time that `elapsed`, and the `files` that were to be
-//! opened. `any` status and `any` output will do. If a case has `has`, its output isn't compared whole, and if it has `tells`,
-//! `begins`, `ends` or `counts`, its messages aren't. What it doesn't have of a far end isn't compared.
+//! what was `heard` there, how often a connection was tried (`opened`), the milliseconds that `elapsed`, and the `files` that were to be
+//! opened. A `status` or an `output` of `any` takes whatever came. If a case has `has`, its output isn't compared whole, and if it has
+//! `tells`, `begins`, `ends` or `counts`, its messages aren't. Of a far end only what the case has is compared.
 
 use crate::far_end::Seen;
 use crate::parts::tell_parts;
@@ -23,7 +23,7 @@ pub struct Said {
 const WAITS: &str = ": waits until eight null procedures are answered, one after the other";
 
 impl Said {
-    /// What came of no run, with room for `room` bytes of output.
+    /// Nothing came yet; there is room for `room` bytes of output.
     pub fn new(alloc: Global, room: u64) -> Said {
         Said {
             status: None,
@@ -32,21 +32,21 @@ impl Said {
         }
     }
 
-    /// Reports where the status, the output or the messages came otherwise than the case has them, with `PORT` for the port in the
-    /// messages.
+    /// Reports where the status, the output or the messages came otherwise than the case has them, and each part of these that it asks for
+    /// and that they lack. Without a far end the messages have `PORT` for the digits `port`.
     pub fn tell(&self, alloc: Global, case: &Case<'_>, port: &str, wrong: &mut Told) {
         let mut told = Told::new(alloc);
-        self.tell_messages(alloc, case, port, &mut told);
+        self.append_messages(alloc, case, port, &mut told);
         case.tell("status", self.status_text(case).as_bytes(), wrong);
         case.tell("output", self.compared_output(case), wrong);
-        self.tell_messages_and_parts(alloc, case, &told, wrong);
+        self.compare_messages_and_parts(alloc, case, &told, wrong);
     }
 
-    // The status in a digit; `any` if the case takes any; or that the program couldn't be run.
+    // The status in a digit, or `any` if the case takes any; or that there is none, which no case takes.
     fn status_text(&self, case: &Case<'_>) -> &'static str {
         match self.status {
             Some(_) if case.has("status", "any") => "any",
-            Some(status) => text_of(status),
+            Some(status) => status_digit(status),
             None => "none, for an error of the system",
         }
     }
@@ -64,21 +64,21 @@ impl Said {
     }
 
     // Appends the messages to `told`: of a case without a far end with `PORT` for the port; of one with a far end without the lines that
-    // end in `WAITS`, or, if it has a terminal, as they are.
-    fn tell_messages(&self, alloc: Global, case: &Case<'_>, port: &str, told: &mut Told) {
+    // end in `WAITS`, or, if it has a terminal, as they are. Messages that aren't UTF-8 are `no text`.
+    fn append_messages(&self, alloc: Global, case: &Case<'_>, port: &str, told: &mut Told) {
         let messages = str::from_utf8(self.messages.as_slice()).unwrap_or("no text");
         if case.has("far", "") {
-            tell_named(alloc, messages, port, told);
+            append_with_port(alloc, messages, port, told);
         } else if case.has("terminal", "yes") {
             told.text(messages);
         } else {
-            tell_without_waits(messages, told);
+            append_without_waits(messages, told);
         }
     }
 
     // Compares the messages, `told`, with the case's `messages`; but a case that asks for parts of the messages must have no `messages`,
     // and is reported if it has. Then reports each part that the output or the messages lack.
-    fn tell_messages_and_parts(
+    fn compare_messages_and_parts(
         &self,
         alloc: Global,
         case: &Case<'_>,
@@ -96,7 +96,7 @@ impl Said {
 }
 
 // An exit status in a digit: `2` for each other than 0 and 1.
-fn text_of(status: ExitCode) -> &'static str {
+fn status_digit(status: ExitCode) -> &'static str {
     if status == ExitCode::SUCCESS {
         return "0";
     }
@@ -106,16 +106,16 @@ fn text_of(status: ExitCode) -> &'static str {
     "2"
 }
 
-// Appends messages to `told`, with `PORT` for the port.
-fn tell_named(alloc: Global, messages: &str, port: &str, told: &mut Told) {
+// Appends messages to `told`, with `PORT` wherever they have the digits of the port.
+fn append_with_port(alloc: Global, messages: &str, port: &str, told: &mut Told) {
     match messages.replace(alloc, port, "PORT") {
         Ok(named) => told.text(named.as_str()),
         Err(_) => told.lack(),
     }
 }
 
-// Appends the lines of messages, except those that end in `WAITS`.
-fn tell_without_waits(messages: &str, told: &mut Told) {
+// Appends the lines of messages to `told`, each with a line feed, except those that end in `WAITS`.
+fn append_without_waits(messages: &str, told: &mut Told) {
     for line in messages.lines() {
         if !line.ends_with(WAITS) {
             told.text(line);
@@ -124,18 +124,18 @@ fn tell_without_waits(messages: &str, told: &mut Told) {
     }
 }
 
-// Whether a case asks for parts of the messages.
+// Whether a case asks for parts of the messages, by texts in them. The number of their bytes (`length`) is no such part.
 fn asks_for_parts(case: &Case<'_>) -> bool {
     ["tells", "begins", "ends", "counts"]
         .iter()
         .any(|key| case.value(key) != "")
 }
 
-/// Reports what came at a far end, for each key that a case has.
+/// Reports where something else came at a far end than the case has, of the keys that it has.
 pub fn tell_seen(alloc: Global, case: &Case<'_>, seen: &Seen, wrong: &mut Told) {
     compare_if_asked(case, "heard", &seen.heard, wrong);
-    tell_number(alloc, case, "opened", u64::from(seen.opened), wrong);
-    tell_number(alloc, case, "elapsed", seen.elapsed, wrong);
+    compare_number(alloc, case, "opened", u64::from(seen.tried), wrong);
+    compare_number(alloc, case, "elapsed", seen.elapsed, wrong);
     compare_if_asked(case, "files", &seen.files, wrong);
 }
 
@@ -152,7 +152,7 @@ fn compare_if_asked(case: &Case<'_>, key: &str, came: &Told, wrong: &mut Told) {
 }
 
 // Compares a number with the case's value under this key, if it has one.
-fn tell_number(alloc: Global, case: &Case<'_>, key: &str, number: u64, wrong: &mut Told) {
+fn compare_number(alloc: Global, case: &Case<'_>, key: &str, number: u64, wrong: &mut Told) {
     let mut digits = Told::new(alloc);
     digits.display(&number);
     compare_if_asked(case, key, &digits, wrong);

@@ -25,7 +25,7 @@ use Rattle.gc_rows.specs.Laws.{members_read, texts_read}
 use Rattle.gc_rows.specs.Quantities.{column_of, quantity_names}
 use Rattle.gc_rows.specs.Rows.{code_of, com_of, moment_text, procedure_of, values_of}
 use Rattle.gc_rows.specs.declared.when.When.{When}
-use Rattle.gc_world.proofs.Options.{some_is}
+use Rattle.std.proofs.lemmas.Option.{same_Some}
 use Rattle.gc_promise.specs.Objects.{text_of}
 use Rattle.gc_promise.proofs.Plain.{moment_plain}
 
@@ -294,9 +294,9 @@ pub record IsFound (ms : List Member) (line : List ℕ) : Type 0 where
 
 -- the codes and parameters of the line that ended a command are found among the members on its ending
 pub line_found : (end : End) (line : List ℕ) → line_of end ≡ Some line → IsFound (ending_members end) line
-line_found (Answered quality answer l) line e = subst (IsFound (ending_members (Answered quality answer l))) (some_is l line e) (record { rc_com = refl; rc = refl; values = refl })
-line_found (Unreadable l fault) line e = subst (IsFound (ending_members (Unreadable l fault))) (some_is l line e) (record { rc_com = refl; rc = refl; values = refl })
-line_found (Elsewhere l) line e = subst (IsFound (ending_members (Elsewhere l))) (some_is l line e) (record { rc_com = refl; rc = refl; values = refl })
+line_found (Answered quality answer l) line e = subst (IsFound (ending_members (Answered quality answer l))) (same_Some l line e) (record { rc_com = refl; rc = refl; values = refl })
+line_found (Unreadable l fault) line e = subst (IsFound (ending_members (Unreadable l fault))) (same_Some l line e) (record { rc_com = refl; rc = refl; values = refl })
+line_found (Elsewhere l) line e = subst (IsFound (ending_members (Elsewhere l))) (same_Some l line e) (record { rc_com = refl; rc = refl; values = refl })
 line_found Late line e = cc
 line_found Lost line e = cc
 line_found Skipped line e = cc

@@ -1,6 +1,6 @@
 -- The eventful run, computed. Which function says what replies say (`reads`) is left open here. `patched` is that function with
 -- the readings of the five replies that answer commands put before it; no other reply of the run is looked at.
-use Rattle.std.proofs.Common.{◌≡◌, inl, inr, ℕ, zero, suc, List, [], ◌∷◌, ◌++◌, Option, Some, None, true, false, refl, sym, subst, ap, arith, lit<}
+use Rattle.std.proofs.Common.{◌≡◌, ℕ, zero, suc, List, [], ◌∷◌, ◌++◌, Option, Some, None, refl, sym, subst, ap, arith, lit<}
 use Rattle.std.specs.Prelude.{codes, map, option_map, take, drop}
 use Rattle.std.specs.Fmt.{digits}
 use Rattle.gc_lines.specs.Readers.{header_at, reply_at}
@@ -9,7 +9,6 @@ use Rattle.gc_values.specs.Decimals.{rounded}
 use Rattle.gc_values.specs.Directions.{is_near}
 use Rattle.gc_catalogue.specs.declared.answer.Reading.{Reading}
 use Rattle.gc_catalogue.specs.declared.asked.Asked.{Asked}
-use Rattle.gc_client.specs.Beginning.{IsSubsequence, the_word}
 use Rattle.gc_client.specs.OneForOne.{Step}
 use Rattle.gc_client.specs.Rule.{ById, id_in}
 use Rattle.gc_client.specs.declared.window.TheConstants.{WINDOW}
@@ -35,24 +34,18 @@ use Rattle.gc_field.specs.Instrument.{IsAnInstrument, AnyState}
 use Rattle.gc_field.specs.Instrument as instrument
 use Rattle.gc_field.specs.Shown.{AreShownAs, shown}
 use Rattle.gc_field.specs.Witness.{at, replies}
-use Rattle.gc_field.proofs.Witness.{asked_each, run_on, units}
+use Rattle.gc_field.proofs.Witness.{asked_each, run_on, units, none_here}
 use Rattle.gc_promise.specs.Eventful.{IsEventful, acts, anew_acts, anew_turns, at_start, begins_acts, begins_turns, breaks_acts, breaks_moves}
-use Rattle.gc_promise.specs.Eventful.{chain_acts, chain_moves, commands, first_stretch, front, last_stretch, left, plan, pointed, records, reporting, runs, scope, tally}
+use Rattle.gc_promise.specs.Eventful.{chain_acts, chain_moves, commands, first_stretch, given_up, last_stretch, left_by_first, plan, pointed, records, reporting, runs, scope, tally}
 use Rattle.gc_promise.proofs.TrueReadings.{patched, patched_same}
-use Rattle.gc_field.proofs.Once.{true_is_not}
+use Rattle.gc_field.proofs.Instruments.{keeps_none}
 
 -- `reporting` is an instrument
 reporting_is : IsAnInstrument reporting AnyState instrument.nothing
 reporting_is =
-    record {
-      hears = λ line. refl;
-      replies = λ s id call good small. ap id_in (reply_back (record { rc_com = 0; id = Some id; rc = 0; params = s }) (record { rc_com = lit< tt; id = small; rc = lit< tt }));
-      repeats = λ s id call good small not. absurd (true_is_not not);
-      keeps = λ s id call good small. inl (inl refl);
-      starts = λ s good. inl refl;
-      stays_good = λ s id call good small. tt;
-      starts_good = λ s good. tt;
-    }
+    keeps_none (List ℕ) reporting (λ line. refl)
+    (λ s id call small. ap id_in (reply_back (record { rc_com = 0; id = Some id; rc = 0; params = s }) (record { rc_com = lit< tt; id = small; rc = lit< tt })))
+    (λ s id call. refl)
 
 -- What the station sees of the line.
 
@@ -93,7 +86,7 @@ unfolding is_elsewhere is_near header_at reply_at digits rounded
 begins_are = refl
 
 -- what the line does in the second synchronization shows these turns
-anew_are : shown reporting anew_turns (begins left) ≡ anew_shown
+anew_are : shown reporting anew_turns (begins left_by_first) ≡ anew_shown
 unfolding is_elsewhere is_near header_at reply_at digits rounded
 anew_are = refl
 
@@ -105,7 +98,7 @@ unfolding is_elsewhere is_near header_at reply_at digits rounded
 begins_possible = (tt, (refl, (tt, (tt, (tt, (tt, (tt, (tt, (tt, (tt, (tt, (tt, ((tt, refl), units 24)))))))))))))
 
 -- the turns of the second synchronization are possible
-anew_possible : AreTurns reporting AnyState instrument.nothing anew_turns (begins left)
+anew_possible : AreTurns reporting AnyState instrument.nothing anew_turns (begins left_by_first)
 unfolding is_elsewhere is_near header_at reply_at digits rounded
 anew_possible = (tt, (tt, (tt, (tt, (tt, ((tt, refl), units 26))))))
 
@@ -133,18 +126,6 @@ chain_possible =
     (possible_on (moved reporting (by_ids WINDOW reporting) (take 27 chain_moves) (ids_begun last_stretch.from)) (take 16 (drop 27 chain_moves)) (drop 43 chain_moves)
     ((tt, refl), (tt, ((tt, refl), (tt, ((tt, refl), (tt, (tt, (tt, (tt, (tt, (tt, (tt, (tt, (tt, (refl, ((8, _, refl), tt))))))))))))))))
     ((9, _, refl), ((10, _, refl), ((11, _, refl), ((11, _, refl), ((12, _, refl), (tt, (tt, (tt, ((tt, refl), (tt, (tt, (tt, (tt, ((13, _, refl), ((15, _, refl), tt))))))))))))))))
-
--- The word isn't a subsequence of the ids in flight at the start, which are two zeros.
-
--- two equal numbers aren't 6 and 0
-six : (n m : ℕ) → n ≡ m → n ≡ 6 → m ≡ 0 → ⊥
-six n m e a b = omega (arith, e, a, b)
-
--- the word isn't a subsequence of two ids 0
-none_here : IsSubsequence the_word (0 ∷ 0 ∷ []) → ⊥
-none_here (inl h) = six 6 0 h.0 refl refl
-none_here (inr (inl h)) = six 6 0 h.0 refl refl
-none_here (inr (inr h)) = h
 
 -- What the run shows.
 
@@ -193,28 +174,28 @@ module _ (reads : Asked → List ℕ → Reading) where
       (refl, (tt, (refl, (tt, (refl, (tt, (refl, (tt, (refl, (tt, (tt, (refl, (tt, (tt, (refl, (tt, (tt, (refl, (tt, (tt, (tt, (refl, (tt, (tt, (tt, tt)))))))))))))))))))))))))
 
   -- after the acts until seven requests have timed out, those until the fourth connection is made are a run
-  anew_runs : RunsAfter front (take 16 anew_acts)
+  anew_runs : RunsAfter given_up (take 16 anew_acts)
   unfolding is_elsewhere is_near header_at reply_at digits rounded
   anew_runs = (tt, (refl, (tt, (tt, (refl, (tt, (tt, (refl, (tt, (tt, (refl, (tt, (tt, (tt, (refl, (tt, tt))))))))))))))))
 
   -- after the acts until the fourth connection is made, those by which the other six null procedures are answered are a run
-  answers_six : RunsAfter (front ++ take 16 anew_acts) (drop 16 anew_acts)
+  answers_six : RunsAfter (given_up ++ take 16 anew_acts) (drop 16 anew_acts)
   unfolding is_elsewhere is_near header_at reply_at digits rounded
   answers_six = (refl, (tt, (tt, (refl, (tt, (tt, (refl, (tt, (tt, (refl, (tt, (tt, (refl, (tt, (tt, (refl, (tt, (tt, tt))))))))))))))))))
 
   -- after the new synchronization, the acts by which the second cycle is missed and the third begins are a run
-  misses_runs : RunsAfter (front ++ anew_acts) (take 9 chain_acts)
+  misses_runs : RunsAfter (given_up ++ anew_acts) (take 9 chain_acts)
   unfolding is_elsewhere is_near header_at reply_at digits rounded
   misses_runs = (tt, (tt, (tt, (tt, (tt, (tt, (tt, (tt, (tt, tt)))))))))
 
   -- after the acts with which the third cycle begins, those until its last request is cut are a run
-  answers_runs : RunsAfter (front ++ (anew_acts ++ take 9 chain_acts)) (take 14 (drop 9 chain_acts))
+  answers_runs : RunsAfter (given_up ++ (anew_acts ++ take 9 chain_acts)) (take 14 (drop 9 chain_acts))
   unfolding is_elsewhere is_near header_at reply_at digits rounded
   answers_runs =
       (refl, (tt, (tt, (refl, (tt, (refl, (tt, (refl, (tt, (refl, (tt, (refl, (tt, ((refl, lit< tt), tt))))))))))))))
 
   -- after the acts until the last request is cut, those until the end are a run
-  late_runs : RunsAfter (front ++ (anew_acts ++ take 23 chain_acts)) (drop 23 chain_acts)
+  late_runs : RunsAfter (given_up ++ (anew_acts ++ take 23 chain_acts)) (drop 23 chain_acts)
   unfolding is_elsewhere is_near header_at reply_at digits rounded
   late_runs = (refl, (tt, (tt, (tt, (refl, (tt, (tt, (tt, (tt, (refl, (tt, (tt, (refl, tt)))))))))))))
 
@@ -222,14 +203,14 @@ module _ (reads : Asked → List ℕ → Reading) where
   pub all_run : RunsAfter [] acts
   unfolding is_elsewhere is_near header_at reply_at digits rounded
   all_run =
-      run_on plan commands (opening plan patched_scope) front (anew_acts ++ chain_acts)
+      run_on plan commands (opening plan patched_scope) given_up (anew_acts ++ chain_acts)
       (run_on plan commands (opening plan patched_scope) begins_acts breaks_acts
       (run_on plan commands (opening plan patched_scope) (take 16 begins_acts) (drop 16 begins_acts) begins_runs answers_eight)
       (run_on plan commands (state_after plan commands patched_scope begins_acts) (take 8 breaks_acts) (drop 8 breaks_acts) breaks_runs gives_up_runs))
-      (run_on plan commands (state_after plan commands patched_scope front) anew_acts chain_acts
-      (run_on plan commands (state_after plan commands patched_scope front) (take 16 anew_acts) (drop 16 anew_acts) anew_runs answers_six)
-      (run_on plan commands (state_after plan commands patched_scope (front ++ anew_acts)) (take 9 chain_acts) (drop 9 chain_acts) misses_runs
-      (run_on plan commands (state_after plan commands patched_scope (front ++ (anew_acts ++ take 9 chain_acts))) (take 14 (drop 9 chain_acts)) (drop 23 chain_acts) answers_runs late_runs)))
+      (run_on plan commands (state_after plan commands patched_scope given_up) anew_acts chain_acts
+      (run_on plan commands (state_after plan commands patched_scope given_up) (take 16 anew_acts) (drop 16 anew_acts) anew_runs answers_six)
+      (run_on plan commands (state_after plan commands patched_scope (given_up ++ anew_acts)) (take 9 chain_acts) (drop 9 chain_acts) misses_runs
+      (run_on plan commands (state_after plan commands patched_scope (given_up ++ (anew_acts ++ take 9 chain_acts))) (take 14 (drop 9 chain_acts)) (drop 23 chain_acts) answers_runs late_runs)))
 
   -- the parts of the run are these
   parts_are : parts_of plan commands (opening plan patched_scope) acts ≡ all_parts
@@ -242,7 +223,7 @@ module _ (reads : Asked → List ℕ → Reading) where
   written = refl
 
   -- the station resynchronizes where seven requests have timed out
-  begins_anew : IsResynchronizing plan commands patched_scope front (Told (at 345))
+  begins_anew : IsResynchronizing plan commands patched_scope given_up (Told (at 345))
   unfolding is_elsewhere is_near header_at reply_at digits rounded
   begins_anew = record { resynchronizes = record { renews = refl; moment = at 345; told = refl; seven = refl; given_up = refl }; word = refl; client = refl }
 

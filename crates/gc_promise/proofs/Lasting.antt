@@ -16,7 +16,7 @@ use Rattle.gc_files.proofs.Failing.{tables_outlast_failures}
 use Rattle.gc_files.proofs.Lasting.{tables_last}
 use Rattle.gc_links.specs.Acts.{Act}
 use Rattle.gc_messages.specs.Following.{bytes_in}
-use Rattle.gc_station.specs.Keeping.{KeepsUp, closing_at}
+use Rattle.gc_station.specs.Keeping.{KeepsUp, close_at_output}
 use Rattle.gc_station.specs.Records.{Record}
 use Rattle.gc_station.specs.Runs as runs
 use Rattle.gc_station.specs.Runs.{state_after}
@@ -29,21 +29,22 @@ use Rattle.gc_words.specs.declared.settings.Settings.{Settings}
 use Rattle.gc_measuring.specs.declared.stop.Stop.{Stop}
 use Rattle.gc_lines.specs.declared.ports.Source.{Ghosts as Source}
 use Rattle.gc_lines.specs.declared.ports.Sink.{Ghosts as Sink}
-use Rattle.gc_measuring.specs.Measuring.{PortsSeen, Measures, course_of, Course, text_in, front_text, RunsBehind}
-use Rattle.gc_world.proofs.Options.{some_is}
-use Rattle.gc_promise.specs.Lasting.{RunOfFile, IsRunOfFile, AppendsAreRuns, Moment, IsMoment, rows_by, AreLeft, Opens, RowsOutlastCrashes, doubted_by, Ending, Stopped, Unsynced, MayEnd, sides_ended, doubt_of, sides_from, RowsOutlastFailures}
+use Rattle.gc_measuring.specs.Measuring.{PortsSeen, Measures, survey_of, Survey, text_in, front_text, RunsAfterFront}
+use Rattle.std.proofs.lemmas.Option.{same_Some}
+use Rattle.gc_promise.specs.Lasting.{RunOfFile, IsRunOfFile, AppendsAreRuns, RunMoment, IsRunMoment, rows_by, AreLeft, OpensFile, RowsOutlastCrashes, doubted_by, Ending, Stopped, Unsynced, MayEnd, sides_ended, doubt_of, sides_from, RowsOutlastFailures}
 use Rattle.gc_promise.proofs.Ended.{text_whole}
 use Rattle.gc_promise.proofs.Pieces.{pieces, rows_left, whole_rest}
-use Rattle.gc_promise.proofs.Seen.{At, kept_at, seen_at, Fronted, fronted, texts_whole}
+use Rattle.gc_promise.proofs.Seen.{IsKeptAt, kept_at, seen_at, Fronted, fronted, texts_whole}
 use Rattle.gc_promise.proofs.Staying.{run_by, is_run, happen_two, life_two, splits_at_run, cuts_first, occur_two, sides_two, runs_two}
+use Rattle.std.proofs.lemmas.Bool.{not-true}
 
 -- What the clauses say.
 
 -- nothing comes before the rows of a file whose header is there already
-between_is : (course : Course) (between : Option (List ℕ)) → course.layout.headed ≡ true → Appends (Some []) between (front_text course.layout) → between ≡ Some []
-between_is course None headed front = absurd front
-between_is course (Some bytes) headed front =
-    let none : front_text course.layout ≡ [] = rw (headed) refl in
+between_is : (survey : Survey) (between : Option (List ℕ)) → survey.layout.headed ≡ true → Appends (Some []) between (front_text survey.layout) → between ≡ Some []
+between_is survey None headed front = absurd front
+between_is survey (Some bytes) headed front =
+    let none : front_text survey.layout ≡ [] = rw (headed) refl in
     ap (λ (l : List ℕ). Some l) (front ∙ none)
 
 -- What `append_at` reports is a run of a file.
@@ -62,7 +63,7 @@ found : {R : Type 0} (station : Settings) (given : List ℕ) (old new : PortsSee
 found station given old new end told file headed none acts fresh took (inl (stop, is, refuses, unused)) = inl unused.turns
 found station given old new end told file headed none acts fresh took (inr (setup, tasks, names, gives, inl front)) = inl front.turns
 found station given old new end told file headed none acts fresh took (inr (setup, tasks, names, gives, inr behind)) = inr (
-  record { course = course_of station 18446744073709551615 setup tasks names; old = old; new = new; end = end; recorded = told; file = file },
+  record { survey = survey_of station 18446744073709551615 setup tasks names; old = old; new = new; end = end; recorded = told; file = file },
   record { headed = headed; none = none; acts = acts; fresh = fresh; took = took; ran = behind },
   refl,
   refl,
@@ -74,7 +75,7 @@ found station given old new end told file headed none acts fresh took (inr (setu
 pub appends_are_runs : {S R : Type 0} (source : Source S) (sink : Sink (Followed R)) (K E : Type 0) → ((f : Followed R) → sink.taken f ≡ Some (bytes_in f)) → AppendsAreRuns source sink K E
 appends_are_runs source sink K E taken lasts shown has_log station old new file acts turns turns' status tells = elim tells.run.ran [
   | inl ran ↦
-      let it = some_is file tells.ended.output tells.filed.left in
+      let it = same_Some file tells.ended.output tells.filed.left in
       let m = ran.measured in
       elim (found (begun_at m.0 (words.appended station)) m.1.0 _ _ tells.run.end ran.told file refl refl refl tells.filed.fresh
       (subst (λ f. sink.taken f ≡ Some (bytes_in file)) it (taken file)) m.1.2) [
@@ -84,54 +85,54 @@ appends_are_runs source sink K E taken lasts shown has_log station old new file 
   | inr unbegun ↦ inl unbegun.7
 ]
 
-module _ {R : Type 0} (m : Moment R) (is : IsMoment m) (reads : Asked → List ℕ → Reading) (are : AreReadings reads) where
+module _ {R : Type 0} (m : RunMoment R) (is : IsRunMoment m) (reads : Asked → List ℕ → Reading) (are : AreReadings reads) where
   -- the scope of the moment's run
   abbrev scope : Scope
-  scope = record { turns = m.run.course.turns; reads = reads }
+  scope = record { turns = m.run.survey.max_turns; reads = reads }
 
   -- the text of a record, as the moment's run writes it
   abbrev text : Record → List ℕ
-  text = text_in m.run.course.layout m.run.course.names
+  text = text_in m.run.survey.layout m.run.survey.names
 
   -- the moment's run, by its contract
-  abbrev ran : RunsBehind m.run.course m.run.old m.run.new m.run.end
+  abbrev ran : RunsAfterFront m.run.survey m.run.old m.run.new m.run.end
   ran = is.run.ran
 
   -- no bytes came before the run's rows
   none_between : ran.between ≡ Some []
-  none_between = between_is m.run.course ran.between is.run.headed (subst (λ (t : Option (List ℕ)). Appends t ran.between (front_text m.run.course.layout)) is.run.fresh ran.front)
+  none_between = between_is m.run.survey ran.between is.run.headed (subst (λ (t : Option (List ℕ)). Appends t ran.between (front_text m.run.survey.layout)) is.run.fresh ran.front)
 
   -- the run kept up: at each of its turns, what the acts before it settled was kept
-  keeps : KeepsUp m.run.course.plan m.run.course.tasks scope text (Some []) (Some m.run.recorded) (Some []) m.run.old.turns m.run.new.turns (closing_at ran.end)
+  keeps : KeepsUp m.run.survey.plan m.run.survey.tasks scope text (Some []) (Some m.run.recorded) (Some []) m.run.old.turns m.run.new.turns (close_at_output ran.end)
   keeps = rw (← is.run.none, ← is.run.acts, ← none_between) (ran.keeps.0 reads are)
 
   -- what the file took in the end is what the run wrote
-  took : runs.Ran m.run.course.plan m.run.course.tasks scope text (Some []) (Some m.run.recorded) (Some []) (Some (bytes_in m.run.file)) ran.end
+  took : runs.Ran m.run.survey.plan m.run.survey.tasks scope text (Some []) (Some m.run.recorded) (Some []) (Some (bytes_in m.run.file)) ran.end
   took = rw (← is.run.none, ← is.run.acts, ← is.run.took, ← none_between) (ran.ran.0 reads are)
 
   -- the moment's turn is one of the run's turns, and all that the acts before it settled was kept then
-  seen : At m.run.course.plan m.run.course.tasks scope text (Some []) (Some []) [] m.turn
+  seen : IsKeptAt m.run.survey.plan m.run.survey.tasks scope text (Some []) (Some []) [] m.turn
   seen =
       let turns = append_cancel_left m.run.old.turns keeps.turns (is.seen.earlier ++ m.turn ∷ is.seen.later) (sym keeps.saw ∙ is.seen.among) in
-      kept_at m.run.course.plan m.run.course.tasks scope text (Some []) (Some []) [] keeps.acts is.seen.earlier is.seen.later m.turn (rw (← turns) keeps.kept)
+      kept_at m.run.survey.plan m.run.survey.tasks scope text (Some []) (Some []) [] keeps.acts is.seen.earlier is.seen.later m.turn (rw (← turns) keeps.kept)
 
   -- what the file and those before it had taken at the turn are the rows of what the acts of `done` settled
-  settled_by : bytes_in m.was ≡ rows_by m.run.course reads m.done
-  settled_by = seen_at m.run.course.plan m.run.course.tasks scope text m.turn seen.front m.done (bytes_in m.was) seen.kept is.seen.done is.seen.taken
+  settled_by : bytes_in m.was ≡ rows_by m.run.survey reads m.done
+  settled_by = seen_at m.run.survey.plan m.run.survey.tasks scope text m.turn seen.front m.done (bytes_in m.was) seen.kept is.seen.done is.seen.taken
 
   -- what the file took in the end is a front of all rows
-  end : Fronted m.run.course.plan m.run.course.tasks scope text m.run.recorded (bytes_in m.run.file)
-  end = fronted m.run.course.plan m.run.course.tasks scope text m.run.recorded (bytes_in m.run.file) ran.end took
+  end : Fronted m.run.survey.plan m.run.survey.tasks scope text m.run.recorded (bytes_in m.run.file)
+  end = fronted m.run.survey.plan m.run.survey.tasks scope text m.run.recorded (bytes_in m.run.file) ran.end took
 
   -- the rows of what any acts settle end in a line feed, unless there is none
-  rows_whole : (acts : List Act) → whole (rows_by m.run.course reads acts) ≡ rows_by m.run.course reads acts
-  rows_whole acts = texts_whole text (text_whole m.run.course.layout m.run.course.names) (state_after m.run.course.plan m.run.course.tasks scope acts).records
+  rows_whole : (acts : List Act) → whole (rows_by m.run.survey reads acts) ≡ rows_by m.run.survey reads acts
+  rows_whole acts = texts_whole text (text_whole m.run.survey.layout m.run.survey.names) (state_after m.run.survey.plan m.run.survey.tasks scope acts).records
 
   -- The file.
 
   -- what the run wrote into files before this one
   abbrev earlier_bytes : List ℕ
-  earlier_bytes = appended m.was.left.steps
+  earlier_bytes = appended m.was.earlier.steps
 
   -- what this file had taken at the moment's act
   abbrev taken : List ℕ
@@ -154,7 +155,7 @@ module _ {R : Type 0} (m : Moment R) (is : IsMoment m) (reads : Asked → List �
   calls_are = is.reached.ends ∙ ap (λ (l : List Step). l ++ is.reached.rest) is.reached.begins
 
   -- all rows that the run may write are those of earlier files, those that the file had taken at the turn, and a rest
-  all_is : rows_by m.run.course reads end.acts ≡ earlier_bytes ++ (taken ++ rest)
+  all_is : rows_by m.run.survey reads end.acts ≡ earlier_bytes ++ (taken ++ rest)
   all_is =
       let file : bytes_in m.run.file ≡ earlier_bytes ++ (taken ++ (appended since ++ appended is.reached.rest)) =
       ap (λ (l : List Step). appended l ++ taken_in m.run.file.rows) is.reached.left
@@ -176,12 +177,7 @@ module _ {R : Type 0} (m : Moment R) (is : IsMoment m) (reads : Asked → List �
   kept =
       let lasts : is_durable m.was.rows ≡ true = sym is.seen.lasts ∙ seen.kept.lasts in
       let isnt : not m.was.rows.unkept ≡ true = subst (λ (b : Bool). (if b then not m.was.rows.unkept else true) ≡ true) is.seen.synced lasts in
-      m.was.rows.kept (not_true m.was.rows.unkept isnt)
-    where
-      -- a truth value whose negation is true is false
-      not_true : (b : Bool) → not b ≡ true → b ≡ false
-      not_true true e = let wrong : false ≡ true = e in cc
-      not_true false e = refl
+      m.was.rows.kept (not-true m.was.rows.unkept isnt)
 
   -- if the first `count` lines of the rows are left, at least as many as had been taken at the turn, `AreLeft` holds of them
   left_of : (count : ℕ) → feeds taken ≤ count → AreLeft m reads (lines (take count (pieces (taken ++ rest))))
@@ -208,7 +204,7 @@ module _ {R : Type 0} (m : Moment R) (is : IsMoment m) (reads : Asked → List �
   run steps = run_by steps m.calls taken (taken ++ rest) None
 
   -- with the calls of an opening of a file that held these bytes, `run` is a run as the laws on files of rows have one
-  runs_so : (head held : List ℕ) (steps : List Step) → Opens head held steps → IsRun head held (run steps)
+  runs_so : (head held : List ℕ) (steps : List Step) → OpensFile head held steps → IsRun head held (run steps)
   runs_so head held steps opens =
       let none : cuts_none ((steps_in m.was.rows ++ since) ++ is.reached.rest) ≡ true = subst (λ (l : List Step). cuts_none l ≡ true) calls_are m.run.file.rows.only_appends in
       subst (λ (calls : List Step). IsRun head held (run_by steps calls taken (taken ++ rest) None)) (sym is.reached.begins)

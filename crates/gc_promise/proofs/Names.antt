@@ -33,6 +33,7 @@ use Rattle.gc_station.proofs.Lists.{all_at}
 use Rattle.gc_promise.specs.Fields.{under, quantity_in}
 use Rattle.gc_promise.specs.Tables.{header}
 use Rattle.gc_promise.proofs.Plain.{decimal_plain, moment_plain}
+use Rattle.std.proofs.lemmas.Bool.{not-false, or_parts}
 
 -- A row of a table.
 
@@ -77,11 +78,6 @@ under_front key (n ∷ names) (f ∷ fields) more others same among =
     pick (pointwise nat_eq n key) f (under key (names ++ more) (fields ++ others)) (under key names fields)
     (λ other. under_front key names fields more others (omega (arith, same)) (sym (ap (λ b. b || is_among key names) other) ∙ among))
 
--- if neither of two tests passes, each fails
-neither : (a b : Bool) → (a || b) ≡ false → (a ≡ false) × (b ≡ false)
-neither true b e = cc
-neither false b e = (refl, e)
-
 -- under a name that isn't among the first names of a row is what is under it in the fields after those
 under_behind : (key : List ℕ) (names fields more others : List (List ℕ)) → length fields ≡ length names → is_among key names ≡ false
     → under key (names ++ more) (fields ++ others) ≡ under key more others
@@ -89,20 +85,15 @@ under_behind key [] [] more others same none = refl
 under_behind key [] (f ∷ fields) more others same none = absurd (omega (arith, same))
 under_behind key (n ∷ names) [] more others same none = absurd (omega (arith, same))
 under_behind key (n ∷ names) (f ∷ fields) more others same none =
-    let parts = neither (pointwise nat_eq n key) (is_among key names) none in
+    let parts = or_parts (pointwise nat_eq n key) (is_among key names) none in
     ap (λ b. if b then f else under key (names ++ more) (fields ++ others)) parts.0 ∙ under_behind key names fields more others (omega (arith, same)) parts.1
-
--- a test whose opposite fails passes
-passes : (b : Bool) → not b ≡ false → b ≡ true
-passes true e = refl
-passes false e = cc
 
 -- if no key of a list is missing among the names, each of its keys is among them
 none_missing : (names keys : List (List ℕ)) → list_any (λ key. not (is_among key names)) keys ≡ false → AllByRecursion (λ key. IsAmong key names) keys
 none_missing names [] none = tt
 none_missing names (key ∷ keys) none =
-    let parts = neither (not (is_among key names)) (list_any (λ k. not (is_among k names)) keys) none in
-    (passes (is_among key names) parts.0, none_missing names keys parts.1)
+    let parts = or_parts (not (is_among key names)) (list_any (λ k. not (is_among k names)) keys) none in
+    (not-false (is_among key names) parts.0, none_missing names keys parts.1)
 
 -- each name of a quantity is among them
 all_among : AllByRecursion (λ key. IsAmong key quantity_names) quantity_names
@@ -122,7 +113,7 @@ filled call end = length-map (quantity_fields call end) escaped ∙ quantities_f
 
 module _ (when : When) (name : List ℕ) (command : Wish) (end : End) where
   -- the field of this row under a name
-  abbrev row_at : Bool → List ℕ → List ℕ
+  abbrev pub row_at : Bool → List ℕ → List ℕ
   row_at columns field = under field (header columns) (map escaped (row_fields columns when name command end))
 
   -- under `sent` a row has when the record's request was sent
@@ -156,7 +147,7 @@ module _ (when : When) (name : List ℕ) (command : Wish) (end : End) where
   under_outcome true = word_plain end
 
   -- the fields of a row, by the line of its reply
-  abbrev by_line : Bool → Option (List ℕ) → List (List ℕ)
+  abbrev pub by_line : Bool → Option (List ℕ) → List (List ℕ)
   by_line columns line =
       stamp_text when.run ∷ (when_fields when ++ (command_fields command name ++ ((word_of end ∷ fault_field (fault_of end) ∷ reply_fields line) ++ fields_after_ending columns when command.call end)))
 
@@ -385,13 +376,9 @@ columns_told (Table call) answer name k is of =
 columns_told (Raw raw) answer name k is of = all_at (λ (n : List ℕ). under n quantity_names (map escaped (replicate 24 [])) ≡ []) quantity_names k name blank is
 
 module _ (when : When) (text : List ℕ) (command : Wish) (name : List ℕ) (k : ℕ) (is : slice_get quantity_names k ≡ Some name) where
-  -- the field of a row under this name of a quantity
-  abbrev field_of : End → List ℕ
-  field_of end = under name (header true) (map escaped (row_fields true when text command end))
-
   -- under this name a row has what the fields of its quantities have
-  behind : (end : End) → field_of end ≡ under name quantity_names (map escaped (quantity_fields command.call end))
-  behind end =
+  quantities_under : (end : End) → row_at when text command end true name ≡ under name quantity_names (map escaped (quantity_fields command.call end))
+  quantities_under end =
       all_at (IsBehind when text command end) quantity_names k name (behind_others when text command end) is
       ∙ ap (under name (quantity_names ++ last_names)) (map-append escaped (quantity_fields command.call end) (last_fields when end))
       ∙ under_front name quantity_names (map escaped (quantity_fields command.call end)) last_names (map escaped (last_fields when end)) (filled command.call end)
@@ -403,19 +390,19 @@ module _ (when : When) (text : List ℕ) (command : Wish) (name : List ℕ) (k :
 
   -- under the name of a quantity is the answer's quantity of that name
   pub quantity_stands : (quality : Quality) (answer : Answer) (line : List ℕ) → IsAnswerTo command.call answer
-      → field_of (Answered quality (Some answer) line) ≡ escaped (quantity_in command.call (Value answer) name)
-  quantity_stands quality answer line of = behind (Answered quality (Some answer) line) ∙ columns_told command.call answer name k is of
+      → row_at when text command (Answered quality (Some answer) line) true name ≡ escaped (quantity_in command.call (Value answer) name)
+  quantity_stands quality answer line of = quantities_under (Answered quality (Some answer) line) ∙ columns_told command.call answer name k is of
 
   -- an answer without values has nothing under the name of a quantity
-  pub none_answered : (quality : Quality) (line : List ℕ) → field_of (Answered quality None line) ≡ []
-  none_answered quality line = behind (Answered quality None line) ∙ none
+  pub none_answered : (quality : Quality) (line : List ℕ) → row_at when text command (Answered quality None line) true name ≡ []
+  none_answered quality line = quantities_under (Answered quality None line) ∙ none
 
   -- a command that isn't answered has nothing under the name of a quantity
-  pub none_else : (end : End) → ((quality : Quality) (answer : Option Answer) (line : List ℕ) → end ≡ Answered quality answer line → ⊥) → field_of end ≡ []
+  pub none_else : (end : End) → ((quality : Quality) (answer : Option Answer) (line : List ℕ) → end ≡ Answered quality answer line → ⊥) → row_at when text command end true name ≡ []
   none_else (Answered quality answer line) other = absurd (other quality answer line refl)
-  none_else (Unreadable line fault) other = behind (Unreadable line fault) ∙ none
-  none_else (Elsewhere line) other = behind (Elsewhere line) ∙ none
-  none_else Late other = behind Late ∙ none
-  none_else Lost other = behind Lost ∙ none
-  none_else Skipped other = behind Skipped ∙ none
-  none_else Missed other = behind Missed ∙ none
+  none_else (Unreadable line fault) other = quantities_under (Unreadable line fault) ∙ none
+  none_else (Elsewhere line) other = quantities_under (Elsewhere line) ∙ none
+  none_else Late other = quantities_under Late ∙ none
+  none_else Lost other = quantities_under Lost ∙ none
+  none_else Skipped other = quantities_under Skipped ∙ none
+  none_else Missed other = quantities_under Missed ∙ none

@@ -34,7 +34,7 @@ use Rattle.gc_rows.specs.declared.record.Form.TheVariants.{Json}
 use Rattle.gc_rows.specs.declared.when.When.{When}
 use Rattle.gc_rows.proofs.Columns.{reply_columns}
 use Rattle.gc_rows.proofs.JsonLines.{front_of, reads_as}
-use Rattle.gc_rows.proofs.Members.{are_members}
+use Rattle.gc_rows.proofs.Members.{have_plain_members}
 use Rattle.gc_links.specs.Acts.{Act}
 use Rattle.gc_station.specs.Answers.{answer_of, AnswerIsJustified}
 use Rattle.gc_station.specs.Model.{opening}
@@ -47,7 +47,7 @@ use Rattle.gc_station.specs.declared.tally.Tally.{Tally}
 use Rattle.gc_station.proofs.Answers.{answers_true}
 use Rattle.gc_station.proofs.EachRun.{of_tasks}
 use Rattle.gc_station.proofs.Nearly.{as_listed}
-use Rattle.gc_measuring.specs.Measuring.{Course, front_text, text_in, when_of}
+use Rattle.gc_measuring.specs.Measuring.{Survey, front_text, text_in, when_of}
 use Rattle.gc_measuring.specs.declared.stop.Stop.{Stop}
 use Rattle.gc_field.specs.World.{Ends}
 use Rattle.gc_field.specs.Begin.{UnderWay}
@@ -56,9 +56,9 @@ use Rattle.gc_field.specs.Instrument.{IsAnInstrument, AnyState}
 use Rattle.gc_field.specs.Runs.{IsInField, IsOwnAnswer}
 use Rattle.gc_field.specs.Shown.{Stretch, stretches}
 use Rattle.gc_field.proofs.Joining.{run_faithful}
-use Rattle.gc_world.proofs.Options.{some_is}
+use Rattle.std.proofs.lemmas.Option.{same_Some}
 use Rattle.gc_world.proofs.Places.{get_seen}
-use Rattle.gc_promise.specs.Fields.{IsOwn, IsReplied, HasReply, quality_in, quantity_in, quantity_source}
+use Rattle.gc_promise.specs.Fields.{IsOwn, IsOutcomeOfReply, HasReply, quality_in, quantity_in, quantity_source}
 use Rattle.gc_promise.specs.Objects.{AreOfBytes, AreOwnObjects, IsOwnObject, ObjectsAreTheirOwn, lines_text}
 use Rattle.gc_promise.specs.Tables.{acts_measured, records_in, scope_of}
 use Rattle.gc_promise.proofs.Finding.{at_member, member_attempt, member_cycle, member_outcome, member_place, member_procedure, member_quality, member_quantity, member_rc, member_rc_com, member_sent, member_stands, member_target, member_values, zeros_gone}
@@ -66,8 +66,9 @@ use Rattle.gc_promise.proofs.Judged.{IsJudged, judged, no_value_if_none, value_i
 use Rattle.gc_promise.proofs.Names.{answer_to}
 use Rattle.gc_promise.proofs.Owning.{a_reply, same_line}
 use Rattle.gc_promise.proofs.Setting.{never_sent, set_to}
-use Rattle.gc_promise.proofs.Tabled.{all_front, all_written, is_answered, line_in, nothing_in, without_quality}
-use Rattle.gc_promise.proofs.Taken.{Took, behind_took}
+use Rattle.gc_lines.proofs.Lists.{all_front}
+use Rattle.gc_promise.proofs.Tabled.{all_written, is_answered, line_in, nothing_in, without_quality}
+use Rattle.gc_promise.proofs.Taken.{Took, run_took}
 use Rattle.gc_promise.proofs.Unbroken.{line_unbroken}
 
 -- Quantities.
@@ -99,33 +100,33 @@ module _ (when : When) (text : List ℕ) (command : Wish) (name : List ℕ) (k :
 
 -- An object.
 
-module _ {State : Type 0} (ends : Ends State) (kept : State → Option KeptReply) (course : Course) (reads : Asked → List ℕ → Reading) (are : AreReadings reads)
+module _ {State : Type 0} (ends : Ends State) (kept : State → Option KeptReply) (survey : Survey) (reads : Asked → List ℕ → Reading) (are : AreReadings reads)
     (acts : List Act) (ps : List Part) (ss : List (Stretch State)) (r : Record) where
   -- when the record's command was asked, and where it stands in its run
   abbrev when : When
-  when = when_of course.layout.run r
+  when = when_of survey.layout.run r
 
   -- the name of the record's target
   abbrev text : List ℕ
-  text = name_text r.command.target course.names
+  text = name_text r.command.target survey.names
 
   -- the text under a name in the record's object
   abbrev at : List ℕ → List ℕ
   at name = at_member when text r.command r.end name
 
   -- if a line with the fields of a reply answered the command, the object says what the line says
-  says : (line : List ℕ) → answer_of r.end ≡ Some line → (x : ReplyFields) × IsReply line x → IsAsListed reads course.tasks r
-      → HasReply true at (accepted_at course.tasks r.place) r.command.call line
+  says : (line : List ℕ) → answer_of r.end ≡ Some line → (x : ReplyFields) × IsReply line x → IsAsListed reads survey.tasks r
+      → HasReply true at (accepted_at survey.tasks r.place) r.command.call line
   says line answered reply listed =
       let same = same_line r.end line answered in
       let said = reply_columns line reply.0 reply.1 in
-      let accepted = accepted_at course.tasks r.place in
+      let accepted = accepted_at survey.tasks r.place in
       let reading = each_asked_reply r.command.call reply.0 in
       let told = each_asked_reply r.command.call (quantity_source (quality_in accepted reading.0) reply.0) in
       let by = judged reads are accepted r.command.call line reply.0 reply.1 reading.0 told.0 reading.1 told.1 in
       let judges : (quality : Quality) (values : Option Answer) (l : List ℕ) → r.end ≡ Answered quality values l
       → IsJudged reads are accepted r.command.call line reply.0 reply.1 reading.0 told.0 reading.1 told.1 quality values =
-      λ quality values l is. by quality values (subst (IsOfQuality reads accepted r.command.call quality values) (some_is l line (ap answer_of (sym is) ∙ answered)) (listed quality values l is)) in
+      λ quality values l is. by quality values (subst (IsOfQuality reads accepted r.command.call quality values) (same_Some l line (ap answer_of (sym is) ∙ answered)) (listed quality values l is)) in
       let word = member_outcome when text r.command r.end in
       record {
         reply = reply.0;
@@ -146,9 +147,9 @@ module _ {State : Type 0} (ends : Ends State) (kept : State → Option KeptReply
       }
 
   -- the object of a record is its own, by what is known of the record
-  object_own : IsOwnAnswer ends AnyState kept course.tasks ps ss r → AnswerIsJustified course.plan course.tasks (scope_of course reads) acts r → IsAsListed reads course.tasks r
-      → IsOfItsTask course.tasks r
-      → IsOwn ends AnyState kept true at course.tasks ps ss r
+  object_own : IsOwnAnswer ends AnyState kept survey.tasks ps ss r → AnswerIsJustified survey.plan survey.tasks (scope_of survey reads) acts r → IsAsListed reads survey.tasks r
+      → IsOfItsTask survey.tasks r
+      → IsOwn ends AnyState kept true at survey.tasks ps ss r
   object_own own came listed of =
       let word = member_outcome when text r.command r.end in
       record {
@@ -161,12 +162,12 @@ module _ {State : Type 0} (ends : Ends State) (kept : State → Option KeptReply
           procedure = member_procedure when text r.command r.end;
           outcome = word;
         };
-        clock = set_to at course.tasks r of (member_sent when text r.command r.end);
-        unsent = never_sent at course.tasks r of (member_sent when text r.command r.end);
+        clock = set_to at survey.tasks r of (member_sent when text r.command r.end);
+        unsent = never_sent at survey.tasks r of (member_sent when text r.command r.end);
         replied = λ is.
-            let has = line_in r.end (subst IsReplied word is) in
-            let true_one = came has.0 has.1 in
-            (has.0, says has.0 has.1 (a_reply has.0 _ true_one.id) listed, own has.0 has.1);
+            let has = line_in r.end (subst IsOutcomeOfReply word is) in
+            let justified = came has.0 has.1 in
+            (has.0, says has.0 has.1 (a_reply has.0 _ justified.id) listed, own has.0 has.1);
         without = λ shows other name quantity.
             none_stands when text r.command name quantity.0 quantity.1 r.end (λ quality answer line e. other (word ∙ ap word_of e));
         unqualified = λ other. member_quality when text r.command r.end ∙ without_quality r.end (λ answers. other (word ∙ answers));
@@ -198,89 +199,89 @@ no_front : (headed : Bool) (form : Form) → form ≡ Json → (if headed then [
 no_front true form is = refl
 no_front false form is = ap head_text is
 
-module _ {State : Type 0} (ends : Ends State) (kept : State → Option KeptReply) (is : IsAnInstrument ends AnyState kept) (course : Course) (form : course.layout.form ≡ Json)
+module _ {State : Type 0} (ends : Ends State) (kept : State → Option KeptReply) (is : IsAnInstrument ends AnyState kept) (survey : Survey) (form : survey.layout.form ≡ Json)
     (reads : Asked → List ℕ → Reading) (are : AreReadings reads) (acts : List Act) (u : UnderWay State) (rs : List (field.Run State))
-    (there : IsInField ends AnyState kept course.plan course.tasks (scope_of course reads) acts u rs) (small : AreOfBytes course (records_in course reads acts)) where
+    (there : IsInField ends AnyState kept survey.plan survey.tasks (scope_of survey reads) acts u rs) (small : AreOfBytes survey (records_in survey reads acts)) where
   -- the parts of the run
   abbrev parts : List Part
-  parts = parts_of course.plan course.tasks (opening course.plan (scope_of course reads)) acts
+  parts = parts_of survey.plan survey.tasks (opening survey.plan (scope_of survey reads)) acts
 
   -- the stretches of the run
-  abbrev over : List (Stretch State)
-  over = stretches ends u rs
+  abbrev all_stretches : List (Stretch State)
+  all_stretches = stretches ends u rs
 
-  -- the line of a record in this course, without its line feed
-  abbrev line_in_course : Record → List ℕ
-  line_in_course r = line_text (when_of course.layout.run r) (name_text r.command.target course.names) r.command r.end
+  -- the line of a record in this survey, without its line feed
+  abbrev line_in_survey : Record → List ℕ
+  line_in_survey r = line_text (when_of survey.layout.run r) (name_text r.command.target survey.names) r.command r.end
 
-  -- the text of a record in this course is its line and a line feed
-  one_line : (r : Record) → text_in course.layout course.names r ≡ line_in_course r ++ 10 ∷ []
+  -- the text of a record in this survey is its line and a line feed
+  one_line : (r : Record) → text_in survey.layout survey.names r ≡ line_in_survey r ++ 10 ∷ []
   one_line r =
-      let when = when_of course.layout.run r in
-      let text = name_text r.command.target course.names in
+      let when = when_of survey.layout.run r in
+      let text = name_text r.command.target survey.names in
       ap (λ (f : Form). record_text f when text r.command r.end) form ∙ line_ends when text r.command r.end
 
   -- the line of each record that was written whole is its own object
-  each_own : (written others : List Record) → records_in course reads acts ≡ written ++ others → (n : ℕ) (r : Record) → slice_get written n ≡ Some r
-      → IsOwnObject ends AnyState kept (line_in_course r) course.tasks parts over r
+  each_own : (written others : List Record) → records_in survey reads acts ≡ written ++ others → (n : ℕ) (r : Record) → slice_get written n ≡ Some r
+      → IsOwnObject ends AnyState kept (line_in_survey r) survey.tasks parts all_stretches r
   each_own written others order n r got =
-      let faithful = run_faithful ends AnyState kept is course.plan course.tasks (scope_of course reads) acts u rs there in
-      let when = when_of course.layout.run r in
-      let text = name_text r.command.target course.names in
-      let bounds = all_written (λ (x : Record). FitsIn64Bits (when_of course.layout.run x) × (x.command.target < 2 ^ 64) × IsEndOfBytes x.end) (records_in course reads acts) written others order
+      let faithful = run_faithful ends AnyState kept is survey.plan survey.tasks (scope_of survey reads) acts u rs there in
+      let when = when_of survey.layout.run r in
+      let text = name_text r.command.target survey.names in
+      let bounds = all_written (λ (x : Record). FitsIn64Bits (when_of survey.layout.run x) × (x.command.target < 2 ^ 64) × IsEndOfBytes x.end) (records_in survey reads acts) written others order
       small.each n r got in
-      let members = are_members when text r.command r.end bounds.0 (name_bytes r.command.target course.names small.names) bounds.1 bounds.2 in
+      let members = have_plain_members when text r.command r.end bounds.0 (name_bytes r.command.target survey.names small.names) bounds.1 bounds.2 in
       record {
         members = record_read when.run (json_members when text r.command r.end);
         reads_as = reads_as when.run (json_members when text r.command r.end) small.run members;
         own =
-            object_own ends kept course reads are acts parts over r
-            (all_written (IsOwnAnswer ends AnyState kept course.tasks parts over) (records_in course reads acts) written others order faithful.own n r got)
-            (all_written (AnswerIsJustified course.plan course.tasks (scope_of course reads) acts) (records_in course reads acts) written others order
-            (answers_true course.plan course.tasks (scope_of course reads) acts there.runs) n r got)
-            (all_written (λ (x : Record). IsAsListed reads course.tasks x) (records_in course reads acts) written others order
-            (as_listed course.plan course.tasks (scope_of course reads) acts) n r got)
-            (all_written (IsOfItsTask course.tasks) (records_in course reads acts) written others order (of_tasks course.plan course.tasks (scope_of course reads) acts) n r got);
+            object_own ends kept survey reads are acts parts all_stretches r
+            (all_written (IsOwnAnswer ends AnyState kept survey.tasks parts all_stretches) (records_in survey reads acts) written others order faithful.own n r got)
+            (all_written (AnswerIsJustified survey.plan survey.tasks (scope_of survey reads) acts) (records_in survey reads acts) written others order
+            (answers_true survey.plan survey.tasks (scope_of survey reads) acts there.runs) n r got)
+            (all_written (λ (x : Record). IsAsListed reads survey.tasks x) (records_in survey reads acts) written others order
+            (as_listed survey.plan survey.tasks (scope_of survey reads) acts) n r got)
+            (all_written (IsOfItsTask survey.tasks) (records_in survey reads acts) written others order (of_tasks survey.plan survey.tasks (scope_of survey reads) acts) n r got);
       }
 
   -- the lines of records in the types of the program have no line feed
-  all_unbroken : (rs : List Record) → AllByRecursion (λ (x : Record). FitsIn64Bits (when_of course.layout.run x) × (x.command.target < 2 ^ 64) × IsEndOfBytes x.end) rs
-      → AllByRecursion (Lacks 10) (map line_in_course rs)
+  all_unbroken : (rs : List Record) → AllByRecursion (λ (x : Record). FitsIn64Bits (when_of survey.layout.run x) × (x.command.target < 2 ^ 64) × IsEndOfBytes x.end) rs
+      → AllByRecursion (Lacks 10) (map line_in_survey rs)
   all_unbroken [] bounds = tt
   all_unbroken (r ∷ rs) bounds =
-      let when = when_of course.layout.run r in
-      let text = name_text r.command.target course.names in
-      let members = are_members when text r.command r.end bounds.0.0 (name_bytes r.command.target course.names small.names) bounds.0.1 bounds.0.2 in
+      let when = when_of survey.layout.run r in
+      let text = name_text r.command.target survey.names in
+      let members = have_plain_members when text r.command r.end bounds.0.0 (name_bytes r.command.target survey.names small.names) bounds.0.1 bounds.0.2 in
       (line_unbroken when text r.command r.end bounds.0.2 members, all_unbroken rs bounds.1)
 
   -- what a sink took of the run, after what it had, are the run's own objects
   objected : (result : Result Tally Stop) (had : List ℕ) (has : Option (List ℕ))
-      → Took (text_in course.layout course.names) (records_in course reads acts) result (had ++ front_text course.layout) has
-      → AreOwnObjects ends AnyState kept course reads acts parts over result had has
+      → Took (text_in survey.layout survey.names) (records_in survey reads acts) result (had ++ front_text survey.layout) has
+      → AreOwnObjects ends AnyState kept survey reads acts parts all_stretches result had has
   objected result had has took =
       let written = took.are.written in
-      let nothing_first : had ++ front_text course.layout ≡ had = ap (λ (l : List ℕ). had ++ l) (no_front course.layout.headed course.layout.form form) ∙ append-nil had in
+      let nothing_first : had ++ front_text survey.layout ≡ had = ap (λ (l : List ℕ). had ++ l) (no_front survey.layout.headed survey.layout.form form) ∙ append-nil had in
       record {
-        lines = map line_in_course written;
+        lines = map line_in_survey written;
         torn = took.torn;
-        took = took.is ∙ ap (λ (l : List ℕ). Some (l ++ (texts_of (text_in course.layout course.names) written ++ took.torn))) nothing_first
-            ∙ ap (λ (l : List ℕ). Some (had ++ (l ++ took.torn))) (each_line (text_in course.layout course.names) line_in_course one_line written);
+        took = took.is ∙ ap (λ (l : List ℕ). Some (l ++ (texts_of (text_in survey.layout survey.names) written ++ took.torn))) nothing_first
+            ∙ ap (λ (l : List ℕ). Some (had ++ (l ++ took.torn))) (each_line (text_in survey.layout survey.names) line_in_survey one_line written);
         are = took.are;
         unbroken =
             all_unbroken written
-            (all_front (λ (x : Record). FitsIn64Bits (when_of course.layout.run x) × (x.command.target < 2 ^ 64) × IsEndOfBytes x.end) written took.are.unwritten
-            (subst (AllByRecursion (λ (x : Record). FitsIn64Bits (when_of course.layout.run x) × (x.command.target < 2 ^ 64) × IsEndOfBytes x.end)) took.are.order small.each));
-        as_many = length-map written line_in_course;
+            (all_front (λ (x : Record). FitsIn64Bits (when_of survey.layout.run x) × (x.command.target < 2 ^ 64) × IsEndOfBytes x.end) written took.are.unwritten
+            (subst (AllByRecursion (λ (x : Record). FitsIn64Bits (when_of survey.layout.run x) × (x.command.target < 2 ^ 64) × IsEndOfBytes x.end)) took.are.order small.each));
+        as_many = length-map written line_in_survey;
         each = λ n line e.
-            let x = get_seen line_in_course written n line e in (
+            let x = get_seen line_in_survey written n line e in (
               x.0,
               x.1,
-              subst (λ (l : List ℕ). IsOwnObject ends AnyState kept l course.tasks parts over x.0) x.2 (each_own written took.are.unwritten took.are.order n x.0 x.1),
+              subst (λ (l : List ℕ). IsOwnObject ends AnyState kept l survey.tasks parts all_stretches x.0) x.2 (each_own written took.are.unwritten took.are.order n x.0 x.1),
             );
       }
 
 -- what a sink took of a run are its own objects
 pub objects_own : {State : Type 0} → ObjectsAreTheirOwn State
-objects_own ends kept is course form old new result behind told had none some began reads are u rs there small =
-    objected ends kept is course form reads are (acts_measured result told) u rs there small result had new.taken
-    (behind_took course old new result behind told had none some began reads are)
+objects_own ends kept is survey form old new result behind recorded had none some began reads are u rs there small =
+    objected ends kept is survey form reads are (acts_measured result recorded) u rs there small result had new.taken
+    (run_took survey old new result behind recorded had none some began reads are)

@@ -1,6 +1,6 @@
 -- The rows of a run in the field are their own: what is in a row of an answer was made by the instrument on executing the
 -- very request of the row's cycle and place.
-use Rattle.std.proofs.Common.{◌≡◌, ℕ, ◌<◌, Bool, true, false, List, [], ◌∷◌, ◌++◌, length, Option, Some, Result, Ok, Err, refl, ap, ◌∙◌, arith}
+use Rattle.std.proofs.Common.{◌≡◌, ℕ, ◌<◌, Bool, true, false, List, [], ◌∷◌, length, Option, Some, Result, Ok, Err, refl, ap, ◌∙◌, arith}
 use Rattle.std.specs.Prelude.{codes}
 use Rattle.std.specs.List.{AllByRecursion}
 use Rattle.gc_lines.specs.Readers.{reply_at}
@@ -9,14 +9,13 @@ use Rattle.gc_lines.specs.declared.fault.LineFault.{LineFault}
 use Rattle.gc_lines.proofs.Replies.{reply_found}
 use Rattle.gc_client.specs.Rule.{heard, id_in}
 use Rattle.gc_instrument.specs.State.{KeptReply}
-use Rattle.gc_texts.specs.Endings.{End, Answered, Unreadable, Elsewhere, Late, Lost, Skipped, Missed, word_of, fault_of, line_of}
+use Rattle.gc_texts.specs.Endings.{End, Answered, Unreadable, Elsewhere, Late, Lost, Skipped, Missed, line_of}
 use Rattle.gc_texts.specs.Names.{name_text}
-use Rattle.gc_texts.specs.Stamps.{stamp_text}
 use Rattle.gc_texts.specs.declared.wish.Wish.{Wish}
 use Rattle.gc_texts.specs.declared.name.Name.{Name}
 use Rattle.gc_texts.specs.declared.tasks.Task.{Task}
 use Rattle.gc_rows.specs.Records.{record_text}
-use Rattle.gc_rows.specs.Rows.{row_of, row_fields, when_fields, command_fields, fault_field, reply_fields, fields_after_ending, com_of, code_of, values_of}
+use Rattle.gc_rows.specs.Rows.{row_of, row_fields, com_of, code_of, values_of}
 use Rattle.gc_rows.specs.declared.when.When.{When}
 use Rattle.gc_rows.proofs.Columns.{reply_columns}
 use Rattle.gc_rows.proofs.Rows.{read_back}
@@ -35,7 +34,8 @@ use Rattle.gc_field.specs.Runs.{IsOwnAnswer}
 use Rattle.gc_field.specs.Shown.{Stretch}
 use Rattle.gc_field.proofs.Joining.{run_faithful}
 use Rattle.gc_promise.specs.Rows.{column, FieldsSay, IsOwnIfAnswered, RowsAreTheirOwn}
-use Rattle.gc_promise.specs.Tables.{table}
+use Rattle.gc_promise.specs.Tables.{table_form}
+use Rattle.gc_promise.proofs.Names.{by_line}
 
 -- a line with an id is a reply
 pub a_reply : (line : List ℕ) (id : ℕ) → heard line ≡ Some id → (r : ReplyFields) × IsReply line r
@@ -56,30 +56,25 @@ same_line Skipped line e = absurd (cc)
 same_line Missed line e = absurd (cc)
 
 module _ (columns : Bool) (when : When) (name : List ℕ) (command : Wish) (end : End) where
-  -- the fields of a row, by the line of its reply
-  abbrev by_line : Option (List ℕ) → List (List ℕ)
-  by_line line =
-      stamp_text when.run ∷ (when_fields when ++ (command_fields command name ++ ((word_of end ∷ fault_field (fault_of end) ∷ reply_fields line) ++ fields_after_ending columns when command.call end)))
-
   -- a row has more than one field
   pub two_fields : 1 < length (row_fields columns when name command end)
   two_fields = omega arith
 
   -- the column `rc_com` has the communication code of the line that ended the command
   under_rc_com : (line : List ℕ) → line_of end ≡ Some line → column (codes "rc_com") (row_fields columns when name command end) ≡ com_of line
-  under_rc_com line e = ap (λ o. column (codes "rc_com") (by_line o)) e
+  under_rc_com line e = ap (λ o. column (codes "rc_com") (by_line when name command end columns o)) e
 
   -- the column `rc` has the return code of the line that ended the command
   under_rc : (line : List ℕ) → line_of end ≡ Some line → column (codes "rc") (row_fields columns when name command end) ≡ code_of line
-  under_rc line e = ap (λ o. column (codes "rc") (by_line o)) e
+  under_rc line e = ap (λ o. column (codes "rc") (by_line when name command end columns o)) e
 
   -- the column `values` has the values of the line that ended the command
   under_values : (line : List ℕ) → line_of end ≡ Some line → column (codes "values") (row_fields columns when name command end) ≡ values_of line
-  under_values line e = ap (λ o. column (codes "values") (by_line o)) e
+  under_values line e = ap (λ o. column (codes "values") (by_line when name command end columns o)) e
 
 -- the text of a record in a table is the row of its fields
 pub in_table : (columns : Bool) (when : When) (name : List ℕ) (command : Wish) (end : End)
-    → record_text (table columns) when name command end ≡ row_of (row_fields columns when name command end)
+    → record_text (table_form columns) when name command end ≡ row_of (row_fields columns when name command end)
 in_table false when name command end = refl
 in_table true when name command end = refl
 
@@ -109,12 +104,12 @@ says layout columns names r line answered reply =
       values = under_values columns when name r.command r.end line same ∙ said.values;
     }
 
-module _ {State : Type 0} (ends : Ends State) (kept : State → Option KeptReply) (layout : Layout) (columns : Bool) (names : List Name) (form : layout.form ≡ table columns)
+module _ {State : Type 0} (ends : Ends State) (kept : State → Option KeptReply) (layout : Layout) (columns : Bool) (names : List Name) (form : layout.form ≡ table_form columns)
     (plan : Plan) (commands : List Task) (scope : Scope) (acts : List Act) (ps : List Part) (ss : List (Stretch State)) where
-  -- if a record is an answer, its row is its own
+  -- if a reply in time ended a record's command, its row is its own
   one : (r : Record) → IsOwnAnswer ends AnyState kept commands ps ss r → AnswerIsJustified plan commands scope acts r → IsOwnIfAnswered ends AnyState kept layout names commands ps ss r
   one r own came line answered =
-      let true_one = came line answered in
+      let justified = came line answered in
       let fields = fields_of layout columns names r in
       let row : text_in layout names r ≡ row_of fields =
       ap (λ f. record_text f (when_of layout.run r) (name_text r.command.target names) r.command r.end) form
@@ -123,17 +118,17 @@ module _ {State : Type 0} (ends : Ends State) (kept : State → Option KeptReply
         fields = fields;
         row = row;
         reads_back = λ behind. rw row (read_back.row fields behind (two_fields columns (when_of layout.run r) (name_text r.command.target names) r.command r.end));
-        says = says layout columns names r line answered (a_reply line _ true_one.id);
+        says = says layout columns names r line answered (a_reply line _ justified.id);
         own = own line answered;
       }
 
-  -- the rows of all of these records are their own, if the records are answers
+  -- the row of each of these records whose command a reply in time ended is its own
   each : (records : List Record) → AllByRecursion (IsOwnAnswer ends AnyState kept commands ps ss) records → AllByRecursion (AnswerIsJustified plan commands scope acts) records
       → AllByRecursion (IsOwnIfAnswered ends AnyState kept layout names commands ps ss) records
   each [] own came = tt
   each (r ∷ records) own came = (one r own.0 came.0, each records own.1 came.1)
 
--- the row of each record that is an answer is its own
+-- the row of each record whose command a reply in time ended is its own
 pub rows_own : {State : Type 0} → RowsAreTheirOwn State
 rows_own ends kept is layout columns names form plan commands scope acts u rs field =
     let faithful = run_faithful ends AnyState kept is plan commands scope acts u rs field in

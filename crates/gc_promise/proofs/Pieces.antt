@@ -8,6 +8,7 @@ use Rattle.gc_files.specs.Failing.{feeds}
 use Rattle.gc_files.specs.Rows.{has_feed, whole, line, IsFront}
 use Rattle.gc_files.specs.Runs.{lines, AreRows}
 use Rattle.gc_files.proofs.Whole.{whole_none}
+use Rattle.gc_field.proofs.BeginWords.{cons_not_nil}
 
 -- these lines, with a byte more at the start of the first one; a line of that byte alone if there is none
 abbrev pub onto : ℕ → List (List ℕ) → List (List ℕ)
@@ -19,11 +20,7 @@ abbrev pub pieces : List ℕ → List (List ℕ)
 pieces [] = []
 pieces (b ∷ bs) = if b == 10 then [] ∷ pieces bs else onto b (pieces bs)
 
--- an empty list isn't one with an element
-nil_cons : (b : ℕ) (bs : List ℕ) → [] ≡ b ∷ bs → ⊥
-nil_cons b bs is = cc
-
--- rows, lines without a line feed, stay rows with a byte before it that is no line feed
+-- rows (lines without a line feed) stay rows with a byte put before the first one, if that byte is no line feed
 onto_rows : (b : ℕ) (rows : List (List ℕ)) → (b == 10) ≡ false → AreRows rows → AreRows (onto b rows)
 onto_rows b [] isnt are = (rw (isnt) refl, tt)
 onto_rows b (row ∷ rows) isnt are = (rw (isnt) are.0, are.1)
@@ -42,7 +39,7 @@ tail_whole b bs is = elim (cases_Bool (has_feed (b ∷ bs))) [
   | inl some ↦
       let at : whole (b ∷ bs) ≡ b ∷ whole bs = rw (some) refl in
       (some, ap (drop 1) (sym at ∙ is))
-  | inr none ↦ absurd (nil_cons b bs (sym (whole_none (b ∷ bs) none) ∙ is))
+  | inr none ↦ absurd (cons_not_nil b bs (sym is ∙ whole_none (b ∷ bs) none))
 ]
 
 -- where bytes end in a line feed, so does each tail of them, unless it is empty
@@ -51,40 +48,40 @@ whole_rest [] ys is = is
 whole_rest (b ∷ xs) ys is = whole_rest xs ys (tail_whole b (xs ++ ys) is).1
 
 -- these rows are at least one
-record Some (rows : List (List ℕ)) : Type 0 where
+record IsOneOrMore (rows : List (List ℕ)) : Type 0 where
   row : List ℕ
   others : List (List ℕ)
   is : rows ≡ row ∷ others
 
--- lines with a byte before it are at least one
-onto_some : (b : ℕ) (rows : List (List ℕ)) → Some (onto b rows)
+-- lines with a byte put before the first one are at least one
+onto_some : (b : ℕ) (rows : List (List ℕ)) → IsOneOrMore (onto b rows)
 onto_some b [] = record { row = b ∷ []; others = []; is = refl }
 onto_some b (row ∷ rows) = record { row = b ∷ row; others = rows; is = refl }
 
 -- bytes with a line feed have a first piece
-some_piece : (bs : List ℕ) → has_feed bs ≡ true → Some (pieces bs)
+some_piece : (bs : List ℕ) → has_feed bs ≡ true → IsOneOrMore (pieces bs)
 some_piece [] some = let wrong : false ≡ true = some in cc
 some_piece (b ∷ bs) some = elim (cases_Bool (b == 10)) [
   | inl is ↦ rw (is) (record { row = []; others = pieces bs; is = refl })
   | inr isnt ↦ rw (isnt) (onto_some b (pieces bs))
 ]
 
--- a line feed that isn't the first byte comes after it
+-- where bytes have a line feed, and the first byte isn't one, there is one among the bytes after it
 feed_behind_first : (b : ℕ) (bs : List ℕ) → (b == 10) ≡ false → has_feed (b ∷ bs) ≡ true → has_feed bs ≡ true
 feed_behind_first b bs isnt some = subst (λ t. (if t then true else has_feed bs) ≡ true) isnt some
 
--- if there is a line, a byte before the lines is before their bytes
-onto_lines : (b : ℕ) (rows : List (List ℕ)) → Some rows → lines (onto b rows) ≡ b ∷ lines rows
+-- if there is a line, the bytes of the lines with a byte put before the first one are that byte and the bytes of the lines
+onto_lines : (b : ℕ) (rows : List (List ℕ)) → IsOneOrMore rows → lines (onto b rows) ≡ b ∷ lines rows
 onto_lines b [] some = let wrong : [] ≡ some.row ∷ some.others = some.is in cc
 onto_lines b (row ∷ rows) some = refl
 
--- if there is a line, a byte before it, and of others after it, is before it alone
-onto_two : (b : ℕ) (rows others : List (List ℕ)) → Some rows → onto b (rows ++ others) ≡ onto b rows ++ others
+-- if there is a line, to put a byte before these lines and others after them is to put it before these
+onto_two : (b : ℕ) (rows others : List (List ℕ)) → IsOneOrMore rows → onto b (rows ++ others) ≡ onto b rows ++ others
 onto_two b [] others some = let wrong : [] ≡ some.row ∷ some.others = some.is in cc
 onto_two b (row ∷ rows) others some = refl
 
--- if there is a line, a byte before it makes no further one
-onto_length : (b : ℕ) (rows : List (List ℕ)) → Some rows → length (onto b rows) ≡ length rows
+-- if there is a line, a byte put before the first one makes no further line
+onto_length : (b : ℕ) (rows : List (List ℕ)) → IsOneOrMore rows → length (onto b rows) ≡ length rows
 onto_length b [] some = let wrong : [] ≡ some.row ∷ some.others = some.is in cc
 onto_length b (row ∷ rows) some = refl
 
@@ -128,13 +125,13 @@ lines_two [] ys = refl
 lines_two (row ∷ xs) ys = ap (λ (l : List ℕ). line row ++ l) (lines_two xs ys) ∙ sym (append_assoc (line row) (lines xs) (lines ys))
 
 -- `rows`, which are left of the bytes `all`, are `taken` and perhaps more, and a front of all
-pub record Left (taken all rows : List ℕ) : Type 0 where
+pub record AreLeftOf (taken all rows : List ℕ) : Type 0 where
   pub more : List ℕ
   pub has : rows ≡ taken ++ more
   pub own : IsFront (taken ++ more) all
 
 -- of whole bytes, the first n lines, at least as many as the whole front `taken` has, are that front and perhaps more
-pub rows_left : (taken rest : List ℕ) (n : ℕ) → whole taken ≡ taken → whole rest ≡ rest → feeds taken ≤ n → Left taken (taken ++ rest) (lines (take n (pieces (taken ++ rest))))
+pub rows_left : (taken rest : List ℕ) (n : ℕ) → whole taken ≡ taken → whole rest ≡ rest → feeds taken ≤ n → AreLeftOf taken (taken ++ rest) (lines (take n (pieces (taken ++ rest))))
 rows_left taken rest n taken_whole rest_whole least =
     let m = n - feeds taken in
     let at : n ≡ length (pieces taken) + m = omega (arith, least, pieces_count taken taken_whole) in

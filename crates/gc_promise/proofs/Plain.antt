@@ -1,16 +1,17 @@
 -- Digits and moments appear unchanged in a field: the escapes of a field (`escaped`) change nothing in them.
 use Rattle.std.proofs.Common.{◌≡◌, ℕ, zero, suc, ◌+◌, ◌/◌, ◌%◌, ◌<◌, ◌≤◌, true, false, cond, List, [], ◌∷◌, ◌++◌, Option, Some, None, refl, ap, ◌∙◌, arith}
-use Rattle.std.specs.Prelude.{◌==◌, ◌&&◌, ◌||◌, codes, nat_lt, not}
+use Rattle.std.specs.Prelude.{◌==◌, ◌&&◌, codes, nat_lt, not}
 use Rattle.std.specs.Fmt.{decimal, digit_glyph, digits, digits_onto}
 use Rattle.std.specs.Str.Parse.{AllDigits}
 use Rattle.std.proofs.Math.Nat.{div-add-mod}
-use Rattle.std.proofs.lemmas.Bool.{and_from, cond_both, lt-ltb, ltb-true, ne_eqb}
+use Rattle.std.proofs.lemmas.Bool.{and_from, cond_both, lt-ltb, ne_eqb}
 use Rattle.std.proofs.lemmas.Grind.{flat_map-append}
 use Rattle.gc_values.specs.Digits.{AreDigits}
 use Rattle.gc_texts.specs.Logs.{escape, escaped, hex_digit}
-use Rattle.gc_texts.specs.Stamps.{date_of, date_text, days_after, is_leap, month_days, stamp_text, three_digits, time_text, two_digits}
+use Rattle.gc_texts.specs.Stamps.{date_of, date_text, stamp_text, three_digits, time_text, two_digits}
 use Rattle.gc_rows.specs.Rows.{moment_text}
 use Rattle.gc_rows.proofs.Members.{digits_are}
+use Rattle.gc_texts.proofs.LogStamps.{date_within}
 
 -- a digit is printed as it is
 digit_plain : (d : ℕ) → 48 ≤ d → d ≤ 57 → escape d ≡ d ∷ []
@@ -66,23 +67,6 @@ three_plain n few =
     digits_plain (three_digits n)
     ((omega arith, omega (arith, few, div-add-mod n 100)), ((omega arith, omega (arith, div-add-mod (n % 100) 10)), ((omega arith, omega arith), tt)))
 
--- a month has at most 31 days
-few_days : (year month : ℕ) → month_days year month ≤ 31
-few_days year month =
-    cond_both (month == 2) _ _ (λ n. n ≤ 31) (λ _. cond_both (is_leap year) 29 28 (λ n. n ≤ 31) (λ _. omega arith) (λ _. omega arith))
-    (λ _. cond_both ((month == 4) || (month == 6) || (month == 9) || (month == 11)) 30 31 (λ n. n ≤ 31) (λ _. omega arith) (λ _. omega arith))
-
--- n days after a date whose month is at most 12 and whose day is at most 31, the month and the day are within these bounds, too
-later_small : (n year month day : ℕ) → month ≤ 12 → day ≤ 31
-    → ((days_after n (record { year = year; month = month; day = day })).month ≤ 12) × ((days_after n (record { year = year; month = month; day = day })).day ≤ 31)
-unfolding days_after
-later_small zero year month day m d = (m, d)
-later_small (suc n) year month day m d =
-    cond_both (nat_lt day (month_days year month)) _ _ (λ e. ((days_after n e).month ≤ 12) × ((days_after n e).day ≤ 31))
-    (λ less. later_small n year month (day + 1) m (omega (arith, ltb-true day (month_days year month) less, few_days year month)))
-    (λ _. cond_both (nat_lt month 12) _ _ (λ e. ((days_after n e).month ≤ 12) × ((days_after n e).day ≤ 31))
-    (λ less. later_small n year (month + 1) 1 (omega (arith, ltb-true month 12 less)) (omega arith)) (λ _. later_small n (year + 1) 1 1 (omega arith) (omega arith)))
-
 -- a date appears unchanged in a field
 date_plain : (year month day : ℕ) → month ≤ 12 → day ≤ 31
     → escaped (decimal year ++ codes "-" ++ two_digits month ++ codes "-" ++ two_digits day) ≡ decimal year ++ codes "-" ++ two_digits month ++ codes "-" ++ two_digits day
@@ -110,10 +94,10 @@ stamp_plain : (utc : ℕ) → escaped (stamp_text utc) ≡ stamp_text utc
 stamp_plain utc =
     let days = utc / 86_400_000 in
     let date = date_text (date_of days) in
-    let small = later_small days 1970 1 1 (omega arith) (omega arith) in
+    let within = date_within days in
     plain_both (date ++ codes "T" ++ time_text (utc % 86_400_000)) (codes "Z")
     (plain_both (date ++ codes "T") (time_text (utc % 86_400_000))
-    (plain_both date (codes "T") (date_plain (date_of days).year (date_of days).month (date_of days).day small.0 small.1) refl) (time_plain (utc % 86_400_000) (omega arith))) refl
+    (plain_both date (codes "T") (date_plain (date_of days).year (date_of days).month (date_of days).day within.month within.day) refl) (time_plain (utc % 86_400_000) (omega arith))) refl
 
 -- a moment, or none, appears unchanged in a field
 pub moment_plain : (o : Option ℕ) → escaped (moment_text o) ≡ moment_text o

@@ -16,8 +16,9 @@ use Rattle.csv.specs.declared.parser.Terminator.TheVariants as term
 use Rattle.gc_texts.specs.Logs.{escaped}
 use Rattle.gc_rows.specs.Rows.{row_of}
 use Rattle.gc_rows.proofs.Rows.{read_back}
-use Rattle.gc_world.proofs.Options.{some_is}
+use Rattle.std.proofs.lemmas.Option.{same_Some}
 use Rattle.gc_promise.specs.Tables.{AreReadAs}
+use Rattle.gc_values.specs.Boolean.{number_of}
 
 -- Each read of a record leaves fewer reads.
 
@@ -63,17 +64,12 @@ step_between cfg st.InComment c =
     cond_both (c == line_feed) (st.StartRecord, act.Skip) (st.InComment, act.Skip) IsBetween (λ _ e. absurd (false≢true e)) (λ _ e. absurd (false≢true e))
 step_between cfg st.AfterCr c = cond_both (c == line_feed) (st.StartRecord, act.Skip) (start_record cfg c) IsBetween (λ _ e. absurd (false≢true e)) (λ _. record_between cfg c)
 
--- 1 for true, and else 0
-abbrev one_if : Bool → ℕ
-one_if true = 1
-one_if false = 0
-
 -- how many records can still be read, at most
 abbrev reads_left : State → List ℕ → ℕ
-reads_left s xs = length xs + one_if (ends_at_end s)
+reads_left s xs = length xs + number_of (ends_at_end s)
 
--- `one_if` is at most 1
-few_if : (b : Bool) → one_if b < 2
+-- the number of a truth value is at most 1
+few_if : (b : Bool) → number_of b < 2
 few_if true = omega arith
 few_if false = omega arith
 
@@ -82,8 +78,8 @@ takes_some : (cfg : Config) (s : State) (fields : List (List ℕ)) (field xs : L
 unfolding next_record
 takes_some cfg s fields field [] p = at_end (ends_at_end s) where
   -- the lemma above at the end of the input, by whether that ends a record (`b`)
-  at_end : (b : Bool) → cond b (Some (fields ++ (field ∷ []), st.StartRecord, [])) None ≡ Some p → reads_left p.1 p.2 < 0 + one_if b
-  at_end true e = subst (λ (x : Read). reads_left x.1 x.2 < 1) (some_is _ p e) (omega arith)
+  at_end : (b : Bool) → cond b (Some (fields ++ (field ∷ []), st.StartRecord, [])) None ≡ Some p → reads_left p.1 p.2 < 0 + number_of b
+  at_end true e = subst (λ (x : Read). reads_left x.1 x.2 < 1) (same_Some _ p e) (omega arith)
   at_end false e = cc
 takes_some cfg s fields field (c ∷ rest) p = at_byte (is_end (step cfg s c).1) refl (takes_some cfg (step cfg s c).0 _ _ rest p) where
   -- the read after a step that leads to this state, with this action
@@ -94,10 +90,10 @@ takes_some cfg s fields field (c ∷ rest) p = at_byte (is_end (step cfg s c).1)
   at_byte : (b : Bool) → is_end (step cfg s c).1 ≡ b
       → (next_record cfg (step cfg s c).0 (fields_after (step cfg s c).1 fields field) (field_after (step cfg s c).1 c field) rest ≡ Some p → reads_left p.1 p.2 < reads_left (step cfg s c).0 rest)
       → cond b (Some (fields_after (step cfg s c).1 fields field, (step cfg s c).0, rest)) (goes_on (step cfg s c)) ≡ Some p
-      → reads_left p.1 p.2 < suc (length rest) + one_if (ends_at_end s)
+      → reads_left p.1 p.2 < suc (length rest) + number_of (ends_at_end s)
   at_byte true is more e =
-      subst (λ (x : Read). reads_left x.1 x.2 < suc (length rest) + one_if (ends_at_end s)) (some_is _ p e)
-      (let none = ap one_if (step_between cfg s c is) in omega (arith, none))
+      subst (λ (x : Read). reads_left x.1 x.2 < suc (length rest) + number_of (ends_at_end s)) (same_Some _ p e)
+      (let none = ap number_of (step_between cfg s c is) in omega (arith, none))
   at_byte false is more e = let less = more e in let few = few_if (ends_at_end (step cfg s c).0) in omega (arith, less, few)
 
 -- reading at most m records, or at most n, gives the same, where both are above `reads_left`

@@ -14,13 +14,9 @@ use Rattle.gc_station.specs.Runs.{Ran, state_after}
 use Rattle.gc_station.specs.Scopes.{Scope}
 use Rattle.gc_station.specs.declared.plan.Plan.{Plan}
 use Rattle.gc_station.specs.declared.tally.Tally.{Tally}
+use Rattle.std.proofs.lemmas.Grind.{flat_map-append}
 
 -- Texts.
-
--- the texts of two lists of records, one after the other, are those of the first and then those of the second
-pub texts_two : (text : Record → List ℕ) (xs ys : List Record) → texts_of text (xs ++ ys) ≡ texts_of text xs ++ texts_of text ys
-texts_two text [] ys = refl
-texts_two text (r ∷ xs) ys = ap (λ (l : List ℕ). text r ++ l) (texts_two text xs ys) ∙ sym (append_assoc (text r) (texts_of text xs) (texts_of text ys))
 
 -- if the text of each record ends in a line feed, so do the texts of all of them, unless they are none
 pub texts_whole : (text : Record → List ℕ) → ((r : Record) → whole (text r) ≡ text r) → (rs : List Record) → whole (texts_of text rs) ≡ texts_of text rs
@@ -29,13 +25,13 @@ texts_whole text each (r ∷ rs) = whole_more (text r) (texts_of text rs) (each 
 
 module _ (plan : Plan) (commands : List Task) (scope : Scope) (text : Record → List ℕ) where
   -- at a turn, all that the acts `before` and some more after them settled was kept
-  pub record At (told : Option (List Act)) (taken : Option (List ℕ)) (before : List Act) (turn : Snapshot) : Type 0 where
+  pub record IsKeptAt (told : Option (List Act)) (taken : Option (List ℕ)) (before : List Act) (turn : Snapshot) : Type 0 where
     pub front : List Act
     pub kept : IsKept plan commands scope text told taken (before ++ front) turn
 
-  -- where turns are `AreKept`, `At` holds of each of them
+  -- where turns are `AreKept`, `IsKeptAt` holds of each of them
   pub kept_at : (told : Option (List Act)) (taken : Option (List ℕ)) (before acts : List Act) (earlier later : List Snapshot) (turn : Snapshot)
-      → AreKept plan commands scope text told taken before acts (earlier ++ turn ∷ later) → At told taken before turn
+      → AreKept plan commands scope text told taken before acts (earlier ++ turn ∷ later) → IsKeptAt told taken before turn
   kept_at told taken before [] [] later turn are = absurd are
   kept_at told taken before [] (t ∷ earlier) later turn are = absurd are
   kept_at told taken before (act ∷ acts) [] later turn are =
@@ -70,7 +66,7 @@ module _ (plan : Plan) (commands : List Task) (scope : Scope) (text : Record →
       let front = texts_of text (before ++ w.earlier) in
       record {
         rest = drop w.part (text w.next) ++ texts_of text w.later;
-        split = ap (texts_of text) (w.order ∙ sym (append_assoc before w.earlier (w.next ∷ w.later))) ∙ texts_two text (before ++ w.earlier) (w.next ∷ w.later)
+        split = ap (texts_of text) (w.order ∙ sym (append_assoc before w.earlier (w.next ∷ w.later))) ∙ flat_map-append text (before ++ w.earlier) (w.next ∷ w.later)
             ∙ ap (λ (l : List ℕ). front ++ (l ++ texts_of text w.later)) (sym (take-append-drop w.part (text w.next)))
             ∙ ap (λ (l : List ℕ). front ++ l) (append_assoc (take w.part (text w.next)) (drop w.part (text w.next)) (texts_of text w.later))
             ∙ sym (append_assoc front (take w.part (text w.next)) (drop w.part (text w.next) ++ texts_of text w.later))
@@ -78,11 +74,11 @@ module _ (plan : Plan) (commands : List Task) (scope : Scope) (text : Record →
       }
 
   -- a run with these acts, from none on, whose book took these bytes, and which ended so
-  abbrev Took : List Act → List ℕ → Result Tally RunFault → Type 0
-  Took told bytes end = Ran plan commands scope text (Some []) (Some told) (Some []) (Some bytes) end
+  abbrev RanSo : List Act → List ℕ → Result Tally RunFault → Type 0
+  RanSo told bytes end = Ran plan commands scope text (Some []) (Some told) (Some []) (Some bytes) end
 
   -- what a run took, whatever its end, is `Fronted`
-  pub fronted : (told : List Act) (bytes : List ℕ) (end : Result Tally RunFault) → Took told bytes end → Fronted told bytes
+  pub fronted : (told : List Act) (bytes : List ℕ) (end : Result Tally RunFault) → RanSo told bytes end → Fronted told bytes
   fronted told bytes (Ok tally) ran = record { acts = ran.1.acts; others = []; all = ran.1.tells ∙ sym (append-nil ran.1.acts); own = same_front _ _ ran.1.took }
   fronted told bytes (Err Output) (inl broke) = record {
     acts = broke.acts ++ broke.last ∷ [];

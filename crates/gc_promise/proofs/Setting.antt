@@ -12,7 +12,7 @@ use Rattle.gc_station.specs.Parts.{went_out}
 use Rattle.gc_station.specs.Records.{Record}
 use Rattle.gc_station.specs.Requests.{command_sent}
 use Rattle.gc_station.specs.Tasked.{IsOfItsTask}
-use Rattle.gc_world.proofs.Options.{some_is}
+use Rattle.std.proofs.lemmas.Option.{same_Some}
 use Rattle.gc_promise.specs.Fields.{IsSetTo}
 
 -- what is asked at a moment, if the clock is set to it
@@ -27,7 +27,7 @@ module _ (at : List ℕ → List ℕ) (commands : List Task) (r : Record) (of : 
     by_moment : (o : Option ℕ) → r.sent ≡ o → is_some r.sent ≡ true → IsSetTo at r
     by_moment None is has = let none : false ≡ true = sym (ap is_some is) ∙ has in cc
     by_moment (Some utc) is has =
-        let own : of.task ≡ task = some_is of.task task (sym of.listed ∙ listed) in
+        let own : of.task ≡ task = same_Some of.task task (sym of.listed ∙ listed) in
         record {
           utc = utc;
           sent = stands ∙ ap moment_text is;

@@ -30,7 +30,7 @@ has_behind (Append bytes ∷ xs) ys some = has_behind xs ys some
 has_behind (Cut size ∷ xs) ys some = has_behind xs ys some
 has_behind (Sync ∷ xs) ys some = refl
 
--- no bytes are a front of any
+-- the empty list is a front of any bytes
 front_nil : (all : List ℕ) → IsFront [] all
 front_nil all = record { rest = all; split = refl }
 
@@ -48,7 +48,8 @@ synced_more (Append bytes ∷ xs) ys = elim (cases_Bool (has_sync xs)) [
 synced_more (Cut size ∷ xs) ys = synced_more xs ys
 synced_more (Sync ∷ xs) ys = synced_more xs ys
 
--- if there is a sync among the later steps `ys`, all that the earlier steps `xs` appended is synced
+-- if there is a sync among the later steps `ys`, what is synced by the steps `xs` and `ys` is all that `xs` appended, and then what
+-- `ys` sync
 synced_behind : (xs ys : List Step) → has_sync ys ≡ true → synced (xs ++ ys) ≡ appended xs ++ synced ys
 synced_behind [] ys some = refl
 synced_behind (Append bytes ∷ xs) ys some =
@@ -71,7 +72,7 @@ cuts_first (Cut size ∷ xs) ys none = let wrong : false ≡ true = none in cc
 abbrev pub run_by : List Step → List Step → List ℕ → List ℕ → Option (List ℕ) → Run
 run_by steps calls taken all left = record { rows = pieces all; steps = steps ++ calls; kept = feeds taken; left = left }
 
-module _ (head held : List ℕ) (steps was since : List Step) (rest : List ℕ) (opened : opening.Ran held steps (start_of head held))
+module _ (head held : List ℕ) (steps was since : List Step) (rest : List ℕ) (opened : opening.MendedAndPut held steps (start_of head held))
     (kept : synced was ≡ appended was) (is_whole : whole (appended was) ≡ appended was) where
   -- if a sync is among the calls `was`, what was at the start and all that these calls appended is synced, whatever calls
   -- follow

@@ -22,7 +22,7 @@ use Rattle.gc_texts.specs.declared.wish.Wish.{Wish}
 use Rattle.gc_texts.specs.declared.quality.Quality.{Quality}
 use Rattle.gc_rows.specs.Quantities.{quantity_names}
 use Rattle.gc_rows.specs.Records.{head_text, last_names, names, record_text}
-use Rattle.gc_rows.specs.Rows.{code_of, com_of, row_fields, row_of}
+use Rattle.gc_rows.specs.Rows.{code_of, com_of, row_of}
 use Rattle.gc_rows.specs.declared.record.Form.{Form}
 use Rattle.gc_rows.specs.declared.when.When.{When}
 use Rattle.gc_rows.proofs.Columns.{reply_columns}
@@ -38,8 +38,9 @@ use Rattle.gc_station.specs.declared.tally.Tally.{Tally}
 use Rattle.gc_station.proofs.Answers.{answers_true}
 use Rattle.gc_station.proofs.EachRun.{of_tasks}
 use Rattle.gc_station.proofs.Lists.{all_at}
+use Rattle.gc_lines.proofs.Lists.{all_front}
 use Rattle.gc_station.proofs.Nearly.{as_listed}
-use Rattle.gc_measuring.specs.Measuring.{Course, front_text, text_in, when_of}
+use Rattle.gc_measuring.specs.Measuring.{Survey, front_text, text_in, when_of}
 use Rattle.gc_measuring.specs.declared.stop.Stop.{Stop}
 use Rattle.gc_field.specs.World.{Ends}
 use Rattle.gc_field.specs.Begin.{UnderWay}
@@ -48,17 +49,17 @@ use Rattle.gc_field.specs.Instrument.{IsAnInstrument, AnyState}
 use Rattle.gc_field.specs.Runs.{IsInField, IsOwnAnswer}
 use Rattle.gc_field.specs.Shown.{Stretch, stretches}
 use Rattle.gc_field.proofs.Joining.{run_faithful}
-use Rattle.gc_world.proofs.Options.{some_is}
+use Rattle.std.proofs.lemmas.Option.{same_Some}
 use Rattle.gc_world.proofs.Places.{get_seen}
-use Rattle.gc_promise.specs.Fields.{IsOwn, IsQuantity, IsReplied, HasReply, quality_in, quantity_in, quantity_source, under}
-use Rattle.gc_promise.specs.Tables.{AreReadAs, IsOwnTable, TablesAreTheirOwn, acts_measured, head_rows, header, records_in, scope_of, table}
+use Rattle.gc_promise.specs.Fields.{IsOwn, IsQuantity, IsOutcomeOfReply, HasReply, quality_in, quantity_in, quantity_source, under}
+use Rattle.gc_promise.specs.Tables.{AreReadAs, IsOwnTable, TablesAreTheirOwn, acts_measured, head_rows, header, records_in, scope_of, table_form}
 use Rattle.gc_promise.proofs.Judged.{IsJudged, judged, no_value_if_none, value_if_some}
-use Rattle.gc_promise.proofs.Names.{answer_to, none_answered, none_else, quantity_stands, under_attempt, under_cycle, under_outcome, under_place, under_procedure, under_quality, under_rc, under_rc_com, under_sent, under_target, under_values}
+use Rattle.gc_promise.proofs.Names.{answer_to, none_answered, none_else, quantity_stands, under_attempt, under_cycle, under_outcome, under_place, under_procedure, under_quality, under_rc, under_rc_com, under_sent, under_target, under_values, row_at}
 use Rattle.gc_promise.proofs.Owning.{a_reply, fields_of, in_table, same_line, two_fields}
 use Rattle.gc_promise.proofs.Plain.{number_plain}
 use Rattle.gc_promise.proofs.Reading.{both_read, each_reads, none_read, row_reads}
 use Rattle.gc_promise.proofs.Setting.{never_sent, set_to}
-use Rattle.gc_promise.proofs.Taken.{Took, behind_took}
+use Rattle.gc_promise.proofs.Taken.{Took, run_took}
 
 -- Words.
 
@@ -67,13 +68,13 @@ abbrev pub first_of : List ℕ → ℕ
 first_of word = get_or word 0 0
 
 -- a word that begins with none of the letters a, u and e is no outcome of a reply
-pub no_reply : (word : List ℕ) → (first_of word ≡ 97 → ⊥) → (first_of word ≡ 117 → ⊥) → (first_of word ≡ 101 → ⊥) → IsReplied word → ⊥
+pub no_reply : (word : List ℕ) → (first_of word ≡ 97 → ⊥) → (first_of word ≡ 117 → ⊥) → (first_of word ≡ 101 → ⊥) → IsOutcomeOfReply word → ⊥
 no_reply word a u e (inl is) = a (ap first_of is)
 no_reply word a u e (inr (inl is)) = u (ap first_of is)
 no_reply word a u e (inr (inr is)) = e (ap first_of is)
 
 -- if the outcome is that of a reply, a line answered the command
-pub line_in : (end : End) → IsReplied (word_of end) → (line : List ℕ) × (answer_of end ≡ Some line)
+pub line_in : (end : End) → IsOutcomeOfReply (word_of end) → (line : List ℕ) × (answer_of end ≡ Some line)
 line_in (Answered quality answer line) is = (line, refl)
 line_in (Unreadable line fault) is = (line, refl)
 line_in (Elsewhere line) is = (line, refl)
@@ -117,13 +118,9 @@ without_quality Missed other = refl
 
 module _ (when : When) (text : List ℕ) (command : Wish) (name : List ℕ) (k : ℕ) (is : slice_get quantity_names k ≡ Some name) (fields : ReplyFields) (told : Reading)
     (is_told : IsAskedReading command.call fields told) where
-  -- the field of the row under this name
-  abbrev at_name : End → List ℕ
-  at_name end = under name (header true) (map escaped (row_fields true when text command end))
-
   -- if the command is answered by this line, the row has the line's quantity of this name
   stands : (quality : Quality) (values : Option Answer) (line : List ℕ) → values ≡ answer_in told
-      → at_name (Answered quality values line) ≡ escaped (quantity_in command.call told name)
+      → row_at when text command (Answered quality values line) true name ≡ escaped (quantity_in command.call told name)
   stands quality (Some answer) line has =
       let value : told ≡ reading.Value answer = value_if_some told answer (sym has) in
       quantity_stands when text command name k is quality answer line (answer_to command.call fields answer (subst (IsAskedReading command.call fields) value is_told))
@@ -132,22 +129,17 @@ module _ (when : When) (text : List ℕ) (command : Wish) (name : List ℕ) (k :
 
 -- Lists.
 
--- what holds of all elements of a list holds of those of its front
-pub all_front : {X : Type 0} (P : X → Type 0) (xs ys : List X) → AllByRecursion P (xs ++ ys) → AllByRecursion P xs
-all_front P [] ys all = tt
-all_front P (x ∷ xs) ys all = (all.0, all_front P xs ys all.1)
-
 -- what holds of all records holds of the one at a place among those that were written
 pub all_written : {X : Type 0} (P : X → Type 0) (xs written others : List X) → xs ≡ written ++ others → AllByRecursion P xs → (n : ℕ) (x : X) → slice_get written n ≡ Some x → P x
 all_written P xs written others order all n x is = all_at P written n x (all_front P written others (subst (AllByRecursion P) order all)) is
 
 -- A row.
 
-module _ {State : Type 0} (ends : Ends State) (kept : State → Option KeptReply) (course : Course) (reads : Asked → List ℕ → Reading) (are : AreReadings reads)
+module _ {State : Type 0} (ends : Ends State) (kept : State → Option KeptReply) (survey : Survey) (reads : Asked → List ℕ → Reading) (are : AreReadings reads)
     (acts : List Act) (ps : List Part) (ss : List (Stretch State)) (columns : Bool) where
   -- the fields of a record's row
   abbrev fields : Record → List (List ℕ)
-  fields r = fields_of course.layout columns course.names r
+  fields r = fields_of survey.layout columns survey.names r
 
   -- the field of a record's row under a name, as a reader gives it
   abbrev at : Record → List ℕ → List ℕ
@@ -156,42 +148,42 @@ module _ {State : Type 0} (ends : Ends State) (kept : State → Option KeptReply
   module _ (r : Record) where
     -- when the record's command was asked, and where it stands in its run
     abbrev when : When
-    when = when_of course.layout.run r
+    when = when_of survey.layout.run r
 
     -- the name of the record's target
     abbrev text : List ℕ
-    text = name_text r.command.target course.names
+    text = name_text r.command.target survey.names
 
     -- if the command is answered by a line, a row with columns of quantities (`b`) has the line's quantity under each name of
     -- one
     quantity_at : (b : Bool) → b ≡ true → (fields : ReplyFields) (told : Reading) → IsAskedReading r.command.call fields told → (quality : Quality) (values : Option Answer) (line : List ℕ)
         → r.end ≡ Answered quality values line → values ≡ answer_in told → (name : List ℕ) → IsQuantity name
-        → under name (header b) (map escaped (row_fields b when text r.command r.end)) ≡ escaped (quantity_in r.command.call told name)
+        → row_at when text r.command r.end b name ≡ escaped (quantity_in r.command.call told name)
     quantity_at true shows fields told is_told quality values line is has name quantity =
-        ap (λ (end : End). under name (header true) (map escaped (row_fields true when text r.command end))) is
+        ap (λ (end : End). row_at when text r.command end true name) is
         ∙ stands when text r.command name quantity.0 quantity.1 fields told is_told quality values line has
     quantity_at false shows fields told is_told quality values line is has name quantity = absurd (false≢true shows)
 
     -- if the command isn't answered, a row with columns of quantities (`b`) has nothing under each name of one
     no_quantity_at : (b : Bool) → b ≡ true → (word_of r.end ≡ codes "answered" → ⊥) → (name : List ℕ) → IsQuantity name
-        → under name (header b) (map escaped (row_fields b when text r.command r.end)) ≡ []
+        → row_at when text r.command r.end b name ≡ []
     no_quantity_at true shows other name quantity = none_else when text r.command name quantity.0 quantity.1 r.end (λ quality answer line e. other (ap word_of e))
     no_quantity_at false shows other name quantity = absurd (false≢true shows)
 
     -- if a line with the fields of a reply answered the command, the row says what the line says
-    says : (line : List ℕ) → answer_of r.end ≡ Some line → (x : ReplyFields) × IsReply line x → IsAsListed reads course.tasks r
-        → HasReply columns (at r) (accepted_at course.tasks r.place) r.command.call line
+    says : (line : List ℕ) → answer_of r.end ≡ Some line → (x : ReplyFields) × IsReply line x → IsAsListed reads survey.tasks r
+        → HasReply columns (at r) (accepted_at survey.tasks r.place) r.command.call line
     says line answered reply listed =
         let same = same_line r.end line answered in
         let said = reply_columns line reply.0 reply.1 in
-        let accepted = accepted_at course.tasks r.place in
+        let accepted = accepted_at survey.tasks r.place in
         let reading = each_asked_reply r.command.call reply.0 in
         let told = each_asked_reply r.command.call (quantity_source (quality_in accepted reading.0) reply.0) in
         let word = under_outcome when text r.command r.end columns in
         let by = judged reads are accepted r.command.call line reply.0 reply.1 reading.0 told.0 reading.1 told.1 in
         let judges : (quality : Quality) (values : Option Answer) (l : List ℕ) → r.end ≡ Answered quality values l
         → IsJudged reads are accepted r.command.call line reply.0 reply.1 reading.0 told.0 reading.1 told.1 quality values =
-        λ quality values l is. by quality values (subst (IsOfQuality reads accepted r.command.call quality values) (some_is l line (ap answer_of (sym is) ∙ answered))
+        λ quality values l is. by quality values (subst (IsOfQuality reads accepted r.command.call quality values) (same_Some l line (ap answer_of (sym is) ∙ answered))
         (listed quality values l is)) in
         record {
           reply = reply.0;
@@ -213,9 +205,9 @@ module _ {State : Type 0} (ends : Ends State) (kept : State → Option KeptReply
         }
 
     -- the row of a record is its own, by what is known of the record
-    row_own : IsOwnAnswer ends AnyState kept course.tasks ps ss r → AnswerIsJustified course.plan course.tasks (scope_of course reads) acts r → IsAsListed reads course.tasks r
-        → IsOfItsTask course.tasks r
-        → IsOwn ends AnyState kept columns (at r) course.tasks ps ss r
+    row_own : IsOwnAnswer ends AnyState kept survey.tasks ps ss r → AnswerIsJustified survey.plan survey.tasks (scope_of survey reads) acts r → IsAsListed reads survey.tasks r
+        → IsOfItsTask survey.tasks r
+        → IsOwn ends AnyState kept columns (at r) survey.tasks ps ss r
     row_own own came listed of =
         let word = under_outcome when text r.command r.end columns in
         record {
@@ -228,12 +220,12 @@ module _ {State : Type 0} (ends : Ends State) (kept : State → Option KeptReply
             procedure = under_procedure when text r.command r.end columns;
             outcome = word;
           };
-          clock = set_to (at r) course.tasks r of (under_sent when text r.command r.end columns);
-          unsent = never_sent (at r) course.tasks r of (under_sent when text r.command r.end columns);
+          clock = set_to (at r) survey.tasks r of (under_sent when text r.command r.end columns);
+          unsent = never_sent (at r) survey.tasks r of (under_sent when text r.command r.end columns);
           replied = λ is.
-              let has = line_in r.end (subst IsReplied word is) in
-              let true_one = came has.0 has.1 in
-              (has.0, says has.0 has.1 (a_reply has.0 _ true_one.id) listed, own has.0 has.1);
+              let has = line_in r.end (subst IsOutcomeOfReply word is) in
+              let justified = came has.0 has.1 in
+              (has.0, says has.0 has.1 (a_reply has.0 _ justified.id) listed, own has.0 has.1);
           without = λ shows other name quantity. no_quantity_at columns shows (λ answers. other (word ∙ answers)) name quantity;
           unqualified = λ other. under_quality when text r.command r.end columns ∙ without_quality r.end (λ answers. other (word ∙ answers));
         }
@@ -241,62 +233,62 @@ module _ {State : Type 0} (ends : Ends State) (kept : State → Option KeptReply
 -- A table.
 
 -- the header reads as the names of the columns
-head_reads : (headed columns : Bool) (form : Form) → form ≡ table columns → AreReadAs (if headed then [] else head_text form) (if headed then [] else header columns ∷ [])
+head_reads : (headed columns : Bool) (form : Form) → form ≡ table_form columns → AreReadAs (if headed then [] else head_text form) (if headed then [] else header columns ∷ [])
 head_reads true columns form is = none_read
 head_reads false columns form is = subst (λ (f : Form). AreReadAs (head_text f) (header columns ∷ [])) (sym is) (names_read columns) where
   -- the header of a table with quantities (`true`) or without (`false`) reads as the names of its columns
-  names_read : (b : Bool) → AreReadAs (head_text (table b)) (header b ∷ [])
+  names_read : (b : Bool) → AreReadAs (head_text (table_form b)) (header b ∷ [])
   names_read false = row_reads (names ++ last_names) (omega arith)
   names_read true = row_reads (names ++ (quantity_names ++ last_names)) (omega arith)
 
-module _ {State : Type 0} (ends : Ends State) (kept : State → Option KeptReply) (is : IsAnInstrument ends AnyState kept) (course : Course) (columns : Bool)
-    (form : course.layout.form ≡ table columns) (reads : Asked → List ℕ → Reading) (are : AreReadings reads) (acts : List Act) (u : UnderWay State) (rs : List (field.Run State))
-    (there : IsInField ends AnyState kept course.plan course.tasks (scope_of course reads) acts u rs) where
+module _ {State : Type 0} (ends : Ends State) (kept : State → Option KeptReply) (is : IsAnInstrument ends AnyState kept) (survey : Survey) (columns : Bool)
+    (form : survey.layout.form ≡ table_form columns) (reads : Asked → List ℕ → Reading) (are : AreReadings reads) (acts : List Act) (u : UnderWay State) (rs : List (field.Run State))
+    (there : IsInField ends AnyState kept survey.plan survey.tasks (scope_of survey reads) acts u rs) where
   -- the parts of the run
   abbrev parts : List Part
-  parts = parts_of course.plan course.tasks (opening course.plan (scope_of course reads)) acts
+  parts = parts_of survey.plan survey.tasks (opening survey.plan (scope_of survey reads)) acts
 
   -- the stretches of the run
-  abbrev over : List (Stretch State)
-  over = stretches ends u rs
+  abbrev all_stretches : List (Stretch State)
+  all_stretches = stretches ends u rs
 
   -- the row of a record, as a reader gives it
   abbrev row : Record → List (List ℕ)
-  row r = map escaped (fields_of course.layout columns course.names r)
+  row r = map escaped (fields_of survey.layout columns survey.names r)
 
   -- the text of a record is read as its row
-  one_reads : (r : Record) → AreReadAs (text_in course.layout course.names r) (row r ∷ [])
+  one_reads : (r : Record) → AreReadAs (text_in survey.layout survey.names r) (row r ∷ [])
   one_reads r =
-      let when = when_of course.layout.run r in
-      let text = name_text r.command.target course.names in
-      let is_row : text_in course.layout course.names r ≡ row_of (fields_of course.layout columns course.names r) =
+      let when = when_of survey.layout.run r in
+      let text = name_text r.command.target survey.names in
+      let is_row : text_in survey.layout survey.names r ≡ row_of (fields_of survey.layout columns survey.names r) =
       ap (λ (f : Form). record_text f when text r.command r.end) form ∙ in_table columns when text r.command r.end in
-      subst (λ (t : List ℕ). AreReadAs t (row r ∷ [])) (sym is_row) (row_reads (fields_of course.layout columns course.names r) (two_fields columns when text r.command r.end))
+      subst (λ (t : List ℕ). AreReadAs t (row r ∷ [])) (sym is_row) (row_reads (fields_of survey.layout columns survey.names r) (two_fields columns when text r.command r.end))
 
   -- the row of each record that was written whole is its own
-  each_own : (written others : List Record) → records_in course reads acts ≡ written ++ others → (n : ℕ) (r : Record) → slice_get written n ≡ Some r
-      → IsOwn ends AnyState kept columns (λ name. under name (header columns) (row r)) course.tasks parts over r
+  each_own : (written others : List Record) → records_in survey reads acts ≡ written ++ others → (n : ℕ) (r : Record) → slice_get written n ≡ Some r
+      → IsOwn ends AnyState kept columns (λ name. under name (header columns) (row r)) survey.tasks parts all_stretches r
   each_own written others order n r at =
-      let faithful = run_faithful ends AnyState kept is course.plan course.tasks (scope_of course reads) acts u rs there in
-      row_own ends kept course reads are acts parts over columns r
-      (all_written (IsOwnAnswer ends AnyState kept course.tasks parts over) (records_in course reads acts) written others order faithful.own n r at)
-      (all_written (AnswerIsJustified course.plan course.tasks (scope_of course reads) acts) (records_in course reads acts) written others order
-      (answers_true course.plan course.tasks (scope_of course reads) acts there.runs) n r at)
-      (all_written (λ (x : Record). IsAsListed reads course.tasks x) (records_in course reads acts) written others order
-      (as_listed course.plan course.tasks (scope_of course reads) acts) n r at)
-      (all_written (IsOfItsTask course.tasks) (records_in course reads acts) written others order (of_tasks course.plan course.tasks (scope_of course reads) acts) n r at)
+      let faithful = run_faithful ends AnyState kept is survey.plan survey.tasks (scope_of survey reads) acts u rs there in
+      row_own ends kept survey reads are acts parts all_stretches columns r
+      (all_written (IsOwnAnswer ends AnyState kept survey.tasks parts all_stretches) (records_in survey reads acts) written others order faithful.own n r at)
+      (all_written (AnswerIsJustified survey.plan survey.tasks (scope_of survey reads) acts) (records_in survey reads acts) written others order
+      (answers_true survey.plan survey.tasks (scope_of survey reads) acts there.runs) n r at)
+      (all_written (λ (x : Record). IsAsListed reads survey.tasks x) (records_in survey reads acts) written others order
+      (as_listed survey.plan survey.tasks (scope_of survey reads) acts) n r at)
+      (all_written (IsOfItsTask survey.tasks) (records_in survey reads acts) written others order (of_tasks survey.plan survey.tasks (scope_of survey reads) acts) n r at)
 
   -- what a sink took of the run, after what it had, is the run's own table
   tabled : (result : Result Tally Stop) (had : List ℕ) (has : Option (List ℕ))
-      → Took (text_in course.layout course.names) (records_in course reads acts) result (had ++ front_text course.layout) has
-      → IsOwnTable ends AnyState kept course columns reads acts parts over result had has
+      → Took (text_in survey.layout survey.names) (records_in survey reads acts) result (had ++ front_text survey.layout) has
+      → IsOwnTable ends AnyState kept survey columns reads acts parts all_stretches result had has
   tabled result had has took =
-      let front = front_text course.layout in
+      let front = front_text survey.layout in
       let written = took.are.written in
-      let texts = texts_of (text_in course.layout course.names) written in
-      let whole : AreReadAs (front ++ texts) (head_rows course.layout columns ++ map row written) =
-      both_read front texts (head_rows course.layout columns) (map row written) (head_reads course.layout.headed columns course.layout.form form)
-      (each_reads (text_in course.layout course.names) row one_reads written) in
+      let texts = texts_of (text_in survey.layout survey.names) written in
+      let whole : AreReadAs (front ++ texts) (head_rows survey.layout columns ++ map row written) =
+      both_read front texts (head_rows survey.layout columns) (map row written) (head_reads survey.layout.headed columns survey.layout.form form)
+      (each_reads (text_in survey.layout survey.names) row one_reads written) in
       record {
         bytes = front ++ texts;
         torn = took.torn;
@@ -304,19 +296,19 @@ module _ {State : Type 0} (ends : Ends State) (kept : State → Option KeptReply
         are = took.are;
         rows = map row written;
         reads_as = whole;
-        behind = λ held earlier first. both_read held (front ++ texts) earlier (head_rows course.layout columns ++ map row written) first whole;
+        behind = λ held earlier first. both_read held (front ++ texts) earlier (head_rows survey.layout columns ++ map row written) first whole;
         as_many = length-map written row;
         each = λ n fields e.
             let x = get_seen row written n fields e in (
               x.0,
               x.1,
-              subst (λ (f : List (List ℕ)). IsOwn ends AnyState kept columns (λ name. under name (header columns) f) course.tasks parts over x.0) x.2
+              subst (λ (f : List (List ℕ)). IsOwn ends AnyState kept columns (λ name. under name (header columns) f) survey.tasks parts all_stretches x.0) x.2
                   (each_own written took.are.unwritten took.are.order n x.0 x.1),
             );
       }
 
 -- what a sink took of a run is its own table
 pub tables_own : {State : Type 0} → TablesAreTheirOwn State
-tables_own ends kept is course columns form old new result behind told had none some began reads are u rs there =
-    tabled ends kept is course columns form reads are (acts_measured result told) u rs there result had new.taken
-    (behind_took course old new result behind told had none some began reads are)
+tables_own ends kept is survey columns form old new result behind recorded had none some began reads are u rs there =
+    tabled ends kept is survey columns form reads are (acts_measured result recorded) u rs there result had new.taken
+    (run_took survey old new result behind recorded had none some began reads are)

@@ -13,24 +13,20 @@ use Rattle.gc_station.specs.Runs.{Ran, state_after}
 use Rattle.gc_station.specs.Scopes.{Scope, AreReadings}
 use Rattle.gc_station.specs.declared.plan.Plan.{Plan}
 use Rattle.gc_station.specs.declared.tally.Tally.{Tally}
-use Rattle.gc_measuring.specs.Measuring.{Course, PortsSeen, RunsBehind, front_text, text_in}
+use Rattle.gc_measuring.specs.Measuring.{Survey, PortsSeen, RunsAfterFront, front_text, text_in}
 use Rattle.gc_measuring.specs.Stops.{end_of_run}
 use Rattle.gc_measuring.specs.declared.stop.Stop.{Stop}
 use Rattle.gc_measuring.specs.declared.stop.Stop.TheVariants.{Run}
 use Rattle.gc_promise.specs.Tables.{AreWritten, acts_measured, records_in, scope_of}
+use Rattle.std.proofs.Math.Seq.{take-append_seam}
 
 -- The acts.
-
--- the first elements of a joined list, as many as the first list has, are the first list
-take_front : (xs ys : List Act) → take (length xs) (xs ++ ys) ≡ xs
-take_front [] ys = refl
-take_front (x ∷ xs) ys = ap (λ (l : List Act). x ∷ l) (take_front xs ys)
 
 -- all acts but the last one of `xs` and then `x` are `xs`
 but_last : (xs : List Act) (x : Act) → take (length (xs ++ x ∷ []) - 1) (xs ++ x ∷ []) ≡ xs
 but_last xs x =
     let many = length-append xs (x ∷ []) in
-    ap (λ (n : ℕ). take n (xs ++ x ∷ [])) (let one : length (xs ++ x ∷ []) - 1 ≡ length xs = omega (arith, many) in one) ∙ take_front xs (x ∷ [])
+    ap (λ (n : ℕ). take n (xs ++ x ∷ [])) (let one : length (xs ++ x ∷ []) - 1 ≡ length xs = omega (arith, many) in one) ∙ take-append_seam xs (x ∷ [])
 
 -- The bytes.
 
@@ -90,17 +86,17 @@ module _ (text : Record → List ℕ) where
     ran_took (Err fault) r = took_of r.2.acts told (Err (Run fault)) r.2.tells r.2.took
 
 -- what a sink took of a run is what was written of its records, after what the sink had and what comes before the records
-pub behind_took : (course : Course) (old new : PortsSeen) (result : Result Tally Stop) → RunsBehind course old new result →
+pub run_took : (survey : Survey) (old new : PortsSeen) (result : Result Tally Stop) → RunsAfterFront survey old new result →
     (told : List Act) (had : List ℕ) → old.acts ≡ Some [] → new.acts ≡ Some told → old.taken ≡ Some had → (reads : Asked → List ℕ → Reading) → AreReadings reads →
-    Took (text_in course.layout course.names) (records_in course reads (acts_measured result told)) result (had ++ front_text course.layout) new.taken
-behind_took course old new result b told had none some began reads are =
-    let text = text_in course.layout course.names in
-    let scope = scope_of course reads in
-    let start = had ++ front_text course.layout in
-    let between : b.between ≡ Some start = appended text had (front_text course.layout) b.between (subst (λ (x : Option (List ℕ)). Appends x b.between (front_text course.layout)) began b.front) in
-    let ran : Ran course.plan course.tasks scope text (Some []) (Some told) (Some start) new.taken b.end =
-    subst (λ (x : Option (List ℕ)). Ran course.plan course.tasks scope text (Some []) (Some told) x new.taken b.end) between
-    (subst (λ (x : Option (List Act)). Ran course.plan course.tasks scope text (Some []) x b.between new.taken b.end) some
-    (subst (λ (x : Option (List Act)). Ran course.plan course.tasks scope text x new.acts b.between new.taken b.end) none (b.ran.0 reads are))) in
-    subst (λ (r : Result Tally Stop). Took text (records_in course reads (acts_measured r told)) r start new.taken) (sym b.is)
-    (ran_took text course.plan course.tasks scope told start new.taken b.end ran)
+    Took (text_in survey.layout survey.names) (records_in survey reads (acts_measured result told)) result (had ++ front_text survey.layout) new.taken
+run_took survey old new result b told had none some began reads are =
+    let text = text_in survey.layout survey.names in
+    let scope = scope_of survey reads in
+    let start = had ++ front_text survey.layout in
+    let between : b.between ≡ Some start = appended text had (front_text survey.layout) b.between (subst (λ (x : Option (List ℕ)). Appends x b.between (front_text survey.layout)) began b.front) in
+    let ran : Ran survey.plan survey.tasks scope text (Some []) (Some told) (Some start) new.taken b.end =
+    subst (λ (x : Option (List ℕ)). Ran survey.plan survey.tasks scope text (Some []) (Some told) x new.taken b.end) between
+    (subst (λ (x : Option (List Act)). Ran survey.plan survey.tasks scope text (Some []) x b.between new.taken b.end) some
+    (subst (λ (x : Option (List Act)). Ran survey.plan survey.tasks scope text x new.acts b.between new.taken b.end) none (b.ran.0 reads are))) in
+    subst (λ (r : Result Tally Stop). Took text (records_in survey reads (acts_measured r told)) r start new.taken) (sym b.is)
+    (ran_took text survey.plan survey.tasks scope told start new.taken b.end ran)

@@ -44,7 +44,8 @@ module _ (text : Record → List ℕ) where
   abbrev turns_by : (Asked → List ℕ → Reading) → List Snapshot
   turns_by reads = turns_from (opening plan (scope (patched reads))) [] acts
 
-  -- some function, which `patched` never asks for what the run's replies say
+  -- a function that says nothing true of any reply. It may stand for every other one, because `patched` gives itself what the
+  -- run's replies say
   abbrev any : Asked → List ℕ → Reading
   any call line = ComFault 0
 

@@ -1,10 +1,10 @@
 -- The records of the eventful run lie in the types of the program: so its lines of JSON are their own, too.
 use Rattle.std.proofs.Common.{◌≡◌, ◌<◌, ◌^◌, ℕ, Bool, true, List, [], ◌∷◌, Option, Some, None, Ok, refl, arith, lit<}
-use Rattle.std.proofs.lemmas.Bool.{ltb-true}
+use Rattle.std.proofs.lemmas.Bool.{ltb-true, and_parts}
 use Rattle.std.proofs.lemmas.Int.{ints}
-use Rattle.std.proofs.lemmas.List.Elements.{All-from_recursion}
+use Rattle.std.proofs.lemmas.List.Sums.{AllPass-from_list_all}
 use Rattle.std.specs.Fmt.{digits}
-use Rattle.std.specs.List.{AllByRecursion}
+use Rattle.std.specs.List.{AllByRecursion, list_all}
 use Rattle.std.specs.Option.{IfSome}
 use Rattle.std.specs.Prelude.{codes, nat_lt, ◌&&◌}
 use Rattle.gc_lines.proofs.Replies.{reply_found}
@@ -12,27 +12,16 @@ use Rattle.gc_lines.specs.Readers.{header_at, reply_at}
 use Rattle.gc_rows.specs.Laws.{IsEndOfBytes, IsReplyOfBytes, FitsIn64Bits}
 use Rattle.gc_rows.specs.declared.record.Form.TheVariants.{Json}
 use Rattle.gc_station.specs.Records.{Record}
-use Rattle.gc_station.proofs.Facts.{both_true}
 use Rattle.gc_measuring.specs.Measuring.{when_of}
 use Rattle.gc_promise.specs.Eventful.{chained_record, elsewhere, empty, measured, number_record, numbered, pointed, points_record, records}
 use Rattle.gc_promise.specs.Objects.{AreOfBytes}
-use Rattle.gc_promise.specs.Witness.{course}
+use Rattle.gc_promise.specs.Witness.{survey}
 use Rattle.gc_promise.proofs.TrueReadings.{replied}
 
--- whether each number is below 256
-abbrev are_bytes : List ℕ → Bool
-are_bytes [] = true
-are_bytes (b ∷ more) = nat_lt b 256 && are_bytes more
-
--- each number is below 256 where `are_bytes` says so
-bytes_are : (line : List ℕ) → are_bytes line ≡ true → AllByRecursion (λ b. b < 256) line
-bytes_are [] e = tt
-bytes_are (b ∷ more) e = let both = both_true (nat_lt b 256) (are_bytes more) e in (ltb-true b 256 both.0, bytes_are more both.1)
-
 -- a line of bytes that reads as a reply with both codes 0 is a reply of bytes
-of_bytes : (line params : List ℕ) (id : ℕ) → reply_at line ≡ Ok (replied id params) → are_bytes line ≡ true → IsReplyOfBytes line
+of_bytes : (line params : List ℕ) (id : ℕ) → reply_at line ≡ Ok (replied id params) → list_all (λ b. nat_lt b 256) line ≡ true → IsReplyOfBytes line
 of_bytes line params id reads small =
-    (replied id params, reply_found line (replied id params) reads, All-from_recursion (λ b. b < 256) line (bytes_are line small))
+    (replied id params, reply_found line (replied id params) reads, λ k d within. ltb-true _ 256 (AllPass-from_list_all (λ b. nat_lt b 256) line small k d within))
 
 -- the reply to command 0 is of bytes
 pointed_is : IsReplyOfBytes pointed
@@ -107,12 +96,12 @@ typed (r ∷ rs) e h =
     let place = is_small r.turn.place && attempt in
     let cycle = is_small r.cycle && place in
     let utc = is_small r.utc && cycle in
-    let all = both_true (sent_is_small r.sent && utc) (are_small rs) e in
-    let of_sent = both_true (sent_is_small r.sent) utc all.0 in
-    let of_utc = both_true (is_small r.utc) cycle of_sent.1 in
-    let of_cycle = both_true (is_small r.cycle) place of_utc.1 in
-    let of_place = both_true (is_small r.turn.place) attempt of_cycle.1 in
-    let of_attempt = both_true (is_small r.turn.attempt) target of_place.1 in (
+    let all = and_parts (sent_is_small r.sent && utc) (are_small rs) e in
+    let of_sent = and_parts (sent_is_small r.sent) utc all.0 in
+    let of_utc = and_parts (is_small r.utc) cycle of_sent.1 in
+    let of_cycle = and_parts (is_small r.cycle) place of_utc.1 in
+    let of_place = and_parts (is_small r.turn.place) attempt of_cycle.1 in
+    let of_attempt = and_parts (is_small r.turn.attempt) target of_place.1 in (
       (
         record {
           sent = sent_below r.sent of_sent.0;
@@ -128,5 +117,5 @@ typed (r ∷ rs) e h =
     )
 
 -- the records of the eventful run are of bytes and of numbers of 64 bits
-pub of_types : AreOfBytes (course Json) records
+pub of_types : AreOfBytes (survey Json) records
 of_types = record { run = lit< tt; names = tt; each = typed records refl ends }

@@ -15,13 +15,13 @@ use Rattle.gc_station.specs.Parts.{parts_of}
 use Rattle.gc_station.specs.Records.{Record}
 use Rattle.gc_station.specs.Scopes.{AreReadings}
 use Rattle.gc_station.proofs.Readings.{for_readings}
-use Rattle.gc_measuring.specs.Measuring.{RunsBehind, text_in}
+use Rattle.gc_measuring.specs.Measuring.{RunsAfterFront, text_in}
 use Rattle.gc_field.specs.Instrument.{AnyState, nothing}
 use Rattle.gc_field.specs.Shown.{stretches}
 use Rattle.gc_promise.specs.Eventful.{acts, at_start, commands, elsewhere, empty, measured, numbered, plan, pointed, runs, scope, tally, reporting}
 use Rattle.gc_promise.specs.Rows.{IsOwnIfAnswered}
-use Rattle.gc_promise.specs.Tables.{table}
-use Rattle.gc_promise.specs.Witness.{HasOwnRows, SomeRowIsItsOwn, course, in_a_table, layout_in, ports_at, taken}
+use Rattle.gc_promise.specs.Tables.{table_form}
+use Rattle.gc_promise.specs.Witness.{HasOwnRows, SomeRowIsItsOwn, survey, in_a_table, layout_in, ports_at, taken}
 use Rattle.gc_promise.proofs.Eventful.{eventful, ran_whole}
 use Rattle.gc_promise.proofs.Owning.{rows_own}
 use Rattle.gc_promise.proofs.Tabled.{tables_own}
@@ -30,16 +30,16 @@ use Rattle.gc_promise.proofs.Typed.{of_types}
 use Rattle.gc_promise.proofs.Objected.{objects_own}
 use Rattle.gc_promise.specs.Objects.{AreOfBytes}
 
--- the row of each of these records, if it is an answer, is its own
-abbrev AreOwn : (Asked → List ℕ → Reading) → List Record → Type 0
-AreOwn reads = AllByRecursion (IsOwnIfAnswered reporting AnyState nothing in_a_table [] commands (parts_of plan commands (opening plan (scope reads)) acts) (stretches reporting at_start runs))
+-- the row of each of these records whose command a reply in time ended is its own
+abbrev HaveOwnRows : (Asked → List ℕ → Reading) → List Record → Type 0
+HaveOwnRows reads = AllByRecursion (IsOwnIfAnswered reporting AnyState nothing in_a_table [] commands (parts_of plan commands (opening plan (scope reads)) acts) (stretches reporting at_start runs))
 
 -- what is seen at each of its acts, where its records are written in this form
 abbrev turns_in : Form → List Snapshot
 turns_in form = turns (text_in (layout_in form) [])
 
 -- in each form, the run is one as a station's contract has it
-is_measured : (form : Form) → RunsBehind (course form) (ports_at [] [] []) (ports_at acts (taken form) (turns_in form)) (Ok tally)
+is_measured : (form : Form) → RunsAfterFront (survey form) (ports_at [] [] []) (ports_at acts (taken form) (turns_in form)) (Ok tally)
 is_measured form =
     record {
       between = Some [];
@@ -56,7 +56,7 @@ unfolding digits days_after
 own_rows reads are =
     let run = eventful reads are in
     let all = rows_own reporting nothing run.is_instrument in_a_table false [] refl plan commands (scope reads) acts at_start runs run.field in
-    let each = subst (AreOwn reads) run.written all in
+    let each = subst (HaveOwnRows reads) run.written all in
     let answers = each.1.1.1.1.1.1.1.1.1.1.1.1.1.1 in
     record {
       run = run;
@@ -65,10 +65,10 @@ own_rows reads are =
       elsewhere = (refl, answers.1.1.0 elsewhere refl);
       number = (refl, answers.1.1.1.0 numbered refl);
       unreadable = (refl, answers.1.1.1.1.0 empty refl);
-      tables = λ columns. tables_own reporting nothing run.is_instrument (course (table columns)) columns refl (ports_at [] [] []) (ports_at acts (taken (table columns)) (turns_in (table columns)))
-          (Ok tally) (is_measured (table columns)) acts [] refl refl refl reads are at_start runs run.field;
-      objects = objects_own reporting nothing run.is_instrument (course Json) refl (ports_at [] [] []) (ports_at acts (taken Json) (turns_in Json)) (Ok tally)
-          (is_measured Json) acts [] refl refl refl reads are at_start runs run.field (subst (AreOfBytes (course Json)) (sym run.written) of_types);
+      tables = λ columns. tables_own reporting nothing run.is_instrument (survey (table_form columns)) columns refl (ports_at [] [] [])
+          (ports_at acts (taken (table_form columns)) (turns_in (table_form columns))) (Ok tally) (is_measured (table_form columns)) acts [] refl refl refl reads are at_start runs run.field;
+      objects = objects_own reporting nothing run.is_instrument (survey Json) refl (ports_at [] [] []) (ports_at acts (taken Json) (turns_in Json)) (Ok tally)
+          (is_measured Json) acts [] refl refl refl reads are at_start runs run.field (subst (AreOfBytes (survey Json)) (sym run.written) of_types);
     }
 
 -- the eventful run meets all that the law on rows asks, and its rows are their own

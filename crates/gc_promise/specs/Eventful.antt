@@ -76,7 +76,7 @@ turn_at place chained = record { place = place; attempt = 1; link = if chained t
 
 -- a command with a deadline of 50 ms, whose chain isn't sent again: its place, its target, what it asks, whether it is chained to the
 -- one before it, and where its target is
-abbrev pub task : ℕ → ℕ → Asked → Bool → Option Near → Task
+abbrev pub task : (place target : ℕ) → Asked → Bool → Option Near → Task
 task place target call chained near =
     record {
       command = record { target = target; call = call };
@@ -91,7 +91,7 @@ task place target call chained near =
     }
 
 -- where a target is: in this direction, within a hundredth of a radian
-abbrev pub near_at : ℕ → Decimal → Decimal → Option Near
+abbrev pub near_at : ℕ → (hz v : Decimal) → Option Near
 near_at target hz v = Some (record { target = target; place = record { hz = hz; v = v }; tolerance = decimal (pos 1) 2 refl })
 
 -- the seven commands, numbered from 0: to point the telescope at target 7; chained to that, to read angles and distance there; to
@@ -158,12 +158,12 @@ abbrev pub gave : ℕ → List (List ℕ) → Act
 gave now lines = Gave (flat_map with_end lines) (at now)
 
 -- the acts by which a connection is closed at the first of these moments, and made again and cleared at the second
-abbrev pub connects_again : ℕ → ℕ → List Act
+abbrev pub connects_again : (now later : ℕ) → List Act
 connects_again now later = Closed ∷ Told (at now) ∷ Silent (at later) ∷ Opened ∷ Put (10 ∷ []) ∷ Told (at later) ∷ []
 
 -- the moves by which a request for the instrument's number is sent for each of these targets, at the first of these moments;
 -- the second is its deadline
-abbrev pub sends_all : ℕ → ℕ → List ℕ → List (Move (List ℕ))
+abbrev pub sends_all : (now deadline : ℕ) → List ℕ → List (Move (List ℕ))
 sends_all now deadline targets = flat_map (λ target. Sends target (Table InstrumentNo) deadline ∷ Tells now ∷ []) targets
 
 -- The synchronization.
@@ -325,8 +325,8 @@ chain_acts =
     ∷ []
 
 -- the line repeats the request of command 0, which is executed twice. The instrument changes by itself before it executes
--- commands 1, 2 and 3, as by a hand that turns it, and starts again before it executes command 4. The line repeats the reply to
--- command 3, and loses the request of command 6
+-- commands 1, 2, 3 and 5, as by a hand that turns it, and starts again before it executes command 4. The line repeats the reply
+-- to command 3, and loses the request of command 6
 abbrev pub chain_moves : List (Move (List ℕ))
 chain_moves =
     map Tells (replicate 9 385)
@@ -370,12 +370,12 @@ chain_moves =
 -- The whole run.
 
 -- the acts until seven requests have timed out
-abbrev pub front : List Act
-front = begins_acts ++ breaks_acts
+abbrev pub given_up : List Act
+given_up = begins_acts ++ breaks_acts
 
 -- all acts of the run
 abbrev pub acts : List Act
-acts = front ++ (anew_acts ++ chain_acts)
+acts = given_up ++ (anew_acts ++ chain_acts)
 
 -- what happens until the station resynchronizes
 abbrev pub first_run : Run (List ℕ)
@@ -386,8 +386,8 @@ abbrev pub runs : List (Run (List ℕ))
 runs = first_run ∷ record { turns = anew_turns; moves = chain_moves } ∷ record { turns = []; moves = [] } ∷ []
 
 -- what is in flight when the station resynchronizes
-abbrev pub left : UnderWay (List ℕ)
-left = left_by_run WINDOW reporting at_start first_run
+abbrev pub left_by_first : UnderWay (List ℕ)
+left_by_first = left_by_run WINDOW reporting at_start first_run
 
 -- the stretch of the first cycle
 abbrev pub first_stretch : Stretch (List ℕ)
@@ -395,13 +395,13 @@ first_stretch = record { from = leaves (turned reporting begins_turns (begins at
 
 -- the stretch of the third cycle
 abbrev pub last_stretch : Stretch (List ℕ)
-last_stretch = record { from = leaves (turned reporting anew_turns (begins left)); moves = chain_moves }
+last_stretch = record { from = leaves (turned reporting anew_turns (begins left_by_first)); moves = chain_moves }
 
 -- The records of the run.
 
 -- the record of a command of this cycle and place, for this target and with this call: it was sent at the moment `sent`, if it
 -- was, and ended at the moment `utc`
-abbrev pub record_of : Option ℕ → ℕ → ℕ → ℕ → ℕ → Asked → End → Record
+abbrev pub record_of : Option ℕ → (utc cycle place target : ℕ) → Asked → End → Record
 record_of sent utc cycle place target call end =
     record {
       sent = sent;
@@ -489,9 +489,9 @@ pub record IsEventful (reads : Asked → List ℕ → Reading) : Type 0 where
   -- a reply is lost: in the first cycle, too, the instrument made this line on executing the request of command 0
   pub made : WasMadeOn WINDOW reporting first_stretch.from first_stretch.moves 8 points pointed
   -- the station resynchronizes where seven requests wait that have all timed out. Two requests and a reply are in flight then
-  pub begins_anew : IsResynchronizing plan commands (scope reads) front (Told (at 345))
-  pub up : left.up ≡ record { id = 6; call = Table InstrumentNo } ∷ record { id = 0; call = Table NullProc } ∷ []
-  pub down : left.down ≡ codes "%R1P,0,2:0,27" ∷ []
+  pub begins_anew : IsResynchronizing plan commands (scope reads) given_up (Told (at 345))
+  pub up : left_by_first.up ≡ record { id = 6; call = Table InstrumentNo } ∷ record { id = 0; call = Table NullProc } ∷ []
+  pub down : left_by_first.down ≡ codes "%R1P,0,2:0,27" ∷ []
   -- the instrument starts again in the third cycle, after five executions
   pub starts : (world reporting last_stretch).wire.starts ≡ 5 ∷ []
   -- five connections are made

@@ -37,7 +37,7 @@ use Rattle.gc_field.specs.Shown.{Stretch}
 
 -- the field that is under a name, in a row whose fields are under these names; an empty one if there is no such name or
 -- no field for it
-abbrev pub under : List ℕ → List (List ℕ) → List (List ℕ) → List ℕ
+abbrev pub under : (name : List ℕ) → (names fields : List (List ℕ)) → List ℕ
 under name [] fields = []
 under name (n ∷ names) [] = []
 under name (n ∷ names) (field ∷ fields) = if pointwise nat_eq n name then field else under name names fields
@@ -60,8 +60,8 @@ pub record IsSetTo (at : List ℕ → List ℕ) (r : Record) : Type 0 where
   pub asked : r.command.call ≡ Table (SetDate (date_time utc))
 
 -- the outcome, as it is written in a row, is that of a command that a reply in time has ended
-abbrev pub IsReplied : List ℕ → Type 0
-IsReplied outcome = (outcome ≡ codes "answered") ⊎ (outcome ≡ codes "unreadable") ⊎ (outcome ≡ codes "elsewhere")
+abbrev pub IsOutcomeOfReply : List ℕ → Type 0
+IsOutcomeOfReply outcome = (outcome ≡ codes "answered") ⊎ (outcome ≡ codes "unreadable") ⊎ (outcome ≡ codes "elsewhere")
 
 -- the name is that of a quantity's column
 abbrev pub IsQuantity : List ℕ → Type 0
@@ -93,9 +93,9 @@ quantity_source Fine reply = reply
 quantity_source Warning reply = record reply { rc = 0 }
 quantity_source Refused reply = reply
 
--- the row of a command that this line ended has the line's codes and parameters. If the command is answered, the row has the quality of
--- the answer, by the return codes that are accepted of the command; and, if rows have quantities, those of the line, which for a warning
--- is read as if its return code were 0
+-- the row of a command that this line ended has the line's codes, and its parameters, `escaped`. If the command is answered, the
+-- row has the quality of the answer, by the return codes that are accepted of the command; and, if rows have quantities, those
+-- of the line, `escaped`, which for a warning is read as if its return code were 0
 pub record HasReply (has_quantities : Bool) (at : List ℕ → List ℕ) (accepted : Codes) (call : Asked) (line : List ℕ) : Type 0 where
   pub reply : ReplyFields
   pub is_reply : IsReply line reply
@@ -115,14 +115,16 @@ pub record HasReply (has_quantities : Bool) (at : List ℕ → List ℕ) (accept
 
 module _ {State : Type 0} (ends : Ends State) (Good : State → Type 0) (kept : State → Option KeptReply) where
   -- the row of record `r`, in which `at` gives the text under each name, is its own: it has the record's moment of sending,
-  -- cycle, place, attempt, target, procedure and outcome. If the command sets the clock and its request was sent, that asked
-  -- for this very moment. If the outcome is that of a reply, the row says what a line says that the instrument made on
-  -- executing the request of that very cycle and place, in a run with the parts `ps` and the stretches `ss`. If the outcome
-  -- isn't `answered`, the row has neither a quantity nor a quality
+  -- cycle, place, attempt, target, procedure and outcome. If no request was sent, nothing is under `sent`. If the command sets the
+  -- clock and its request was sent, that asked for the moment under `sent`, cut to seconds. If the outcome is that of a reply, the
+  -- row says what a line says that the instrument made on executing the request of that very cycle and place, in a run with the
+  -- parts `ps` and the stretches `ss`. If the outcome isn't `answered`, the row has no quality and, where rows have quantities
+  -- (`has_quantities`), none of these
   pub record IsOwn (has_quantities : Bool) (at : List ℕ → List ℕ) (commands : List Task) (ps : List Part) (ss : List (Stretch State)) (r : Record) : Type 0 where
     pub is_of : IsRowOf at r
     pub clock : (task : Task) → slice_get commands r.place ≡ Some task → task.now ≡ true → went_out r.end ≡ true → IsSetTo at r
     pub unsent : went_out r.end ≡ false → at (codes "sent") ≡ []
-    pub replied : IsReplied (at (codes "outcome")) → (line : List ℕ) × HasReply has_quantities at (accepted_at commands r.place) r.command.call line × IsItsOwn ends Good kept commands ps ss r line
+    pub replied :
+        IsOutcomeOfReply (at (codes "outcome")) → (line : List ℕ) × HasReply has_quantities at (accepted_at commands r.place) r.command.call line × IsItsOwn ends Good kept commands ps ss r line
     pub without : has_quantities ≡ true → (at (codes "outcome") ≡ codes "answered" → ⊥) → (name : List ℕ) → IsQuantity name → at name ≡ []
     pub unqualified : (at (codes "outcome") ≡ codes "answered" → ⊥) → at (codes "quality") ≡ []

@@ -20,7 +20,7 @@ use Rattle.gc_station.specs.Records.{texts_of}
 use Rattle.gc_station.specs.Runs.{state_after}
 use Rattle.gc_station.specs.Scopes.{AreReadings}
 use Rattle.gc_station.specs.declared.tally.Tally.{Tally}
-use Rattle.gc_measuring.specs.Measuring.{PortsSeen, Course, text_in, RunsBehind}
+use Rattle.gc_measuring.specs.Measuring.{PortsSeen, Survey, text_in, RunsAfterFront}
 use Rattle.gc_measuring.specs.Telling.{ReportsAppended}
 use Rattle.gc_measuring.specs.declared.stop.Stop.{Stop}
 use Rattle.gc_words.specs.declared.settings.Settings.{Settings}
@@ -28,7 +28,7 @@ use Rattle.gc_words.specs.declared.settings.Settings.{Settings}
 -- a run that appends to a file: what it measures, what was seen at its start and at its end, how it ended, the acts that its
 -- link recorded, and the file that it left
 pub record RunOfFile (R : Type 0) : Type 0 where
-  pub course : Course
+  pub survey : Survey
   pub old : PortsSeen
   pub new : PortsSeen
   pub end : Result Tally Stop
@@ -36,22 +36,22 @@ pub record RunOfFile (R : Type 0) : Type 0 where
   pub file : Followed R
 
 -- a run of a file, as clause `told` of `append_at` says it of the file that it hands back: the output has its header already; the
--- link had recorded nothing before the run, and `recorded` are the acts that it has recorded since; and the file has what was
--- appended to it since it was opened
+-- link had recorded nothing before the run, and `recorded` are the acts that it has recorded since; what was taken since then is what was
+-- appended to the file since it was opened; and what was seen before and after is that of a run of the survey (`RunsAfterFront`)
 pub record IsRunOfFile {R : Type 0} (run : RunOfFile R) : Type 0 where
-  pub headed : run.course.layout.headed ≡ true
+  pub headed : run.survey.layout.headed ≡ true
   pub none : run.old.acts ≡ Some []
   pub acts : run.new.acts ≡ Some run.recorded
   pub fresh : run.old.taken ≡ Some []
   pub took : run.new.taken ≡ Some (bytes_in run.file)
-  pub ran : RunsBehind run.course run.old run.new run.end
+  pub ran : RunsAfterFront run.survey run.old run.new run.end
 
 -- what clause `told` of `append_at` says (`ReportsAppended`) comes to this: either no act was made (`turns' ≡ turns`), or there is a run of
 -- this file, with these acts, which took the turns (what was seen at each act) from `turns` to `turns'`. `source` and `sink` are the
 -- ghost members of the program's input and of such files as sinks; `K` and `E` are the types of the output and the messages. The other
 -- arguments are `ReportsAppended`'s own: `lasts`, whether a file is durable; `shown`, the bytes written to the messages; `has_log`,
 -- whether the run keeps a log
-abbrev pub AppendsAreRuns : {S R : Type 0} → Source S → Sink (Followed R) → Type 0 → Type 0 → Type 0
+abbrev pub AppendsAreRuns : {S R : Type 0} → Source S → Sink (Followed R) → (K E : Type 0) → Type 0
 AppendsAreRuns {S = S} {R = R} source sink K E = (lasts : Followed R → Bool) (shown : E → Option (List ℕ)) (has_log : Bool) (station : Settings)
     (old new : Streams S K E) (file : Followed R) (acts : Option (List Act)) (turns turns' : List Snapshot) (status : ℕ)
     → ReportsAppended source sink lasts shown has_log station old new (Some file) acts turns turns' status
@@ -60,16 +60,16 @@ AppendsAreRuns {S = S} {R = R} source sink K E = (lasts : Followed R → Bool) (
 
 -- a moment of a run that appends to a file, at an act or after it: what was seen at that act (`turn`), the acts that were done
 -- before it, the file as it was then, and the calls that this file had had by the moment, since it was opened
-pub record Moment (R : Type 0) : Type 0 where
+pub record RunMoment (R : Type 0) : Type 0 where
   pub run : RunOfFile R
   pub turn : Snapshot
   pub done : List Act
   pub was : Followed R
   pub calls : List Step
 
--- the moment's turn was seen at an act of the run. The acts of `done` were done then, and the file was as `was` has it, opened so that it
--- syncs
-pub record IsSeen {R : Type 0} (m : Moment R) : Type 0 where
+-- the moment's turn was seen at an act of the run. The acts of `done` were done then; what was seen of the file, its bytes and
+-- whether it is durable, is that of `was`; and `was` was opened so that it syncs
+pub record IsSeen {R : Type 0} (m : RunMoment R) : Type 0 where
   pub earlier : List Snapshot
   pub later : List Snapshot
   pub among : m.run.new.turns ≡ m.run.old.turns ++ (earlier ++ m.turn ∷ later)
@@ -80,52 +80,52 @@ pub record IsSeen {R : Type 0} (m : Moment R) : Type 0 where
 
 -- the moment's calls begin with those that the file had at the moment's act, and are the first of those that it has in the end. The
 -- rows didn't go on in another file in between
-pub record IsReached {R : Type 0} (m : Moment R) : Type 0 where
-  pub left : m.run.file.left.steps ≡ m.was.left.steps
+pub record IsReached {R : Type 0} (m : RunMoment R) : Type 0 where
+  pub left : m.run.file.earlier.steps ≡ m.was.earlier.steps
   pub since : List Step
   pub begins : m.calls ≡ steps_in m.was.rows ++ since
   pub rest : List Step
   pub ends : steps_in m.run.file.rows ≡ m.calls ++ rest
 
 -- this is a moment of a run that appends to a file which syncs
-pub record IsMoment {R : Type 0} (m : Moment R) : Type 0 where
+pub record IsRunMoment {R : Type 0} (m : RunMoment R) : Type 0 where
   pub run : IsRunOfFile m.run
   pub seen : IsSeen m
   pub reached : IsReached m
 
 -- the rows of all records that these acts settle, in order, as the run writes them
-abbrev pub rows_by : Course → (Asked → List ℕ → Reading) → List Act → List ℕ
-rows_by course reads acts =
-    texts_of (text_in course.layout course.names) (state_after course.plan course.tasks (record { turns = course.turns; reads = reads }) acts).records
+abbrev pub rows_by : Survey → (Asked → List ℕ → Reading) → List Act → List ℕ
+rows_by survey reads acts =
+    texts_of (text_in survey.layout survey.names) (state_after survey.plan survey.tasks (record { turns = survey.max_turns; reads = reads }) acts).records
 
 -- `left` has the rows that are left of a run, after a moment. `settled`: the rows that the run had written by the moment's act,
 -- into this file and into others before it, are those of all records that the acts of `done` settled. `has`: all that this file
 -- had taken by then is left, and perhaps more. `own`: no other rows are left than of records that acts of the run settled
-pub record AreLeft {R : Type 0} (m : Moment R) (reads : Asked → List ℕ → Reading) (left : List ℕ) : Type 0 where
-  pub settled : bytes_in m.was ≡ rows_by m.run.course reads m.done
+pub record AreLeft {R : Type 0} (m : RunMoment R) (reads : Asked → List ℕ → Reading) (left : List ℕ) : Type 0 where
+  pub settled : bytes_in m.was ≡ rows_by m.run.survey reads m.done
   pub more : List ℕ
   pub has : left ≡ taken_in m.was.rows ++ more
   pub acts : List Act
   pub others : List Act
   pub all : m.run.recorded ≡ acts ++ others
-  pub own : IsFront (bytes_in m.was ++ more) (rows_by m.run.course reads acts)
+  pub own : IsFront (bytes_in m.was ++ more) (rows_by m.run.survey reads acts)
 
 -- the calls of an opening of a file that held these bytes: a torn row was cut off, and a head was written if no whole row was
 -- left
-abbrev pub Opens : List ℕ → List ℕ → List Step → Type 0
-Opens head held steps = opening.Ran held steps (start_of head held)
+abbrev pub OpensFile : (head held : List ℕ) → List Step → Type 0
+OpensFile head held steps = opening.MendedAndPut held steps (start_of head held)
 
 -- these bytes are what a crash may leave of a file that had this life and then these steps
 abbrev pub MayBeLeft : Life → List Step → List ℕ → Type 0
 MayBeLeft life steps left = MayLeave life.start (life.steps ++ steps) left
 
--- a run is killed at any moment, or the machine crashes, and earlier runs may have ended so, too. Whatever that leaves of the
--- file, the next start makes of it the table that was there at first, after it rows of the earlier runs, and then the rows that
--- are left of this run
+-- a run that appends to a file which syncs (`IsRunMoment`) is killed at any moment, or the machine crashes, and earlier runs may have ended
+-- so, too. Whatever that leaves of the file, the next start makes of it the table that was there at first, after it rows of the earlier
+-- runs, and then the rows that are left of this run
 abbrev pub RowsOutlastCrashes : Type 0 → Type 0
-RowsOutlastCrashes R = (m : Moment R) → IsMoment m → (reads : Asked → List ℕ → Reading) → AreReadings reads
+RowsOutlastCrashes R = (m : RunMoment R) → IsRunMoment m → (reads : Asked → List ℕ → Reading) → AreReadings reads
     → (head first : List ℕ) → IsHead head → (earlier : List Run) → Happen head (settled first) earlier
-    → (opening : List Step) → Opens head (content (life_after (settled first) earlier)) opening
+    → (opening : List Step) → OpensFile head (content (life_after (settled first) earlier)) opening
     → (found : List ℕ) → MayBeLeft (life_after (settled first) earlier) (opening ++ m.calls) found
     → (counts : List ℕ) × (left : List ℕ) × AreRowCounts earlier counts × AreLeft m reads left
     × (table head found ≡ (table head first ++ rows_of earlier counts) ++ left)
@@ -169,13 +169,14 @@ doubt_of (Unsynced read disk) = true
 abbrev pub sides_from : List ℕ → List Event → Sides
 sides_from first events = sides_after (same_sides (settled first)) events
 
--- after any events, in a file that isn't in doubt, a run ends at any moment, by a kill or by a sync that fails, and other
--- events follow. Whatever is found then, the next start makes of it the table that was there at first, rows of the earlier
--- runs, the rows that are left of this run, and rows of the later ones
+-- after events, in a file that isn't in doubt, a run that syncs (`IsRunMoment`) ends at any moment, by a kill or by a sync that fails, and
+-- other events follow. Any may come before and after, but no run goes on in a file in doubt (`IsTrusted`). Whatever is found then, the next
+-- start makes of it the table that was there at first, rows of the earlier runs, the rows that are left of this run, and rows of the later
+-- ones
 abbrev pub RowsOutlastFailures : Type 0 → Type 0
-RowsOutlastFailures R = (m : Moment R) → IsMoment m → (reads : Asked → List ℕ → Reading) → AreReadings reads
+RowsOutlastFailures R = (m : RunMoment R) → IsRunMoment m → (reads : Asked → List ℕ → Reading) → AreReadings reads
     → (head first : List ℕ) → IsHead head → (earlier : List Event) → Occur IsTrusted head (same_sides (settled first)) false earlier → doubted_by false earlier ≡ false
-    → (opening : List Step) → Opens head (content (sides_from first earlier).read) opening
+    → (opening : List Step) → OpensFile head (content (sides_from first earlier).read) opening
     → (ending : Ending) → MayEnd (sides_from first earlier) (opening ++ m.calls) ending
     → (later : List Event) → Occur IsTrusted head (sides_ended (sides_from first earlier) (opening ++ m.calls) ending) (doubt_of ending) later
     → (found : List ℕ) → IsFound (sides_after (sides_ended (sides_from first earlier) (opening ++ m.calls) ending) later) found

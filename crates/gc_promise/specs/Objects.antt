@@ -20,7 +20,7 @@ use Rattle.gc_station.specs.Parts.{Part, parts_of}
 use Rattle.gc_station.specs.Records.{Record}
 use Rattle.gc_station.specs.Scopes.{AreReadings}
 use Rattle.gc_station.specs.declared.tally.Tally.{Tally}
-use Rattle.gc_measuring.specs.Measuring.{Course, PortsSeen, RunsBehind, text_in, when_of}
+use Rattle.gc_measuring.specs.Measuring.{Survey, PortsSeen, RunsAfterFront, text_in, when_of}
 use Rattle.gc_measuring.specs.declared.stop.Stop.{Stop}
 use Rattle.gc_field.specs.World.{Ends}
 use Rattle.gc_field.specs.Begin.{UnderWay}
@@ -32,10 +32,10 @@ use Rattle.gc_promise.specs.Fields.{IsOwn}
 use Rattle.gc_promise.specs.Tables.{AreWritten, acts_measured, records_in, scope_of}
 
 -- the records of a run, in the types of the program: their numbers have 64 bits, and their texts are bytes
-pub record AreOfBytes (course : Course) (records : List Record) : Type 0 where
-  pub run : course.layout.run < 2 ^ 64
-  pub names : AllByRecursion (λ (name : Name). All (λ b. b < 256) name.text.items) course.names
-  pub each : AllByRecursion (λ (r : Record). FitsIn64Bits (when_of course.layout.run r) × (r.command.target < 2 ^ 64) × IsEndOfBytes r.end) records
+pub record AreOfBytes (survey : Survey) (records : List Record) : Type 0 where
+  pub run : survey.layout.run < 2 ^ 64
+  pub names : AllByRecursion (λ (name : Name). All (λ b. b < 256) name.text.items) survey.names
+  pub each : AllByRecursion (λ (r : Record). FitsIn64Bits (when_of survey.layout.run r) × (r.command.target < 2 ^ 64) × IsEndOfBytes r.end) records
 
 -- the digits of a number or the bytes of a string; empty if there is neither
 abbrev pub text_of : Option json.Json → List ℕ
@@ -56,26 +56,26 @@ module _ {State : Type 0} (ends : Ends State) (Good : State → Type 0) (kept : 
 
   -- what a sink took of a run, after what it had: lines, in none of which is a line feed, and which are the run's records, one
   -- for one and in order, each its own. If the output failed, a part of one more line may come after them
-  pub record AreOwnObjects (course : Course) (reads : Asked → List ℕ → Reading) (acts : List Act) (ps : List Part) (ss : List (Stretch State))
+  pub record AreOwnObjects (survey : Survey) (reads : Asked → List ℕ → Reading) (acts : List Act) (ps : List Part) (ss : List (Stretch State))
       (result : Result Tally Stop) (had : List ℕ) (has : Option (List ℕ)) : Type 0 where
     pub lines : List (List ℕ)
     pub torn : List ℕ
     pub took : has ≡ Some (had ++ (lines_text lines ++ torn))
-    pub are : AreWritten (text_in course.layout course.names) (records_in course reads acts) result torn
+    pub are : AreWritten (text_in survey.layout survey.names) (records_in survey reads acts) result torn
     pub unbroken : AllByRecursion (Lacks 10) lines
     pub as_many : length lines ≡ length are.written
-    pub each : (n : ℕ) (line : List ℕ) → slice_get lines n ≡ Some line → (r : Record) × (slice_get are.written n ≡ Some r) × IsOwnObject line course.tasks ps ss r
+    pub each : (n : ℕ) (line : List ℕ) → slice_get lines n ≡ Some line → (r : Record) × (slice_get are.written n ≡ Some r) × IsOwnObject line survey.tasks ps ss r
 
 -- what a sink took of a run are its own objects: for any instrument, all that a station measures and writes as lines of JSON, and all that
 -- the line and the instrument may do meanwhile
 abbrev pub ObjectsAreTheirOwn : Type 0 → Type 0
 ObjectsAreTheirOwn State =
     (ends : Ends State) (kept : State → Option KeptReply) → IsAnInstrument ends AnyState kept →
-    (course : Course) → course.layout.form ≡ Json →
-    (old new : PortsSeen) (result : Result Tally Stop) → RunsBehind course old new result →
+    (survey : Survey) → survey.layout.form ≡ Json →
+    (old new : PortsSeen) (result : Result Tally Stop) → RunsAfterFront survey old new result →
     (recorded : List Act) (had : List ℕ) → old.acts ≡ Some [] → new.acts ≡ Some recorded → old.taken ≡ Some had →
     (reads : Asked → List ℕ → Reading) → AreReadings reads → (u : UnderWay State) (rs : List (field.Run State)) →
-    IsInField ends AnyState kept course.plan course.tasks (scope_of course reads) (acts_measured result recorded) u rs →
-    AreOfBytes course (records_in course reads (acts_measured result recorded)) →
-    AreOwnObjects ends AnyState kept course reads (acts_measured result recorded) (parts_of course.plan course.tasks (opening course.plan (scope_of course reads)) (acts_measured result recorded))
+    IsInField ends AnyState kept survey.plan survey.tasks (scope_of survey reads) (acts_measured result recorded) u rs →
+    AreOfBytes survey (records_in survey reads (acts_measured result recorded)) →
+    AreOwnObjects ends AnyState kept survey reads (acts_measured result recorded) (parts_of survey.plan survey.tasks (opening survey.plan (scope_of survey reads)) (acts_measured result recorded))
     (stretches ends u rs) result had new.taken

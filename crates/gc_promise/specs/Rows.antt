@@ -34,7 +34,7 @@ use Rattle.gc_field.specs.Instrument.{IsAnInstrument, AnyState}
 use Rattle.gc_field.specs.Runs.{IsInField, IsItsOwn}
 use Rattle.gc_field.specs.Shown.{Stretch, stretches}
 use Rattle.gc_promise.specs.Fields.{under}
-use Rattle.gc_promise.specs.Tables.{table}
+use Rattle.gc_promise.specs.Tables.{table_form}
 
 -- the field in the column of this name, of a row with these fields; `name` is that of one of the first thirteen columns
 abbrev pub column : List ℕ → List (List ℕ) → List ℕ
@@ -56,9 +56,9 @@ pub record FieldsSay (fields : List (List ℕ)) (r : Record) (line : List ℕ) :
   pub values : column (codes "values") fields ≡ reply.params
 
 module _ {State : Type 0} (ends : Ends State) (Good : State → Type 0) (kept : State → Option KeptReply) where
-  -- the row of a record in a table is its own: a reader of comma-separated values gives it back as its fields, whatever stands
-  -- after it; the fields say what the line of the record's reply says; and that line was made by the instrument on executing
-  -- the request of the record's cycle and place
+  -- the row of a record in a table is its own: a reader of comma-separated values gives it back as its fields, `escaped` as the
+  -- row has them, whatever stands after it; the fields say what the line of the record's reply says; and that line was made by
+  -- the instrument on executing the request of the record's cycle and place
   pub record IsRowOfLine (layout : Layout) (names : List Name) (commands : List Task) (ps : List Part) (ss : List (Stretch State)) (r : Record) (line : List ℕ) : Type 0 where
     pub fields : List (List ℕ)
     pub row : text_in layout names r ≡ row_of fields
@@ -66,15 +66,15 @@ module _ {State : Type 0} (ends : Ends State) (Good : State → Type 0) (kept : 
     pub says : FieldsSay fields r line
     pub own : IsItsOwn ends Good kept commands ps ss r line
 
-  -- if the record is an answer, its row is its own
+  -- if a reply in time ended the record's command (`answer_of`), its row is its own
   abbrev pub IsOwnIfAnswered : Layout → List Name → List Task → List Part → List (Stretch State) → Record → Type 0
   IsOwnIfAnswered layout names commands ps ss r = (line : List ℕ) → answer_of r.end ≡ Some line → IsRowOfLine layout names commands ps ss r line
 
--- the row of each record that is an answer is its own: for any instrument, every layout of a table, all names of targets, every plan, all
--- commands, every run of the station, and all that the line and the instrument may do meanwhile
+-- the row of each record whose command a reply in time ended is its own: for any instrument, every layout of a table, all names of
+-- targets, every plan, all commands, every run of the station, and all that the line and the instrument may do meanwhile
 abbrev pub RowsAreTheirOwn : Type 0 → Type 0
 RowsAreTheirOwn State =
     (ends : Ends State) (kept : State → Option KeptReply) → IsAnInstrument ends AnyState kept →
-    (layout : Layout) (columns : Bool) (names : List Name) → layout.form ≡ table columns →
+    (layout : Layout) (columns : Bool) (names : List Name) → layout.form ≡ table_form columns →
     (plan : Plan) (commands : List Task) (scope : Scope) (acts : List Act) (u : UnderWay State) (rs : List (Run State)) → IsInField ends AnyState kept plan commands scope acts u rs →
     AllByRecursion (IsOwnIfAnswered ends AnyState kept layout names commands (parts_of plan commands (opening plan scope) acts) (stretches ends u rs)) (state_after plan commands scope acts).records

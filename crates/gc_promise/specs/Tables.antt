@@ -20,7 +20,7 @@ use Rattle.gc_station.specs.Runs.{state_after}
 use Rattle.gc_station.specs.Scopes.{Scope, AreReadings}
 use Rattle.gc_station.specs.declared.tally.Tally.{Tally}
 use Rattle.gc_words.specs.declared.layout.Layout.{Layout}
-use Rattle.gc_measuring.specs.Measuring.{Course, PortsSeen, RunsBehind, text_in}
+use Rattle.gc_measuring.specs.Measuring.{Survey, PortsSeen, RunsAfterFront, text_in}
 use Rattle.gc_measuring.specs.declared.stop.Stop.{Stop}
 use Rattle.gc_measuring.specs.declared.stop.Stop.TheVariants.{Run}
 use Rattle.gc_field.specs.World.{Ends}
@@ -33,9 +33,9 @@ use Rattle.gc_promise.specs.Fields.{under, IsOwn}
 
 -- A run.
 
--- the scope of a run of this course: at most how many acts it makes, and what each reply says of its call
-abbrev pub scope_of : Course → (Asked → List ℕ → Reading) → Scope
-scope_of course reads = record { turns = course.turns; reads = reads }
+-- the scope of a run of this survey: at most how many acts it makes, and what each reply says of its call
+abbrev pub scope_of : Survey → (Asked → List ℕ → Reading) → Scope
+scope_of survey reads = record { turns = survey.max_turns; reads = reads }
 
 -- the acts of a run, among those that its link recorded: all but the close after an output that failed
 abbrev pub acts_measured : Result Tally Stop → List Act → List Act
@@ -43,8 +43,8 @@ acts_measured (Err (Run Output)) recorded = take (length recorded - 1) recorded
 acts_measured _ recorded = recorded
 
 -- the records of a run by these acts
-abbrev pub records_in : Course → (Asked → List ℕ → Reading) → List Act → List Record
-records_in course reads acts = (state_after course.plan course.tasks (scope_of course reads) acts).records
+abbrev pub records_in : Survey → (Asked → List ℕ → Reading) → List Act → List Record
+records_in survey reads acts = (state_after survey.plan survey.tasks (scope_of survey reads) acts).records
 
 -- What a sink took.
 
@@ -66,9 +66,9 @@ pub record AreWritten (text : Record → List ℕ) (records : List Record) (resu
 -- Tables.
 
 -- the form of a table, with a column for each quantity (true) or without these columns (false)
-abbrev pub table : Bool → Form
-table false = Csv
-table true = Columns
+abbrev pub table_form : Bool → Form
+table_form false = Csv
+table_form true = Columns
 
 -- the names of the columns of a table, with those of the quantities (true) or without (false)
 abbrev pub header : Bool → List (List ℕ)
@@ -88,28 +88,28 @@ module _ {State : Type 0} (ends : Ends State) (Good : State → Type 0) (kept : 
   -- what a sink took of a run, after what it had: a table, whose rows are the run's records, one for one and in order, each its
   -- own. If the output failed, a part of one more row may come after them. `behind` is said of the file of --append: after
   -- earlier bytes, which a reader takes for `earlier`, the reader goes on with these rows
-  pub record IsOwnTable (course : Course) (columns : Bool) (reads : Asked → List ℕ → Reading) (acts : List Act) (ps : List Part) (ss : List (Stretch State))
+  pub record IsOwnTable (survey : Survey) (columns : Bool) (reads : Asked → List ℕ → Reading) (acts : List Act) (ps : List Part) (ss : List (Stretch State))
       (result : Result Tally Stop) (had : List ℕ) (has : Option (List ℕ)) : Type 0 where
     pub bytes : List ℕ
     pub torn : List ℕ
     pub took : has ≡ Some (had ++ (bytes ++ torn))
-    pub are : AreWritten (text_in course.layout course.names) (records_in course reads acts) result torn
+    pub are : AreWritten (text_in survey.layout survey.names) (records_in survey reads acts) result torn
     pub rows : List (List (List ℕ))
-    pub reads_as : AreReadAs bytes (head_rows course.layout columns ++ rows)
-    pub behind : (held : List ℕ) (earlier : List (List (List ℕ))) → AreReadAs held earlier → AreReadAs (held ++ bytes) (earlier ++ (head_rows course.layout columns ++ rows))
+    pub reads_as : AreReadAs bytes (head_rows survey.layout columns ++ rows)
+    pub behind : (held : List ℕ) (earlier : List (List (List ℕ))) → AreReadAs held earlier → AreReadAs (held ++ bytes) (earlier ++ (head_rows survey.layout columns ++ rows))
     pub as_many : length rows ≡ length are.written
     pub each : (n : ℕ) (row : List (List ℕ)) → slice_get rows n ≡ Some row
-        → (r : Record) × (slice_get are.written n ≡ Some r) × IsOwn ends Good kept columns (λ name. under name (header columns) row) course.tasks ps ss r
+        → (r : Record) × (slice_get are.written n ≡ Some r) × IsOwn ends Good kept columns (λ name. under name (header columns) row) survey.tasks ps ss r
 
 -- what a sink took of a run is its own table: for any instrument, all that a station measures and writes as a table, and all that the line
 -- and the instrument may do meanwhile
 abbrev pub TablesAreTheirOwn : Type 0 → Type 0
 TablesAreTheirOwn State =
     (ends : Ends State) (kept : State → Option KeptReply) → IsAnInstrument ends AnyState kept →
-    (course : Course) (columns : Bool) → course.layout.form ≡ table columns →
-    (old new : PortsSeen) (result : Result Tally Stop) → RunsBehind course old new result →
+    (survey : Survey) (columns : Bool) → survey.layout.form ≡ table_form columns →
+    (old new : PortsSeen) (result : Result Tally Stop) → RunsAfterFront survey old new result →
     (recorded : List Act) (had : List ℕ) → old.acts ≡ Some [] → new.acts ≡ Some recorded → old.taken ≡ Some had →
     (reads : Asked → List ℕ → Reading) → AreReadings reads → (u : UnderWay State) (rs : List (field.Run State)) →
-    IsInField ends AnyState kept course.plan course.tasks (scope_of course reads) (acts_measured result recorded) u rs →
-    IsOwnTable ends AnyState kept course columns reads (acts_measured result recorded) (parts_of course.plan course.tasks (opening course.plan (scope_of course reads)) (acts_measured result recorded))
+    IsInField ends AnyState kept survey.plan survey.tasks (scope_of survey reads) (acts_measured result recorded) u rs →
+    IsOwnTable ends AnyState kept survey columns reads (acts_measured result recorded) (parts_of survey.plan survey.tasks (opening survey.plan (scope_of survey reads)) (acts_measured result recorded))
     (stretches ends u rs) result had new.taken

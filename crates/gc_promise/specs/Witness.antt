@@ -11,14 +11,14 @@ use Rattle.gc_station.specs.Parts.{parts_of}
 use Rattle.gc_station.specs.Records.{Record, texts_of}
 use Rattle.gc_station.specs.Scopes.{ForReadings}
 use Rattle.gc_words.specs.declared.layout.Layout.{Layout}
-use Rattle.gc_measuring.specs.Measuring.{Course, PortsSeen, RunsBehind, text_in}
+use Rattle.gc_measuring.specs.Measuring.{Survey, PortsSeen, RunsAfterFront, text_in}
 use Rattle.gc_field.specs.Instrument.{AnyState, nothing}
 use Rattle.gc_field.specs.Shown.{stretches}
 use Rattle.gc_promise.specs.Eventful.{IsEventful, acts, at_start, commands, plan, records, reporting, runs, scope, tally}
 use Rattle.gc_promise.specs.Eventful.{chained_record, elsewhere, elsewhere_record, empty, measured, number_record, numbered, pointed, points_record, unreadable_record}
 use Rattle.gc_promise.specs.Rows.{IsRowOfLine}
 use Rattle.gc_promise.specs.Objects.{AreOwnObjects}
-use Rattle.gc_promise.specs.Tables.{IsOwnTable, table}
+use Rattle.gc_promise.specs.Tables.{IsOwnTable, table_form}
 
 -- records in this form, of a run that began at moment 0, for an output that has its header already
 abbrev pub layout_in : Form → Layout
@@ -49,8 +49,8 @@ abbrev pub unreadable_row : List ℕ
 unreadable_row = codes "1970-01-01T00:00:00.000Z,1970-01-01T00:00:00.390Z,1970-01-01T00:00:00.415Z,3,4,2,,5003,unreadable,15,0,0,,,1\n"
 
 -- the run as a station measures it: its commands by its plan, written in this form
-abbrev pub course : Form → Course
-course form = record { plan = plan; tasks = commands; turns = 200; layout = layout_in form; names = [] }
+abbrev pub survey : Form → Survey
+survey form = record { plan = plan; tasks = commands; max_turns = 200; layout = layout_in form; names = [] }
 
 -- what a sink takes of that run
 abbrev pub taken : Form → List ℕ
@@ -64,7 +64,7 @@ ports_at recorded taken turns =
 
 module _ (reads : Asked → List ℕ → Reading) where
   -- the row of a record is this text, and its own, with this line as its reply
-  abbrev pub IsOwnText : Record → List ℕ → List ℕ → Type 0
+  abbrev pub IsOwnText : Record → (row line : List ℕ) → Type 0
   IsOwnText r row line =
       (text_in in_a_table [] r ≡ row)
       × IsRowOfLine reporting AnyState nothing in_a_table [] commands (parts_of plan commands (opening plan (scope reads)) acts)
@@ -81,15 +81,15 @@ module _ (reads : Asked → List ℕ → Reading) where
     pub unreadable : IsOwnText unreadable_record unreadable_row empty
     -- and so is the table that its sink took, with a column for each quantity or without
     pub tables : (columns : Bool)
-        → IsOwnTable reporting AnyState nothing (course (table columns)) columns reads acts (parts_of plan commands (opening plan (scope reads)) acts) (stretches reporting at_start runs)
-        (Ok tally) [] (Some (taken (table columns)))
+        → IsOwnTable reporting AnyState nothing (survey (table_form columns)) columns reads acts (parts_of plan commands (opening plan (scope reads)) acts) (stretches reporting at_start runs)
+        (Ok tally) [] (Some (taken (table_form columns)))
     -- and so are its lines of JSON
     pub objects :
-        AreOwnObjects reporting AnyState nothing (course Json) reads acts (parts_of plan commands (opening plan (scope reads)) acts) (stretches reporting at_start runs)
+        AreOwnObjects reporting AnyState nothing (survey Json) reads acts (parts_of plan commands (opening plan (scope reads)) acts) (stretches reporting at_start runs)
         (Ok tally) [] (Some (taken Json))
 
 -- `HasOwnRows` holds for every function that gives what each reply says of its call, and there is such a function. In each form
 -- the run is one as a station's contract has it: its link recorded these acts, and its sink took the texts of its records
 pub record SomeRowIsItsOwn : Type 0 where
   pub own : ForReadings HasOwnRows
-  pub measured : (form : Form) → (turns : List Snapshot) × RunsBehind (course form) (ports_at [] [] []) (ports_at acts (taken form) turns) (Ok tally)
+  pub measured : (form : Form) → (turns : List Snapshot) × RunsAfterFront (survey form) (ports_at [] [] []) (ports_at acts (taken form) turns) (Ok tally)

@@ -12,8 +12,8 @@ use std::fs::File;
 use std::rt::Files;
 
 /// For any instrument, and every run of a station in the field: what the station writes reads back as its header and its
-/// records, one row or object each, in order. A row of an answer has in its columns what a reply's line says, and the
-/// instrument made that line on executing the request of that row's very cycle and place.
+/// records, one row or object each, in order. The row of a command that a reply in time ended has in its columns what that
+/// reply's line says, and the instrument made that line on executing the request of that row's very cycle and place.
 pub fn rows_are_their_own<State>()
     // Of the bytes that a sink took of a run, as `measure_at` and `append_at` have it: a reader of comma-separated values gives
     // the header, and the run's records as rows, one for one and in order. Under the names of the header each row has when its
@@ -26,8 +26,9 @@ pub fn rows_are_their_own<State>()
     // whose members have under these names what a row has.
     ensures objects { ObjectsAreTheirOwn State }
 
-    // Of each record of a run that is an answer, however much of it was written: its row in a table reads back as fields, under whose names
-    // stand the record's cycle, place, target and procedure, and the codes and values of such a line.
+    // Of each record of a run whose command a reply in time ended, however much of it was written: its row in a table reads back
+    // as fields, under whose names stand when its request was sent, the record's cycle, place, target, procedure and outcome, and
+    // the codes and values of such a line.
     ensures records { RowsAreTheirOwn State }
 {}
 
@@ -50,13 +51,14 @@ pub fn appends_are_runs_of_files<'a, S: Source, K, E, R: Files<File = File> + 'a
 
 /// If a run that appends to a file with `sync` is killed at any time, or the machine crashes, the next start makes of the file
 /// the table that was there before, rows of earlier runs, and after them each row that the acts before this run's last act
-/// settled. Further rows may follow, but none that isn't the run's.
+/// settled, but for those that went into files before this one. Further rows may follow, but none that isn't the run's.
 pub fn rows_outlast_crashes<R>()
     ensures { RowsOutlastCrashes R }
 {}
 
 /// What `rows_outlast_crashes` says also holds if a sync of the run fails, in a file that wasn't in doubt before, and whatever
-/// happens to the file after that.
+/// happens to the file before and after that, as long as no run goes on in a file in doubt. A failed sync puts a file in doubt,
+/// until a copy has taken its name, or the machine crashes.
 pub fn rows_outlast_failures<R>()
     ensures { RowsOutlastFailures R }
 {}

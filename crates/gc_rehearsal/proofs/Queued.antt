@@ -8,13 +8,13 @@ use Rattle.gc_rehearsal.specs.Queues.{MayAdd, MayRepeat, texts}
 use Rattle.gc_rehearsal.specs.declared.flight.Flight.{Flight}
 use Rattle.gc_rehearsal.proofs.Happened.{texts_on}
 
--- bytes that end in CR LF are the line before it
+-- bytes that end in CR LF are the line before these two bytes, with its CR LF
 pub line_found : (bytes line : List ℕ) → pointwise nat_eq (drop (length bytes - 2) bytes) (13 ∷ 10 ∷ []) ≡ true → line ≡ take (length bytes - 2) bytes → bytes ≡ with_end line
 line_found bytes line ends is =
     let n = length bytes - 2 in
     sym (take-append-drop n bytes) ∙ ap (λ d. take n bytes ++ d) (same_text (drop n bytes) (13 ∷ 10 ∷ []) (sym ends)) ∙ ap (λ l. l ++ 13 ∷ 10 ∷ []) (sym is)
 
--- a queue is what is before its last line, and that line
+-- a queue that isn't empty is what is before its last line, and that line
 last_of : (flights : List Flight) (last : Flight) → 0 < length flights → last ≡ get_or flights (length flights - 1) last → flights ≡ take (length flights - 1) flights ++ last ∷ []
 last_of flights last some is =
     let n = length flights - 1 in

@@ -34,16 +34,16 @@ pub data Happening : Type 0 where
 
 -- a write of these bytes leads from the lines `l` to the lines `m`: nothing of them arrives, or they are a line with its CR LF, which is
 -- sent up
-abbrev pub IsPut : Lines → List ℕ → Lines → Type 0
+abbrev pub IsPut : (l : Lines) → List ℕ → (m : Lines) → Type 0
 IsPut l bytes m = (m ≡ l) ⊎ ((line : List ℕ) × (bytes ≡ with_end line) × (m ≡ record l { up = l.up ++ line ∷ [] }))
 
 -- a read of these bytes leads from the lines `l` to the lines `m`: they are the reply in front, whole, with its CR LF
-abbrev pub IsGiven : Lines → List ℕ → Lines → Type 0
+abbrev pub IsGiven : (l : Lines) → List ℕ → (m : Lines) → Type 0
 IsGiven l bytes m = (line : List ℕ) × (rest : List (List ℕ)) × (l.down ≡ line ∷ rest) × (bytes ≡ with_end line) × (m ≡ record l { down = rest })
 
 -- an act of the link leads from the lines `l` to the lines `m`: a whole write by `IsPut`, a read of bytes by `IsGiven`, and any other act
 -- changes nothing
-abbrev pub Does : Lines → Act → Lines → Type 0
+abbrev pub Does : (l : Lines) → Act → (m : Lines) → Type 0
 Does l (Put bytes) m = IsPut l bytes m
 Does l (Gave bytes moment) m = IsGiven l bytes m
 Does l (Told moment) m = m ≡ l
@@ -72,7 +72,7 @@ IsQuiet Unopened = Unit {0}
 
 -- the replies in flight after the instrument made `reply` (`None`: it made none) are `new`: as before, or with the reply at the back, if
 -- it is one line of at most 512 bytes
-abbrev pub MaySendOut : List (List ℕ) → Option (List ℕ) → List (List ℕ) → Type 0
+abbrev pub MaySendOut : (down : List (List ℕ)) → Option (List ℕ) → (new : List (List ℕ)) → Type 0
 MaySendOut down None new = new ≡ down
 MaySendOut down (Some line) new = (new ≡ down) ⊎ (IsPlain line × (length line ≤ 512) × (new ≡ down ++ line ∷ []))
 
@@ -85,11 +85,11 @@ pub record HasReached (l m : Lines) : Type 0 where
   pub sends : MaySendOut l.down reply m.down
 
 -- `new` are the same lines, with the last one twice
-abbrev pub IsRepeated : List (List ℕ) → List (List ℕ) → Type 0
+abbrev pub IsRepeated : (lines new : List (List ℕ)) → Type 0
 IsRepeated lines new = (front : List (List ℕ)) × (line : List ℕ) × (lines ≡ front ++ line ∷ []) × (new ≡ lines ++ line ∷ [])
 
 -- an event leads from the lines `l` to the lines `m`
-abbrev pub Leads : Lines → Happening → Lines → Type 0
+abbrev pub Leads : (l : Lines) → Happening → (m : Lines) → Type 0
 Leads l (Call act) m = Does l act m
 Leads l Reaches m = HasReached l m
 Leads l Restarts m = m ≡ record l { state = scene_restarted l.state }
@@ -101,7 +101,7 @@ Leads l Loses_down m = m ≡ record l { down = [] }
 Leads l Loses_front m = (line : List ℕ) × (l.down ≡ line ∷ m.down) × (m ≡ record l { down = m.down })
 
 -- these events, in order, lead from the first lines to the last
-abbrev pub LeadAll : Lines → List Happening → Lines → Type 0
+abbrev pub LeadAll : (l : Lines) → List Happening → (m : Lines) → Type 0
 LeadAll l [] m = m ≡ l
 LeadAll l (h ∷ hs) m = (n : Lines) × Leads l h n × LeadAll n hs m
 

@@ -7,7 +7,7 @@ ghost use Rattle.gc_rehearsal.specs.Carrying.{IsOfLine, IsQuiet};
 ghost use Rattle.gc_rehearsal.specs.Queues.{Answers, Sends};
 
 use crate::flight::{
-    Flight, Origin, add, add_request, bytes_with_end, copied, due, repeat_last, write_into,
+    Flight, Origin, add, add_request, copied, due, len_with_end, repeat_last, write_into,
 };
 use gc_lines::{Line, is_plain, read_request};
 use gc_links::{History, Moment, Note};
@@ -150,8 +150,9 @@ impl Carried {
         self.instrument.set_moment(moment);
     }
 
-    /// Hands the next request to the instrument. Its reply, if it makes one, is sent and arrives at the moment `arrives`, unless `lost`.
-    /// Returns whether it made a reply; `false` if no request is in flight.
+    /// Hands the next request to the instrument. Its reply, if it makes one, is sent, and arrives at the moment `arrives`, in milliseconds
+    /// since the line was made, unless `lost`, or it is no line, or memory is refused for it. Returns whether a reply was made, arrived or
+    /// not; `false` if no request is in flight.
     pub fn reach(&mut self, lost: bool, arrives: u64) -> bool
         ensures { self.new ≡ self.old }
     {
@@ -174,7 +175,7 @@ impl Carried {
         ensures within { IfSome result (λ flight. length flight.line.items + 2 ≤ length buf.new) }
     {
         let flight = self.down.pop_front()?;
-        let n = bytes_with_end(&flight.line);
+        let n = len_with_end(&flight.line);
         if buf.len() < n {
             return None;
         }
@@ -229,9 +230,9 @@ fn has_stored(instrument: &SceneInstrument, id: Option<u8>) -> bool {
     }
 }
 
-// The request that a reply answers. If a reply with the id of `request` was stored when that request arrived, and the reply is the stored
-// line `made`, it is that one sent again, and answers the request `origin` as it did then; otherwise it answers `request`. A reply that is
-// stored now and wasn't before becomes `made`, and its request `origin`.
+// Returns the request that a reply answers. If a reply with the id of `request` was stored when that request arrived, and the reply is
+// the stored line `made`, it is that one sent again, and answers the request `origin` as it did then; otherwise it answers `request`. A
+// reply that is stored now and wasn't before becomes `made`, and its request `origin`.
 fn note_origin(
     made: &mut Line,
     origin: &mut Origin,

@@ -5,11 +5,12 @@
 pub struct Fate {
     /// Whether it doesn't arrive.
     pub lost: bool,
-    /// Whether it arrives twice, the second time directly after the first. Without effect on a line that is lost.
+    /// Whether it arrives twice, the second time directly after the first. Without effect on a line that is lost or cut.
     pub repeated: bool,
-    /// How long it is in flight, in milliseconds. It takes longer if an earlier line of its direction arrives later than that.
+    /// How long it is in flight, in milliseconds. It takes longer if an earlier line of its direction arrives later than that, or if lines
+    /// are held up (`hold`).
     pub delay: u64,
-    /// For how many milliseconds no line that is sent from now on arrives, in either direction. 0: no line is held up.
+    /// For how many milliseconds no line that is sent from now on, this one included, arrives, in either direction. 0: no line is held up.
     pub hold: u64,
     /// Whether the connection closes. A request is cut, and doesn't arrive; at a reply the other end closes when the reply would have
     /// arrived.
@@ -18,18 +19,19 @@ pub struct Fate {
 
 /// Decides what happens on a line. No theorem depends on its decisions.
 pub trait Chance {
-    /// What happens to the next line that is sent. Called once for each request that is written, and once for each request that reaches
-    /// the instrument, about its reply.
+    /// What happens to the next line that is sent. Called once for each request that is written over a connection, and once for each
+    /// request that reaches the instrument, about its reply, even if it makes none.
     fn fate(&mut self) -> Fate;
 
     /// How many bytes of a request are sent before the connection closes. As many as the request has, or more, count as all but one.
     fn cut(&mut self) -> usize;
 
-    /// Whether the lines in flight outlive a close and arrive later; else all of them are lost. Called twice at each close: for the
-    /// requests, and then for the replies.
+    /// Whether the lines in flight in one direction outlive a close and arrive later; else all of them are lost. Called twice at each
+    /// close: for the requests, and then for the replies.
     fn keeps(&mut self) -> bool;
 
-    /// For how many milliseconds from now on no connection can be made. Called when a connection is wanted. 0: the connection is made.
+    /// For how many milliseconds from now on no connection can be made. Called when a connection is wanted and no earlier refusal lasts.
+    /// 0: the connection is made.
     fn refusal(&mut self) -> u64;
 
     /// Whether the instrument restarts before the next request reaches it. Called once for each request that does.

@@ -11,13 +11,14 @@ pub struct Counts {
     pub executed: u64,
     /// Replies that reads gave.
     pub replies: u64,
-    /// Lines that were lost one by one, in either direction. Those that a close loses aren't counted.
+    /// Fates that lost a line, in either direction, also a reply that the instrument didn't make, and replies for which a reader had no
+    /// room. Lines that a close loses aren't counted.
     pub lost: u64,
-    /// Lines that arrive twice, in either direction.
+    /// Fates by which a line arrives twice, in either direction, also a reply that the instrument didn't make.
     pub repeated: u64,
     /// How often the line held up the lines after one.
     pub holds: u64,
-    /// Fates that closed the connection, at once or at a later moment.
+    /// Fates by which the other end closes the connection, at once or at a later moment, also if it is closed before that.
     pub closes: u64,
     /// How often the line began to refuse connections.
     pub refusals: u64,

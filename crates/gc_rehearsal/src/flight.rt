@@ -40,7 +40,7 @@ pub(crate) struct Flight {
     pub origin: Origin,
 }
 
-/// A line with these bytes.
+/// A line with these bytes, at most 512.
 pub(crate) fn copied(bytes: &[u8]) -> Line
     requires { length bytes.now ≤ 512 }
     ensures { result.items ≡ bytes.now }
@@ -116,7 +116,7 @@ pub(crate) fn due(queue: &VecDeque<Flight>) -> Option<u64> {
 }
 
 /// How many bytes a line has with its CR LF.
-pub(crate) fn bytes_with_end(line: &Line) -> usize
+pub(crate) fn len_with_end(line: &Line) -> usize
     ensures { result ≡ length line.now.items + 2 }
 {
     line.len() + 2

@@ -8,8 +8,8 @@
 mod carried;
 mod chance;
 mod counts;
-mod course;
 mod flight;
+mod line_state;
 mod rehearsed;
 mod truth;
 

@@ -8,7 +8,7 @@ ghost use Rattle.gc_rehearsal.specs.Reading.{MayRead, Reads};
 use crate::carried::Carried;
 use crate::chance::Chance;
 use crate::counts::Counts;
-use crate::course::{Course, Next};
+use crate::line_state::{LineState, Next};
 use crate::truth::Truth;
 use gc_lines::PortFailed;
 use gc_links::{Came, Link, Moment, Note};
@@ -25,7 +25,7 @@ pub struct Rehearsed<C> {
     /// Decides what happens to each line.
     pub chance: C,
     carried: Carried,
-    course: Course,
+    state: LineState,
 }
 
 impl<C> Rehearsed<C> {
@@ -37,7 +37,7 @@ impl<C> Rehearsed<C> {
         Rehearsed {
             chance,
             carried: Carried::new(alloc, instrument),
-            course: Course::new(alloc, utc),
+            state: LineState::new(alloc, utc),
         }
     }
 
@@ -51,36 +51,36 @@ impl<C> Rehearsed<C> {
 
     /// Milliseconds since the start.
     pub fn elapsed(&self) -> u64 {
-        self.course.now
+        self.state.now
     }
 
     /// How often each event happened.
     pub fn counts(&self) -> Counts {
-        self.course.counts
+        self.state.counts
     }
 
     /// The truth of each reply that reads gave since the run began, in their order.
     pub fn truths(&self) -> &[Truth] {
-        self.course.truths.as_slice()
+        self.state.truths.as_slice()
     }
 
     /// Begins a run: its moments count from now, and the truths so far are dropped.
     pub fn begin(&mut self)
         ensures { self.new.carried ≡ self.old.carried }
     {
-        self.course.begin();
+        self.state.begin();
     }
 
-    /// How many truths are missing, because memory was refused for them.
+    /// How many truths are missing since the start, because memory was refused for them.
     pub fn missing_truths(&self) -> u64 {
-        self.course.missing_truths
+        self.state.missing_truths
     }
 
     // The next event up to the moment `limit`.
     fn next(&self, limit: u64) -> Next {
         let request = self.carried.request_due();
         let reply = self.carried.reply_due();
-        self.course.next(request, reply, limit)
+        self.state.next(request, reply, limit)
     }
 
     // A read during which nothing comes until the moment `limit`: sets the clock to it, and returns silence. `buf` is there for the clause
@@ -89,8 +89,8 @@ impl<C> Rehearsed<C> {
         ensures { Reads self.old.carried self.new.carried result buf.now }
     {
         let _ = buf;
-        self.course.come_to(limit);
-        let moment = self.course.moment();
+        self.state.come_to(limit);
+        let moment = self.state.moment();
         self.carried.note(&Note::Silent(moment));
         Came::Silence(moment)
     }
@@ -101,7 +101,7 @@ impl<C> Rehearsed<C> {
         ensures { Reads self.old.carried self.new.carried result buf.now }
     {
         let _ = buf;
-        self.course.come_to(moment);
+        self.state.come_to(moment);
         self.carried.note(&Note::Ended);
         Came::End
     }
@@ -110,14 +110,14 @@ impl<C> Rehearsed<C> {
     fn give(&mut self, moment: u64, buf: &mut [u8]) -> Option<Came>
         ensures { MayRead self.old.carried self.new.carried result buf.new }
     {
-        self.course.come_to(moment);
-        let moment = self.course.moment();
+        self.state.come_to(moment);
+        let moment = self.state.moment();
         let Some(flight) = self.carried.give(buf, moment) else {
-            self.course.count_lost();
+            self.state.count_lost();
             return None;
         };
         let n = flight.line.len() + 2;
-        self.course.keep_truth(flight);
+        self.state.keep_truth(flight);
         Some(Came::Bytes(n, moment))
     }
 }
@@ -128,22 +128,22 @@ impl<C: Chance> Rehearsed<C> {
     pub fn wait(&mut self, millis: u64)
         ensures { self.new.carried ≡ self.old.carried }
     {
-        let limit = self.course.from_now(millis);
+        let limit = self.state.from_now(millis);
         for _ in 0..u64::MAX {
             match self.carried.request_due() {
                 Some(moment) if moment <= limit => self.reach(moment),
                 _ => break,
             }
         }
-        self.course.come_to(limit);
+        self.state.come_to(limit);
     }
 
     // Restarts the instrument, if the chance says so.
-    fn restart(&mut self)
+    fn restart_by_chance(&mut self)
         ensures { self.new.carried ≡ self.old.carried }
     {
         if self.chance.restarts() {
-            self.course.count_restart();
+            self.state.count_restart();
             self.carried.restart();
         }
     }
@@ -153,11 +153,11 @@ impl<C: Chance> Rehearsed<C> {
     fn reach(&mut self, moment: u64)
         ensures { self.new.carried ≡ self.old.carried }
     {
-        self.course.come_to(moment);
-        self.restart();
-        self.carried.pass(self.course.now);
+        self.state.come_to(moment);
+        self.restart_by_chance();
+        self.carried.pass(self.state.now);
         let fate = self.chance.fate();
-        let arrives = self.course.schedule_reply(fate);
+        let arrives = self.state.schedule_reply(fate);
         let answered = self.carried.reach(fate.lost, arrives);
         if answered && fate.repeated && !fate.lost {
             self.carried.repeat_reply();
@@ -179,7 +179,8 @@ impl<C: Chance> Rehearsed<C> {
         }
     }
 
-    // Sends a whole request, which is lost, or arrives at the moment `arrives`, twice if `repeated`.
+    // Sends a whole request, which is lost, or arrives at the moment `arrives`, twice if `repeated`. Bytes that aren't a line of at most
+    // 512 bytes with its CR LF are lost, too.
     fn send(&mut self, bytes: &[u8], lost: bool, repeated: bool, arrives: u64)
         ensures { self.new.carried ≡ self.old.carried ++ Put bytes.now ∷ [] }
     {
@@ -187,8 +188,8 @@ impl<C: Chance> Rehearsed<C> {
             self.carried.put_nothing(bytes);
             return;
         }
-        let request = self.course.counts.requests.saturating_sub(1);
-        self.carried.put(bytes, arrives, request, self.course.now);
+        let request = self.state.counts.requests.saturating_sub(1);
+        self.carried.put(bytes, arrives, request, self.state.now);
         if repeated {
             self.carried.repeat_request();
         }
@@ -201,13 +202,13 @@ impl<C: Chance> Rehearsed<C> {
         ensures part { result < length bytes.now }
     {
         let n = self.chance.cut().min(bytes.len() - 1);
-        self.course.cut();
+        self.state.cut();
         self.carried.note(&Note::Cut(bytes, n));
         n
     }
 
     // Sends a request with a fate of the chance. `Err(n)`: the other end closed the connection, and of the request only the first n bytes
-    // were sent.
+    // were sent, which aren't all.
     fn put_request(&mut self, bytes: &[u8]) -> Result<(), usize>
         requires { 0 < length bytes.now }
         ensures tells { self.new.carried ≡ self.old.carried ++ put_act result bytes.now ∷ [] }
@@ -217,28 +218,29 @@ impl<C: Chance> Rehearsed<C> {
         if fate.closes {
             return Err(self.cut(bytes));
         }
-        let arrives = self.course.schedule_request(fate);
+        let arrives = self.state.schedule_request(fate);
         self.send(bytes, fate.lost, fate.repeated, arrives);
         Ok(())
     }
 
-    // Whether a connection is refused now: by an earlier refusal that still lasts, or by one that the chance decides now.
-    fn is_refused(&mut self) -> bool
+    // Decides whether a connection is refused now, and returns it: an earlier refusal still lasts, or the chance decides on a new one,
+    // which is counted.
+    fn decide_refusal(&mut self) -> bool
         ensures { self.new.carried ≡ self.old.carried }
     {
-        if self.course.is_refused() {
+        if self.state.is_refused() {
             return true;
         }
         let millis = self.chance.refusal();
         if millis == 0 {
             return false;
         }
-        self.course.refuse(millis);
+        self.state.refuse(millis);
         true
     }
 
     // Drops the requests in flight unless the chance keeps them, and then the replies in flight unless it keeps those.
-    fn lose(&mut self)
+    fn lose_by_chance(&mut self)
         ensures { self.new.carried ≡ self.old.carried }
     {
         if !self.chance.keeps() {
@@ -257,7 +259,7 @@ impl<C: Chance> Link for Rehearsed<C> {
 
     // The present moment of the line.
     fn now(&mut self) -> Result<Moment, PortFailed> {
-        let moment = self.course.moment();
+        let moment = self.state.moment();
         self.carried.note(&Note::Told(moment));
         Ok(moment)
     }
@@ -265,7 +267,7 @@ impl<C: Chance> Link for Rehearsed<C> {
     // Returns the next reply, whole, or the end of the connection, or silence once `millis` milliseconds, but at least one, have gone by.
     // Without a connection it only waits.
     fn read(&mut self, buf: &mut [u8], millis: u64) -> Came {
-        let limit = self.course.from_now(millis.max(1));
+        let limit = self.state.from_now(millis.max(1));
         for _ in 0..u64::MAX {
             if let Some(came) = self.step(limit, buf) {
                 return came;
@@ -278,7 +280,7 @@ impl<C: Chance> Link for Rehearsed<C> {
     // Sends a request, which a close may cut; nothing is sent without a connection. A line feed alone clears the instrument's receiver,
     // and is no request.
     fn put(&mut self, bytes: &[u8]) -> Result<(), usize> {
-        if !self.course.is_up() {
+        if !self.state.is_up() {
             self.carried.note(&Note::Cut(bytes, 0));
             return Err(0);
         }
@@ -291,18 +293,18 @@ impl<C: Chance> Link for Rehearsed<C> {
 
     // Closes the connection. The lines in flight are lost, or arrive later, as the chance decides.
     fn close(&mut self) {
-        self.course.close();
-        self.lose();
+        self.state.close();
+        self.lose_by_chance();
         self.carried.note(&Note::Closed);
     }
 
     // Makes a connection, unless it is refused.
     fn open(&mut self) -> Result<(), PortFailed> {
-        if self.is_refused() {
+        if self.decide_refusal() {
             self.carried.note(&Note::Unopened);
             return Err(PortFailed);
         }
-        self.course.open();
+        self.state.open();
         self.carried.note(&Note::Opened);
         Ok(())
     }

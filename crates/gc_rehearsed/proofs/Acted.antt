@@ -29,7 +29,7 @@ use Rattle.gc_world.specs.Clients.{by_ids}
 use Rattle.gc_world.specs.Order.{Each}
 use Rattle.gc_field.specs.Asking.{IsAskedFor, IsTaken, MeansTurns}
 use Rattle.gc_field.specs.Begin as begin
-use Rattle.gc_field.specs.Begin.{InFlight, Model, UnderWay, leaves, turns}
+use Rattle.gc_field.specs.Begin.{InFlight, Model, leaves, turns}
 use Rattle.gc_field.specs.Beginnings.{on_line}
 use Rattle.gc_field.specs.Field as field
 use Rattle.gc_field.specs.Meaning.{IsHeard, IsDiscarded}
@@ -38,8 +38,9 @@ use Rattle.gc_field.specs.Shown.{first_heard, shows}
 use Rattle.gc_field.specs.World.{Numbered, Request, World, down_delivered, requested, with_settled, without}
 use Rattle.gc_rehearsal.specs.Carrying.{Lines, Does, IsGiven, IsPut}
 use Rattle.gc_rehearsed.proofs.Courses.{FromBegin, FromClient, World7, move7, move_first, steps_move, steps_turn, turn_first}
-use Rattle.gc_rehearsed.proofs.Steps.{AreLinesOf, Holds, IsLineOf, IsOne, Lose_down, Lose_up, flow, lines_on, stepped, without_last}
+use Rattle.gc_rehearsed.proofs.Steps.{AreLinesOf, Holds, IsLineOf, IsOne, Lose_down, Lose_up, flow, lines_on, stepped, without_last, dropped}
 use Rattle.gc_field.proofs.BeginJoin.{IsSmall, small_left}
+use Rattle.gc_field.proofs.BeginWords.{cons_not_nil}
 
 -- Lines of bytes.
 
@@ -61,20 +62,6 @@ feed_no_line line e =
 -- two lines that are the same bytes with CR LF are the same
 pub same_line : (line other : List ℕ) → with_end line ≡ with_end other → line ≡ other
 same_line line other e = append_cancel_right line other (13 ∷ 10 ∷ []) e
-
--- an empty list isn't one with an element
-pub nil_not_cons : {A : Type 0} (x : A) (xs : List A) → [] ≡ x ∷ xs → ⊥
-nil_not_cons x xs e = cc
-
--- what is in flight in the field is what is in flight on the line (`Holds`), also once the front reply is lost in both
-dropped : (u : UnderWay SceneState) (l : Lines) (line : List ℕ) (rest : List (List ℕ)) → Holds u l → l.down ≡ line ∷ rest → Holds (stepped u (Lose_down zero)) (record l { down = rest })
-dropped u l line rest holds front = record {
-  up = holds.up;
-  down = ap (without zero) (holds.down ∙ front);
-  one = (subst (Each IsOne) front holds.one).1;
-  state = holds.state;
-  good = holds.good;
-}
 
 -- While the station synchronizes.
 
@@ -159,7 +146,7 @@ turns_comes : (b : Model SceneState) (word : List ℕ) (q : List (InFlight (List
     → l.down ≡ line ∷ rest → n ≡ record l { down = rest } → TurnsTo b (part.Hears line ∷ []) (left_by word (heard line)) n
 turns_comes b word [] line rest l n is left holds front new show steps others m done on =
     let none : [] ≡ line ∷ rest = sym (ap (λ (d : List (InFlight (List ℕ))). map (λ x. x.line) d) is) ∙ holds.down ∙ front in
-    absurd (nil_not_cons line rest none)
+    absurd (cons_not_nil line rest (sym none))
 turns_comes b word (x ∷ q) line rest l n is left holds front new show steps others m done on =
     subst (λ (t : List part.Turn). FromBegin b (t ++ show) steps others m done) (shows_is ∙ ap (λ z. part.Hears z ∷ []) line_is)
     (turn_first b begin.Comes show steps others m done tt (subst (λ (c : Model SceneState). FromBegin c show steps others m done) (sym came) (on (once_came b x q) holds_next left_next))) where
@@ -278,7 +265,7 @@ moves_comes : (w : World7) (c : ById Asked) (q : List (Numbered (List ℕ))) (li
     → Holds (on_line w.wire) l → l.down ≡ line ∷ rest → n ≡ record l { down = rest } → MovesTo w (client.Hear line ∷ []) (client_after c (client.Hear line ∷ [])) n
 moves_comes w c [] line rest l n is same holds front new steps others m done on =
     let none : [] ≡ line ∷ rest = sym (ap (λ (d : List (Numbered (List ℕ))). map (λ x. x.line) d) is) ∙ holds.down ∙ front in
-    absurd (nil_not_cons line rest none)
+    absurd (cons_not_nil line rest (sym none))
 moves_comes w c (x ∷ q) line rest l n is same holds front new steps others m done on =
     move_first w (field.Comes line) steps others m done (x.number, q, is ∙ front_is)
     (subst (λ (v : World7). FromClient v steps others m done) (sym came) (on (once_heard w x q) holds_next client_next)) where

@@ -12,6 +12,7 @@ use Rattle.gc_texts.specs.Tasks.{call_at}
 use Rattle.gc_texts.specs.declared.tasks.Task.{Task}
 use Rattle.gc_texts.proofs.LogStamps.{date_within}
 use Rattle.gc_rehearsed.specs.Rehearsals.{IsAskable}
+use Rattle.gc_station.proofs.Lists.{all_append}
 
 -- the numbers of the call that sets the date to a moment lie in their types
 date_fits : (utc : ℕ) → IsAskedFitting (Table (SetDate (date_time utc)))
@@ -28,16 +29,11 @@ askable_at task fits utc = cond_both task.now (Table (SetDate (date_time utc))) 
 
 -- Loops over commands.
 
--- if P holds of all elements of a list, and of x, it holds of all elements of the list with x at its end
-all_and_one : {A : Type 0} (P : A → Type 0) (xs : List A) (x : A) → AllByRecursion P xs → P x → AllByRecursion P (xs ++ x ∷ [])
-all_and_one P [] x all one = (one, tt)
-all_and_one P (y ∷ ys) x all one = (all.0, all_and_one P ys x all.1 one)
-
 -- if P holds of the elements in front of place i, and of the one at that place, it holds of those in front of the next place
 pub all_in_front : {A : Type 0} (P : A → Type 0) (xs : List A) (i : ℕ) (x : A) → i < length xs → x ≡ get_or xs i x → AllByRecursion P (take i xs) → P x
     → AllByRecursion P (take (i + 1) xs)
 all_in_front P xs i x within is all one =
-    subst (AllByRecursion P) (sym (take_more xs i x within ∙ ap (λ y. take i xs ++ y ∷ []) (sym is))) (all_and_one P (take i xs) x all one)
+    subst (AllByRecursion P) (sym (take_more xs i x within ∙ ap (λ y. take i xs ++ y ∷ []) (sym is))) (all_append P (take i xs) (x ∷ []) all (one, tt))
 
 -- if P holds of the first n elements of a list, which has at most n, it holds of all
 pub all_of_them : {A : Type 0} (P : A → Type 0) (xs : List A) (n : ℕ) → length xs ≤ n → AllByRecursion P (take n xs) → AllByRecursion P xs

@@ -24,7 +24,7 @@ use Rattle.gc_field.specs.World.{Numbered, Request, World}
 use Rattle.gc_rehearsal.specs.Carrying.{Lines}
 use Rattle.gc_rehearsed.proofs.Sides.{client_move, is_move, is_turn, leaves_turn, left_turn, line_move, move_of, seen_none, shows_none, turn_of}
 use Rattle.gc_rehearsed.proofs.Steps.{AreSteps, Holds, Step, all_stepped, flow, stepped}
-use Rattle.gc_field.proofs.InARow.{same_lines}
+use Rattle.gc_field.proofs.InARow.{same_lines, run}
 use Rattle.gc_field.proofs.BeginWords.{cons_not_nil}
 
 -- a world whose client knows ids, and whose instrument is that of a scene
@@ -55,8 +55,8 @@ abbrev pub IsLastUnlessBegun : List ℕ → Bool → List (Run SceneState) → T
 IsLastUnlessBegun [] done rs = Unit {0}
 IsLastUnlessBegun (asked ∷ word) done rs = (rs ≡ []) × (done ≡ false)
 
--- from a synchronization on: its turns show `turns`, and the moves after it `steps`; later runs show the other parts, and lead to
--- these lines
+-- from the state b of a synchronization on: its turns show `turns`, and the moves after it `steps`; later runs show the other parts,
+-- and lead to the lines m. `done` says, as in `Later`, whether the station has synchronized at the end
 pub record FromBegin (b : Model SceneState) (turns : List part.Turn) (steps : List (client.Step Asked)) (others : List Part) (m : Lines) (done : Bool) : Type 0 where
   pub ts : List (begin.Turn SceneState)
   pub ms : List (Move SceneState)
@@ -68,7 +68,8 @@ pub record FromBegin (b : Model SceneState) (turns : List part.Turn) (steps : Li
   pub later : Later (left_if WINDOW scene_ends (turned scene_ends ts b).left (turned scene_ends ts b) ms) rs others m done
   pub rest : IsLastUnlessBegun (turned scene_ends ts b).left done rs
 
--- from a client on: its moves show `steps`; later runs show the other parts, and lead to these lines
+-- from the world w of a client on: its moves show `steps`; later runs show the other parts, and lead to the lines m, with `done` as
+-- in `Later`
 pub record FromClient (w : World7) (steps : List (client.Step Asked)) (others : List Part) (m : Lines) (done : Bool) : Type 0 where
   pub ms : List (Move SceneState)
   pub rs : List (Run SceneState)
@@ -162,11 +163,8 @@ begun_from b show steps others m done none quiet f = record {
   rest = subst (λ left. IsLastUnlessBegun left done f.rs) (sym none) tt;
 }
 
--- a run with these turns and moves
-abbrev pub run : List (begin.Turn SceneState) → List (Move SceneState) → Run SceneState
-run ts ms = record { turns = ts; moves = ms }
-
--- how many are killed in a row where one run follows `n`, by the ids that it leaves and its turns
+-- how many are killed in a row once the run r has followed `n` that were: none, if it has synchronized (no id is left); else at most
+-- n + 1, and no run follows it, and the station hasn't synchronized at the end (`done`)
 killed_first : (n : ℕ) (u : UnderWay SceneState) (r : Run SceneState) (left : List ℕ) (ts : List (begin.Turn SceneState)) (done : Bool) (rs : List (Run SceneState))
     → (turned scene_ends ts (begins u)).left ≡ left → r.turns ≡ ts → IsLastUnlessBegun left done rs
     → ((left ≡ []) × (killed_by scene_ends n u r ts ≡ 0)) ⊎ ((rs ≡ []) × (done ≡ false) × (killed_by scene_ends n u r ts ≤ n + 1))
@@ -187,7 +185,8 @@ few_from n u show steps others m done f small = by_end (killed_first n u (run f.
   none_killed : killed_by scene_ends n u (run f.ts f.ms) f.ts ≡ 0 → killed_by scene_ends n u (run f.ts f.ms) f.ts ≤ 5
   none_killed none = omega (arith, none)
 
-  -- a bound of the count of killed stations with 0 before is one with `n` before, whether the station has synchronized at the end (`d`) or not
+  -- where at most as many are killed in a row as the last station makes of 0, at most as many are as it makes of `n`, whether it
+  -- has synchronized at its end (`d`) or not
   by_done : (d : Bool) → killed_over scene_ends 0 (left_by_run WINDOW scene_ends u (run f.ts f.ms)) f.rs ≤ unbegun 0 d
       → killed_over scene_ends 0 (left_by_run WINDOW scene_ends u (run f.ts f.ms)) f.rs ≤ unbegun n d
   by_done true h = h

@@ -4,4 +4,4 @@ pub mod Sides
 pub mod Courses
 pub mod Acted
 pub mod Rehearsed
-pub mod Row
+pub mod InARow

@@ -18,7 +18,7 @@ use Rattle.gc_station.specs.Beginnings.{unanswered_after}
 use Rattle.gc_station.specs.Begun.{heard_in}
 use Rattle.gc_station.specs.Deciding.{has_begun, is_none_left}
 use Rattle.gc_station.specs.Model.{Model, Performs, Runs, action_at, after, after_all, losing, moved, opening, waiting_of, with_progress}
-use Rattle.gc_station.specs.Parts.{MarksAsk, MarkAsks, Part, acting, beginning, doing, ends_part, in_front, joined, nothing, parts_of, putting}
+use Rattle.gc_station.specs.Parts.{MarksAsk, MarkAsks, Part, part_of_act, sync_part, client_part, ends_part, in_front, joined, nothing, parts_of, put_part}
 use Rattle.gc_station.specs.Progressing.{is_over, loses_all, turned}
 use Rattle.gc_station.specs.Scopes.{Scope}
 use Rattle.gc_station.proofs.Asked.{FirstHasNoTurns, goes_begun, no_turns, word_of}
@@ -31,7 +31,7 @@ use Rattle.gc_station.proofs.Meant as meant
 use Rattle.gc_station.proofs.Parting.{keeps_action, leads}
 use Rattle.gc_station.proofs.Turns.{over_stays}
 use Rattle.gc_station.proofs.Lists.{all_at}
-use Rattle.gc_station.proofs.Beginnings.{word_anew}
+use Rattle.gc_station.proofs.Beginnings.{word_if_resynchronizing}
 use Rattle.gc_field.specs.Begin as begin
 use Rattle.gc_field.specs.Begin.{UnderWay, begins, leaves, none_under_way}
 use Rattle.gc_field.specs.Asking.{MeansTurns}
@@ -50,8 +50,9 @@ use Rattle.gc_field.proofs.BeginWords.{cons_not_nil}
 use Rattle.gc_rehearsal.specs.Carrying.{Lines, Happening, Call, Reaches, Restarts, Passes, Repeats_up, Repeats_down, Loses_up, Loses_down, Loses_front, Does, IsOfLine, LeadAll, Leads, acts_of}
 use Rattle.gc_rehearsed.specs.Rehearsals.{AreAskable, IsRehearsed, RehearsalsAreFaithful}
 use Rattle.gc_rehearsed.proofs.Acted.{MovesTo, TurnsTo, feed_no_line, ids_left, moves_gave, moves_moment, moves_none, moves_sends, same_line, turns_act}
-use Rattle.gc_rehearsed.proofs.Courses.{FromBegin, FromClient, World7, begins_line, begun_from, begun_line, ended_from, ended_over, ends_begin, ends_client, run, steps_move, steps_turn}
+use Rattle.gc_rehearsed.proofs.Courses.{FromBegin, FromClient, World7, begins_line, begun_from, begun_line, ended_from, ended_over, ends_begin, ends_client, steps_move, steps_turn}
 use Rattle.gc_rehearsed.proofs.Steps.{Holds, happens}
+use Rattle.gc_field.proofs.InARow.{run}
 
 -- The parts of acts, by the first one and the others.
 
@@ -85,7 +86,7 @@ some_front p false (q ∷ ps) = tt
 pub some_parts : (plan : Plan) (commands : List Task) (s : Model) (acts : List Act) → HasSome (parts_of plan commands s acts)
 some_parts plan commands s [] = tt
 some_parts plan commands s (act ∷ acts) =
-    some_front (acting plan commands s (action_at plan s) act) (ends_part plan commands s act) (parts_of plan commands (after plan commands s act) acts)
+    some_front (part_of_act plan commands s (action_at plan s) act) (ends_part plan commands s act) (parts_of plan commands (after plan commands s act) acts)
 
 -- what follows a synchronization shows these parts
 abbrev pub OnBegin : begin.Model SceneState → Lines → List Part → Bool → Type 0
@@ -95,23 +96,23 @@ OnBegin b m ps done = FromBegin b (first_part ps).turns (first_part ps).steps (o
 abbrev pub OnClient : World7 → Lines → List Part → Bool → Type 0
 OnClient w m ps done = FromClient w (first_part ps).steps (other_parts ps) m done
 
--- `OnBegin` of an act's part, put in front of the later parts without ending, if the act comes to its turns (`TurnsTo`), and the later parts
--- are `OnBegin` from there
+-- `OnBegin` of an act's part and the later parts, of which the first goes on that part, if the act comes to its turns (`TurnsTo`),
+-- and the later parts are `OnBegin` from there
 begin_first : (b : begin.Model SceneState) (p : Part) (word : List ℕ) (n m : Lines) (ps : List Part) (done : Bool) → HasSome ps → p.steps ≡ [] → TurnsTo b p.turns word n
     → ((c : begin.Model SceneState) → Holds (leaves c) n → c.left ≡ word → OnBegin c m ps done) → OnBegin b m (in_front p false ps) done
 begin_first b p word n m [] done some none to on = absurd some
 begin_first b p word n m (q ∷ ps) done some none to on =
     subst (λ (ss : List (client.Step Asked)). FromBegin b (p.turns ++ q.turns) (ss ++ q.steps) ps m done) (sym none) (to q.turns q.steps ps m done on)
 
--- `OnClient` of an act's part, put in front of the later parts without ending, if the act comes to its steps (`MovesTo`), and the later
--- parts are `OnClient` from there
+-- `OnClient` of an act's part and the later parts, of which the first goes on that part, if the act comes to its steps (`MovesTo`),
+-- and the later parts are `OnClient` from there
 client_first : (w : World7) (p : Part) (c : ById Asked) (n m : Lines) (ps : List Part) (done : Bool) → HasSome ps → MovesTo w p.steps c n
     → ((v : World7) → Holds (on_line v.wire) n → v.client ≡ c → OnClient v m ps done) → OnClient w m (in_front p false ps) done
 client_first w p c n m [] done some to on = absurd some
 client_first w p c n m (q ∷ ps) done some to on = to q.steps ps m done on
 
--- `OnClient` of an act's part, put in front of the later parts and ended by the act, if the act comes to its steps (`MovesTo`), and the later
--- parts are the other parts of `FromClient` from there
+-- `OnClient` of an act's part, which ends with the act, and the later parts, if the act comes to its steps (`MovesTo`), and the
+-- later parts are the other parts of `FromClient` from there
 client_last : (w : World7) (p : Part) (c : ById Asked) (n m : Lines) (ps : List Part) (done : Bool) → MovesTo w p.steps c n
     → ((v : World7) → Holds (on_line v.wire) n → FromClient v [] ps m done) → OnClient w m (in_front p true ps) done
 client_last w p c n m ps done to on =
@@ -143,9 +144,9 @@ losing_loses false t = refl
 module _ (plan : Plan) (commands : List Task) (askable : AreAskable commands) where
   -- an act that puts bytes, once the station has synchronized, comes to the steps that it means
   moves_put : (s : Model) (act : Act) (bytes : List ℕ) (w : World7) (l n : Lines) → Invariant plan commands s → w.client ≡ s.client → Holds (on_line w.wire) l
-      → (let p = putting plan commands s (action_at plan s) in MarksAsk commands p.marks (sent_by s.client p.steps))
-      → meant.IsPut s bytes (putting plan commands s (action_at plan s)) → (n ≡ l) ⊎ ((line : List ℕ) × (bytes ≡ with_end line) × (n ≡ record l { up = l.up ++ line ∷ [] }))
-      → MovesTo w (putting plan commands s (action_at plan s)).steps (client_after s.client (putting plan commands s (action_at plan s)).steps) n
+      → (let p = put_part plan commands s (action_at plan s) in MarksAsk commands p.marks (sent_by s.client p.steps))
+      → meant.IsPut s bytes (put_part plan commands s (action_at plan s)) → (n ≡ l) ⊎ ((line : List ℕ) × (bytes ≡ with_end line) × (n ≡ record l { up = l.up ++ line ∷ [] }))
+      → MovesTo w (put_part plan commands s (action_at plan s)).steps (client_after s.client (put_part plan commands s (action_at plan s)).steps) n
   moves_put s act bytes w l n fine is holds of (inl feed) (inl same) =
       subst (λ (p : Part). MovesTo w p.steps (client_after s.client p.steps) n) (sym feed.1) (moves_none w s.client l n is holds same)
   moves_put s act bytes w l n fine is holds of (inl feed) (inr sent) = absurd (feed_no_line sent.0 (sym feed.0 ∙ sent.1))
@@ -164,18 +165,19 @@ module _ (plan : Plan) (commands : List Task) (askable : AreAskable commands) wh
 
   -- what an act sends once the station has synchronized is of its mark's command, or a null procedure
   sends_of : (s : Model) (act : Act) → Invariant plan commands s → Performs commands s (action_at plan s) act → has_begun s.progress ≡ true
-      → MarksAsk commands (doing plan commands s (action_at plan s) act).marks (sent_by s.client (doing plan commands s (action_at plan s) act).steps)
+      → MarksAsk commands (client_part plan commands s (action_at plan s) act).marks (sent_by s.client (client_part plan commands s (action_at plan s) act).steps)
   sends_of s act fine obeys begun =
       let o = action_at plan s in
       let books = leads plan commands s o act fine (action_for plan s.progress (waiting_of s)) obeys in
-      subst (λ (b : Bool). MarksAsk commands (if b then doing plan commands s o act else beginning s o act).marks
-      (sent_by s.client (if b then doing plan commands s o act else beginning s o act).steps))
+      subst (λ (b : Bool). MarksAsk commands (if b then client_part plan commands s o act else sync_part s o act).marks
+      (sent_by s.client (if b then client_part plan commands s o act else sync_part s o act).steps))
       begun books.wrote.sent
 
   -- an act once the station has synchronized comes to the steps that it means
   moves_act : (s : Model) (act : Act) (w : World7) (l n : Lines) → Invariant plan commands s → Performs commands s (action_at plan s) act → has_begun s.progress ≡ true → s.rest ≡ []
       → w.client ≡ s.client → Holds (on_line w.wire) l → Does l act n
-      → ((after plan commands s act).rest ≡ []) × MovesTo w (doing plan commands s (action_at plan s) act).steps (client_after s.client (doing plan commands s (action_at plan s) act).steps) n
+      → ((after plan commands s act).rest ≡ [])
+      × MovesTo w (client_part plan commands s (action_at plan s) act).steps (client_after s.client (client_part plan commands s (action_at plan s) act).steps) n
   moves_act s (Put bytes) w l n fine obeys begun rest is holds does = (
     (is_meant plan commands s (Put bytes) true begun fine obeys).1.1 ∙ rest,
     moves_put s (Put bytes) bytes w l n fine is holds (sends_of s (Put bytes) fine obeys begun) (put_is plan commands s (Put bytes) bytes fine obeys refl begun) does,
@@ -185,7 +187,7 @@ module _ (plan : Plan) (commands : List Task) (askable : AreAskable commands) wh
     moves_put s (Cut bytes count) bytes w l n fine is holds (sends_of s (Cut bytes count) fine obeys begun) (put_is plan commands s (Cut bytes count) bytes fine obeys refl begun) (inl does),
   )
   moves_act s (Gave piece moment) w l n fine obeys begun rest is holds does =
-      let p = doing plan commands s (action_at plan s) (Gave piece moment) in
+      let p = client_part plan commands s (action_at plan s) (Gave piece moment) in
       let behind = (after plan commands s (Gave piece moment)).rest in
       let means = (is_meant plan commands s (Gave piece moment) true begun fine obeys).1 in
       moves_gave w s.client piece moment p.steps behind l n is holds (subst (λ r. IsHeard r piece moment p.steps behind ⊎ IsDiscarded r moment p.steps behind) rest means) does
@@ -208,14 +210,14 @@ module _ (plan : Plan) (commands : List Task) (askable : AreAskable commands) wh
 
   -- if nothing is lost, the client is the one after the steps of the act
   client_on : (s : Model) (act : Act) → Invariant plan commands s → Performs commands s (action_at plan s) act → has_begun s.progress ≡ true
-      → loses_all (after plan commands s act).progress ≡ false → (after plan commands s act).client ≡ client_after s.client (doing plan commands s (action_at plan s) act).steps
+      → loses_all (after plan commands s act).progress ≡ false → (after plan commands s act).client ≡ client_after s.client (client_part plan commands s (action_at plan s) act).steps
   client_on s act fine obeys begun keeps =
       let o = action_at plan s in
       let t = moved plan commands o (with_progress turned s) act in
       let books = leads plan commands s o act fine (action_for plan s.progress (waiting_of s)) obeys in
       let same : loses_all t.progress ≡ false = sym (losing_loses (loses_all t.progress) t) ∙ keeps in
       ap (λ b. (losing b t).client) same
-      ∙ sym (subst (λ (b : Bool). client_after s.client (if b then doing plan commands s o act else beginning s o act).steps ≡ t.client) begun books.client)
+      ∙ sym (subst (λ (b : Bool). client_after s.client (if b then client_part plan commands s o act else sync_part s o act).steps ≡ t.client) begun books.client)
 
   -- the model after an act, before what is outstanding is lost
   abbrev moved_by : Model → Act → Model
@@ -263,8 +265,8 @@ module _ (plan : Plan) (commands : List Task) (askable : AreAskable commands) wh
   none_over t [] over runs = refl
   none_over t (act ∷ acts) over runs = absurd (over_stays plan commands t act over runs.0)
 
-  -- from each state b of a synchronization on that agrees with the station's model s, which synchronizes, and with the line: what happens on
-  -- the line shows the parts of the station's run by these acts
+  -- from each state b of a synchronization on that agrees with the station's model s, which synchronizes, and with the line: what
+  -- happens on the line shows the parts of the station's run by these acts
   abbrev FromBeginOf : List Happening → Lines → Type 0
   FromBeginOf hs m =
       (s : Model) (b : begin.Model SceneState) (l : Lines) → Invariant plan commands s → s.rest ≡ [] → has_begun s.progress ≡ false → b.left ≡ s.progress.word
@@ -284,27 +286,27 @@ module _ (plan : Plan) (commands : List Task) (askable : AreAskable commands) wh
   act_begin act hs m later_begin later_client s b l fine rest begins left ids holds all runs =
       let o = action_at plan s in
       let t = after plan commands s act in
-      let p = beginning s o act in
+      let p = sync_part s o act in
       let done = has_begun (after_all plan commands t (acts_of hs)).progress in
-      subst (λ x. OnBegin b m (in_front (if x then doing plan commands s o act else beginning s o act) (x && loses_all t.progress) (parts_of plan commands t (acts_of hs))) done) (sym begins)
+      subst (λ x. OnBegin b m (in_front (if x then client_part plan commands s o act else sync_part s o act) (x && loses_all t.progress) (parts_of plan commands t (acts_of hs))) done) (sym begins)
       (begin_first b p (unanswered_after s.progress.word (heard_in p.turns)) all.0 m (parts_of plan commands t (acts_of hs)) done (some_parts plan commands t (acts_of hs)) means.0 to.1
       (λ c h k. next c h (k ∙ sym means.2) (has_begun t.progress) refl)) where
         -- the act means its part
-        means : IsMeant false s act (beginning s (action_at plan s) act) (after plan commands s act)
+        means : IsMeant false s act (sync_part s (action_at plan s) act) (after plan commands s act)
         means = is_meant plan commands s act false begins fine runs.0
 
         -- no bytes of an unfinished line are left, and the act comes to its turns
         to : ((after plan commands s act).rest ≡ [])
-            × TurnsTo b (beginning s (action_at plan s) act).turns (unanswered_after s.progress.word (heard_in (beginning s (action_at plan s) act).turns)) all.0
-        to = turns_act b s.progress.word act (beginning s (action_at plan s) act).turns (after plan commands s act).rest l all.0 left ids holds (some_left s.progress.word begins)
-            (subst (λ r. MeansTurns s.progress.word r act (beginning s (action_at plan s) act).turns (after plan commands s act).rest) rest means.1) all.1
+            × TurnsTo b (sync_part s (action_at plan s) act).turns (unanswered_after s.progress.word (heard_in (sync_part s (action_at plan s) act).turns)) all.0
+        to = turns_act b s.progress.word act (sync_part s (action_at plan s) act).turns (after plan commands s act).rest l all.0 left ids holds (some_left s.progress.word begins)
+            (subst (λ r. MeansTurns s.progress.word r act (sync_part s (action_at plan s) act).turns (after plan commands s act).rest) rest means.1) all.1
 
         -- what happens later, from the state after the act, by whether the station has synchronized then (`x`)
         next : (c : begin.Model SceneState) → Holds (leaves c) all.0 → c.left ≡ (after plan commands s act).progress.word → (x : Bool) → has_begun (after plan commands s act).progress ≡ x
             → OnBegin c m (parts_of plan commands (after plan commands s act) (acts_of hs)) (has_begun (after_all plan commands (after plan commands s act) (acts_of hs)).progress)
         next c h k false e =
             later_begin (after plan commands s act) c all.0 (invariant_after plan commands s act fine) to.0 e k
-            (subst IsSmall (sym means.2) (ids_left s.progress.word (heard_in (beginning s (action_at plan s) act).turns) ids)) h all.2 runs.1
+            (subst IsSmall (sym means.2) (ids_left s.progress.word (heard_in (sync_part s (action_at plan s) act).turns) ids)) h all.2 runs.1
         next c h k true e =
             let u = after plan commands s act in
             let ps = parts_of plan commands u (acts_of hs) in
@@ -319,11 +321,11 @@ module _ (plan : Plan) (commands : List Task) (askable : AreAskable commands) wh
       let o = action_at plan s in
       let t = after plan commands s act in
       let done = has_begun (after_all plan commands t (acts_of hs)).progress in
-      subst (λ x. OnClient w m (in_front (if x then doing plan commands s o act else beginning s o act) (x && loses_all t.progress) (parts_of plan commands t (acts_of hs))) done) (sym begun)
+      subst (λ x. OnClient w m (in_front (if x then client_part plan commands s o act else sync_part s o act) (x && loses_all t.progress) (parts_of plan commands t (acts_of hs))) done) (sym begun)
       (by_loss (loses_all t.progress) refl) where
         -- no bytes of an unfinished line are left, and the act comes to its steps
         to : ((after plan commands s act).rest ≡ [])
-            × MovesTo w (doing plan commands s (action_at plan s) act).steps (client_after s.client (doing plan commands s (action_at plan s) act).steps) all.0
+            × MovesTo w (client_part plan commands s (action_at plan s) act).steps (client_after s.client (client_part plan commands s (action_at plan s) act).steps) all.0
         to = moves_act s act w l all.0 fine runs.0 begun rest is holds all.1
 
         -- a station that loses all, and isn't synchronizing again, is over
@@ -336,7 +338,7 @@ module _ (plan : Plan) (commands : List Task) (askable : AreAskable commands) wh
             → FromClient v [] (parts_of plan commands (after plan commands s act) (acts_of hs)) m (has_begun (after_all plan commands (after plan commands s act) (acts_of hs)).progress)
         anew v h lost false e =
             let u = after plan commands s act in
-            let word = word_anew plan commands s act runs.0 begun e in
+            let word = word_if_resynchronizing plan commands s act runs.0 begun e in
             client_anew v m (parts_of plan commands u (acts_of hs)) (has_begun (after_all plan commands u (acts_of hs)).progress) (some_parts plan commands u (acts_of hs))
             (later_begin u (begins (on_line v.wire)) all.0 (invariant_after plan commands s act fine) to.0 e (sym word) (subst IsSmall (sym word) word_small)
             (subst (λ q. Holds q all.0) (sym (begins_line (on_line v.wire))) h) all.2 runs.1)
@@ -349,17 +351,17 @@ module _ (plan : Plan) (commands : List Task) (askable : AreAskable commands) wh
 
         -- the lemma above, by whether the part ends with the act (`x`)
         by_loss : (x : Bool) → loses_all (after plan commands s act).progress ≡ x
-            → OnClient w m (in_front (doing plan commands s (action_at plan s) act) x (parts_of plan commands (after plan commands s act) (acts_of hs)))
+            → OnClient w m (in_front (client_part plan commands s (action_at plan s) act) x (parts_of plan commands (after plan commands s act) (acts_of hs)))
             (has_begun (after_all plan commands (after plan commands s act) (acts_of hs)).progress)
         by_loss false e =
             let u = after plan commands s act in
-            let p = doing plan commands s (action_at plan s) act in
+            let p = client_part plan commands s (action_at plan s) act in
             client_first w p (client_after s.client p.steps) all.0 m (parts_of plan commands u (acts_of hs)) (has_begun (after_all plan commands u (acts_of hs)).progress)
             (some_parts plan commands u (acts_of hs)) to.1
             (λ v h k. later_client u v all.0 (invariant_after plan commands s act fine) to.0 (goes_begun plan commands u e) (k ∙ sym (client_on s act fine runs.0 begun e)) h all.2 runs.1)
         by_loss true e =
             let u = after plan commands s act in
-            let p = doing plan commands s (action_at plan s) act in
+            let p = client_part plan commands s (action_at plan s) act in
             client_last w p (client_after s.client p.steps) all.0 m (parts_of plan commands u (acts_of hs)) (has_begun (after_all plan commands u (acts_of hs)).progress) to.1
             (λ v h. anew v h e (has_begun u.progress) refl)
 

@@ -20,6 +20,7 @@ use Rattle.gc_field.specs.Shown.{shows}
 use Rattle.gc_field.specs.World as world
 use Rattle.gc_field.specs.World.{Numbered, Request, Wire, World, without, doubled, idle, up_delivered, with_up, with_down}
 use Rattle.gc_rehearsed.proofs.Steps.{Step, Reach, Lose_up, Repeat_up, Lose_down, Repeat_down, Start, Change, IsStep, flow, reached, stepped}
+use Rattle.gc_field.proofs.Shown.{left_reaches}
 
 -- While a station synchronizes.
 
@@ -61,14 +62,9 @@ shows_none b (Repeat_down k) = refl
 shows_none b Start = refl
 shows_none b (Change state) = refl
 
--- a request that reaches the instrument answers no id
-left_reach : (b : Model SceneState) (q : List (InFlight Request)) → (begin.reaches scene_ends b q).left ≡ b.left
-left_reach b [] = refl
-left_reach b (x ∷ rest) = refl
-
 -- the turn of a step answers no id
 pub left_turn : (b : Model SceneState) (x : Step) → (turns scene_ends b (turn_of x)).left ≡ b.left
-left_turn b Reach = left_reach b b.up
+left_turn b Reach = left_reaches scene_ends b b.up
 left_turn b (Lose_up k) = refl
 left_turn b (Repeat_up k) = refl
 left_turn b (Lose_down k) = refl

@@ -10,7 +10,7 @@ use Rattle.gc_scenes.proofs.Turns.{one_reply}
 use Rattle.gc_scenes.specs.SceneReplying.{IsPlayed}
 use Rattle.gc_scenes.specs.SceneState.{SceneState, scene_restarted, at_moment}
 use Rattle.gc_world.specs.Order.{Each}
-use Rattle.gc_world.proofs.Options.{some_is}
+use Rattle.std.proofs.lemmas.Option.{same_Some}
 use Rattle.gc_world.proofs.Rows.{each_append}
 use Rattle.gc_field.specs.Begin.{UnderWay}
 use Rattle.gc_field.specs.Instrument.{MayBecome}
@@ -18,6 +18,7 @@ use Rattle.gc_field.specs.SceneField.{RetainedReads, scene_handed, scene_kept}
 use Rattle.gc_field.specs.World.{Request, without, doubled}
 use Rattle.gc_field.proofs.SceneField.{scene_is_an_instrument}
 use Rattle.gc_rehearsal.specs.Carrying.{Lines, Happening, Call, Reaches, Restarts, Passes, Repeats_up, Repeats_down, Loses_up, Loses_down, Loses_front, HasReached, IsRepeated, Leads, MaySendOut}
+use Rattle.gc_field.proofs.BeginLists.{each_back}
 
 -- What is in flight.
 
@@ -202,9 +203,19 @@ reaches (r ∷ rs) down s l m holds h = by_reply h.reply refl where
   by_reply : (o : Option (List ℕ)) → h.reply ≡ o → Steps (flow (r ∷ rs) down s) m
   by_reply None e = let some = same.1 in let wrong : ⊥ = cc in absurd wrong
   by_reply (Some reply) e =
-      sends_out rs down s s reply r m.up m.down m.state (some_is reply (scene_handed s r.id r.call).reply (sym e ∙ same.1)) same.0
+      sends_out rs down s s reply r m.up m.down m.state (same_Some reply (scene_handed s r.id r.call).reply (sym e ∙ same.1)) same.0
       (scene_is_an_instrument.instrument.stays_good s r.id r.call holds.good lines.0.id) lines.1 (subst (Each IsOne) (sym holds.down) holds.one)
       (subst (λ x. MaySendOut x (Some reply) m.down) (sym holds.down) (subst (λ x. MaySendOut l.down x m.down) e h.sends))
+
+-- what is in flight in the field is what is in flight on the line (`Holds`), also once the front reply is lost in both
+pub dropped : (u : UnderWay SceneState) (l : Lines) (line : List ℕ) (rest : List (List ℕ)) → Holds u l → l.down ≡ line ∷ rest → Holds (stepped u (Lose_down zero)) (record l { down = rest })
+dropped u l line rest holds front = record {
+  up = holds.up;
+  down = ap (without zero) (holds.down ∙ front);
+  one = (subst (Each IsOne) front holds.one).1;
+  state = holds.state;
+  good = holds.good;
+}
 
 -- what happens on the line, and is no act, happens by steps
 pub happens : (u : UnderWay SceneState) (l m : Lines) (h : Happening) → ((act : Act) → h ≡ Call act → ⊥) → Holds u l → Leads l h m → Steps u m
@@ -248,15 +259,11 @@ happens u l m Repeats_down never holds leads =
         up = holds.up;
         down = new;
         one = subst (Each IsOne) (ap (λ q. q ++ twice.1 ∷ []) (sym twice.2) ∙ sym twice.3)
-            (each_append IsOne (twice.0 ++ twice.1 ∷ []) (twice.1 ∷ []) ones (last_one twice.0 twice.1 ones, tt));
+            (each_append IsOne (twice.0 ++ twice.1 ∷ []) (twice.1 ∷ []) ones ((each_back IsOne twice.0 (twice.1 ∷ []) ones).0, tt));
         state = holds.state;
         good = holds.good;
       });
-    } where
-      -- the last of lines that are each one line is one line
-      last_one : (front : List (List ℕ)) (line : List ℕ) → Each IsOne (front ++ line ∷ []) → IsOne line
-      last_one [] line each = each.0
-      last_one (x ∷ front) line each = last_one front line each.1
+    }
 happens u l m Loses_up never holds leads =
     let lost = lose_all_up u.up u.down u.state in
     record {
@@ -275,11 +282,5 @@ happens u l m Loses_down never holds leads =
 happens u l m Loses_front never holds leads = record {
   steps = Lose_down zero ∷ [];
   are = (tt, tt);
-  holds = subst (Holds (stepped u (Lose_down zero))) (sym leads.2) (record {
-    up = holds.up;
-    down = ap (without zero) (holds.down ∙ leads.1);
-    one = (subst (Each IsOne) leads.1 holds.one).1;
-    state = holds.state;
-    good = holds.good;
-  });
+  holds = subst (Holds (stepped u (Lose_down zero))) (sym leads.2) (dropped u l leads.0 m.down holds leads.1);
 }

@@ -19,7 +19,8 @@ use Rattle.gc_field.specs.Runs.{IsInField, IsRunFaithful}
 use Rattle.gc_field.specs.SceneField.{RetainedReads, scene_ends, scene_kept}
 use Rattle.gc_rehearsal.specs.Carrying.{IsOfLine, IsQuiet}
 
--- the numbers of what a command asks lie in their types, whenever it is sent
+-- what a command asks is allowed, whenever it is sent: a call's numbers lie in their types, and a procedure that isn't in the table may be
+-- asked with its parameters (`IsAskedFitting`)
 abbrev pub IsAskable : Task → Type 0
 IsAskable task = (utc : ℕ) → IsAskedFitting (call_at task utc)
 
@@ -35,8 +36,8 @@ pub record IsRehearsed (plan : Plan) (commands : List Task) (scope : Scope) (act
   pub field : IsInField scene_ends RetainedReads scene_kept plan commands scope acts under_way runs
   pub faithful : IsRunFaithful scene_ends RetainedReads scene_kept plan commands scope acts under_way runs
 
--- each run of a station over a rehearsed line on which nothing was in flight before is one in the field, and so faithful: nothing is
--- asked of the line, of the station's moments or of its plan
+-- each run of a station over a rehearsed line on which nothing was in flight before, and whose instrument retained no reply then, is one in
+-- the field, and so faithful, if its commands are `IsAskable`: nothing is asked of the line, of the station's moments or of its plan
 abbrev pub RehearsalsAreFaithful : Type 0
 RehearsalsAreFaithful =
     (plan : Plan) (commands : List Task) (scope : Scope) (acts : List Act) → IsOfLine acts → AreAskable commands → Runs plan commands (opening plan scope) acts
@@ -44,27 +45,27 @@ RehearsalsAreFaithful =
 
 -- Stations one after the other.
 
--- a station that ran over a rehearsed line: its plan, its commands, and the acts of its link; and the acts after that run and
--- before the next, such as a close after the book failed
+-- a station that ran over a rehearsed line: its plan, its commands, its scope, and the acts of its link while it ran; and the acts
+-- after that run and before the next (`after_run`), such as a close after the output failed
 pub record Station : Type 0 where
   pub plan : Plan
   pub commands : List Task
   pub scope : Scope
   pub acts : List Act
-  pub behind : List Act
+  pub after_run : List Act
 
 -- the acts of the link while these stations ran, in order
 abbrev pub acts_of_all : List Station → List Act
 acts_of_all [] = []
-acts_of_all (x ∷ xs) = x.acts ++ (x.behind ++ acts_of_all xs)
+acts_of_all (x ∷ xs) = x.acts ++ (x.after_run ++ acts_of_all xs)
 
--- a station's acts are a run of it, and after them nothing was sent and nothing came
+-- a station's commands are `IsAskable`, its acts are a run of it, and after them nothing was sent and nothing came
 pub record RunsAndStops (x : Station) : Type 0 where
   pub askable : AreAskable x.commands
   pub runs : Runs x.plan x.commands (opening x.plan x.scope) x.acts
-  pub quiet : AllByRecursion IsQuiet x.behind
+  pub quiet : AllByRecursion IsQuiet x.after_run
 
--- these stations as programs of the field, with what happens on the line in each of their runs
+-- these stations as programs of the field, with what happens on the line in each of their runs: as many as there are of both
 abbrev pub programs : List Station → List (List (Run SceneState)) → List (Program SceneState)
 programs (x ∷ xs) (rs ∷ rss) = record { plan = x.plan; commands = x.commands; scope = x.scope; acts = x.acts; runs = rs } ∷ programs xs rss
 programs _ _ = []
@@ -94,6 +95,7 @@ pub record AreRehearsed (xs : List Station) : Type 0 where
   pub faithful : AreFaithful scene_ends RetainedReads scene_kept (none_under_way start) (programs xs runs)
 
 -- stations that run one after the other over a rehearsed line, which keeps what it likes of what is in flight at a close, are
--- stations in a row in the field, and so each is faithful, as long as fewer than six in a row end while they synchronize
-abbrev pub RowsOfRehearsalsAreFaithful : Type 0
-RowsOfRehearsalsAreFaithful = (xs : List Station) → IsOfLine (acts_of_all xs) → AllByRecursion RunsAndStops xs → FewEndUnbegun 0 xs → AreRehearsed xs
+-- stations in a row in the field, and so each is faithful, as long as fewer than six in a row end while they synchronize. Their
+-- commands are `IsAskable`, and between two of them nothing is sent and nothing comes (`RunsAndStops`)
+abbrev pub RehearsalsInARowAreFaithful : Type 0
+RehearsalsInARowAreFaithful = (xs : List Station) → IsOfLine (acts_of_all xs) → AllByRecursion RunsAndStops xs → FewEndUnbegun 0 xs → AreRehearsed xs

@@ -6,14 +6,14 @@ ghost use Rattle.gc_rehearsed.specs.Rehearsals.{AreAskable, IsAskable};
 use gc_catalogue::encode_asked;
 use gc_texts::Task;
 
-// The numbers of what a command asks lie in their types, at whatever moment it is sent.
+// What a command asks is allowed (`IsAskedFitting`), at whatever moment it is sent: its numbers lie in their types.
 fn is_askable(task: &Task)
     ensures { IsAskable task.entry.now }
 {
     let _ = encode_asked(None, &task.command.call);
 }
 
-/// The numbers of what each of these commands asks lie in their types, at whatever moment it is sent.
+/// What each of these commands asks is allowed (`IsAskedFitting`), at whatever moment it is sent: its numbers lie in their types.
 pub fn are_askable(commands: &[Task])
     ensures { AreAskable commands.now }
 {

@@ -198,7 +198,7 @@ many_are_none text items are many =
 
 -- The bytes of items.
 
--- padded parameters have at most as many bytes as what surrounds them, too
+-- parameters have together at most as many bytes as they have with the spaces round them
 items_short : (ps is : List (List ℕ)) → ArePieces ps is → bytes_in is ≤ bytes_in ps
 items_short [] [] are = omega arith
 items_short [] (i ∷ is) are = absurd are
@@ -235,7 +235,7 @@ items_fit text (item ∷ items) are =
     let short = items_short are.pieces (item ∷ items) are.pieces_are in
     omega (arith, whole, long, short)
 
--- a text's items are of bytes if the text is.
+-- Items of bytes.
 
 -- a text of bytes is of bytes without the spaces at its front
 front_bytes : (text : List ℕ) → AllByRecursion (λ b. b < 256) text → AllByRecursion (λ b. b < 256) (without_front_spaces text)
@@ -243,14 +243,14 @@ front_bytes [] are = tt
 front_bytes (b ∷ bs) are = cond_both (b == 32) (without_front_spaces bs) (b ∷ bs) (AllByRecursion (λ b. b < 256)) (λ _. front_bytes bs are.1) (λ _. are)
 
 -- a byte before a text of bytes makes a text of bytes
-before_bytes : (b : ℕ) (text : List ℕ) → b < 256 → AllByRecursion (λ b. b < 256) text → AllByRecursion (λ b. b < 256) (put_before b text)
-before_bytes b [] is are = cond_both (b == 32) [] (b ∷ []) (AllByRecursion (λ b. b < 256)) (λ _. tt) (λ _. (is, tt))
-before_bytes b (x ∷ xs) is are = (is, are)
+put_before_bytes : (b : ℕ) (text : List ℕ) → b < 256 → AllByRecursion (λ b. b < 256) text → AllByRecursion (λ b. b < 256) (put_before b text)
+put_before_bytes b [] is are = cond_both (b == 32) [] (b ∷ []) (AllByRecursion (λ b. b < 256)) (λ _. tt) (λ _. (is, tt))
+put_before_bytes b (x ∷ xs) is are = (is, are)
 
 -- a text of bytes is of bytes without the spaces at its end
 end_bytes : (text : List ℕ) → AllByRecursion (λ b. b < 256) text → AllByRecursion (λ b. b < 256) (without_end_spaces text)
 end_bytes [] are = tt
-end_bytes (b ∷ bs) are = before_bytes b (without_end_spaces bs) are.0 (end_bytes bs are.1)
+end_bytes (b ∷ bs) are = put_before_bytes b (without_end_spaces bs) are.0 (end_bytes bs are.1)
 
 -- the texts are of bytes
 abbrev pub AreOfBytes : List (List ℕ) → Type 0
@@ -293,10 +293,6 @@ pub bytes_below : (texts : List (List ℕ)) (k : ℕ) → k < length texts → b
 bytes_below [] k lt = absurd (omega (arith, lt))
 bytes_below (t ∷ ts) zero lt = omega arith
 bytes_below (t ∷ ts) (suc k) lt = let rest = bytes_below ts k (omega (arith, lt)) in omega (arith, rest)
-
--- if a is at most b, and b at most c, a is at most c
-pub le_trans : (a b c : ℕ) → a ≤ b → b ≤ c → a ≤ c
-le_trans a b c first second = omega (arith, first, second)
 
 -- if a text is refused for its double quotes, or for its many items, it doesn't split
 pub refused_is_none : (text : List ℕ) (e : ValueFault) → (e ≡ OpenQuote) ⊎ (e ≡ TooMany) → (e ≡ OpenQuote → quotes text % 2 ≡ 1)

@@ -19,7 +19,7 @@ use Rattle.gc_rows.specs.JsonLines.{Member, Text, Number, Texts, behind_backslas
 use Rattle.gc_rows.specs.Laws.{IsPlainName, IsPlainMember, texts_read, members_read, record_read, JsonLinesReadBack}
 use Rattle.gc_texts.specs.Logs.{escaped}
 use Rattle.gc_texts.specs.Stamps.{stamp_text}
-use Rattle.gc_texts.proofs.LogStamps.{IsShown, escaped_prints, stamp_shown}
+use Rattle.gc_texts.proofs.LogStamps.{IsPrintableByte, escaped_prints, stamp_prints}
 
 -- the target, the name and the procedure, appended one after the other, are the members of a command
 pub command_text : (old target procedure : List ℕ) (name : List Member)
@@ -64,28 +64,28 @@ three_members old a b c =
     append_assoc (old ++ a) b c ∙ append_assoc old a (b ++ c) ∙ ap (λ l. old ++ (a ++ (b ++ l))) (sym (append-nil c))
 
 -- a double quote and a backslash are escaped as a writer of JSON does it
-marked_as : (b : ℕ) → IsShown b → ((b == 34) || (b == 92)) ≡ true → behind_backslash b ≡ escape_byte b
+marked_as : (b : ℕ) → IsPrintableByte b → ((b == 34) || (b == 92)) ≡ true → behind_backslash b ≡ escape_byte b
 unfolding escape_byte
 marked_as b shown marked = let some : nat_lt 0 b ≡ true = lt-ltb 0 b (omega (arith, shown.0)) in rw (marked, some) refl
 
 -- any other printable byte is unchanged, as with a writer of JSON
-plain_as : (b : ℕ) → IsShown b → ((b == 34) || (b == 92)) ≡ false → behind_backslash b ≡ escape_byte b
+plain_as : (b : ℕ) → IsPrintableByte b → ((b == 34) || (b == 92)) ≡ false → behind_backslash b ≡ escape_byte b
 plain_as b shown plain =
     rw plain (sym (escape_byte_plain b (λ e. let bad : true ≡ false = subst (λ x. ((x == 34) || (x == 92)) ≡ false) e plain in cc)
     (λ e. let bad : true ≡ false = subst (λ x. ((x == 34) || (x == 92)) ≡ false) e plain in cc) shown.0))
 
 -- each printable byte is escaped as a writer of JSON does it
-escape_as : (b : ℕ) → IsShown b → behind_backslash b ≡ escape_byte b
+escape_as : (b : ℕ) → IsPrintableByte b → behind_backslash b ≡ escape_byte b
 escape_as b shown = elim (cases_Bool ((b == 34) || (b == 92))) [ inl marked ↦ marked_as b shown marked | inr plain ↦ plain_as b shown plain ]
 
 -- a printable text is escaped as a writer of JSON does it
-escapes_as : (text : List ℕ) → AllByRecursion IsShown text → flat_map behind_backslash text ≡ escape text
+escapes_as : (text : List ℕ) → AllByRecursion IsPrintableByte text → flat_map behind_backslash text ≡ escape text
 escapes_as [] shown = refl
 escapes_as (b ∷ bs) shown = ap (λ l. l ++ flat_map behind_backslash bs) (escape_as b shown.0) ∙ ap (λ l. escape_byte b ++ l) (escapes_as bs shown.1)
 
 -- bytes, once they are made printable, are escaped as a writer of JSON does it
 string_as : (bytes : List ℕ) → All (λ b. b < 256) bytes → flat_map behind_backslash (escaped bytes) ≡ escape (escaped bytes)
-string_as bytes are = escapes_as (escaped bytes) (recursion_from_All IsShown (escaped bytes) (escaped_prints bytes (recursion_from_All (λ b. b < 256) bytes are)))
+string_as bytes are = escapes_as (escaped bytes) (recursion_from_All IsPrintableByte (escaped bytes) (escaped_prints bytes (recursion_from_All (λ b. b < 256) bytes are)))
 
 -- a plain name has no byte that a writer of JSON escapes
 name_as : (name : List ℕ) → IsPlainName name → name ≡ escape name
@@ -151,17 +151,17 @@ members_as (Texts name texts ∷ ms) are =
     ∙ ap (λ l. 44 ∷ (((34 ∷ (escape name ++ 34 ∷ [])) ++ 58 ∷ []) ++ (list_text texts ++ l))) (members_as ms are.1)
     ∙ ap (λ l. 44 ∷ (((34 ∷ (escape name ++ 34 ∷ [])) ++ 58 ∷ []) ++ l)) (list_as texts (members_tokens (members_read ms)) are.0.1)
 
--- the texts of a list are no numbers
-no_numbers : (texts : List (List ℕ)) → ItemsHaveNumbers (texts_read texts)
-no_numbers [] = tt
-no_numbers (text ∷ texts) = (tt, no_numbers texts)
+-- each number among the items of a list of texts is a number of JSON, as there is none
+texts_have_numbers : (texts : List (List ℕ)) → ItemsHaveNumbers (texts_read texts)
+texts_have_numbers [] = tt
+texts_have_numbers (text ∷ texts) = (tt, texts_have_numbers texts)
 
 -- the numbers among members are numbers of JSON
 have_numbers : (members : List Member) → AllByRecursion IsPlainMember members → MembersHaveNumbers (members_read members)
 have_numbers [] are = tt
 have_numbers (Text name bytes ∷ ms) are = (tt, have_numbers ms are.1)
 have_numbers (Number name digits ∷ ms) are = (are.0.1, have_numbers ms are.1)
-have_numbers (Texts name texts ∷ ms) are = (no_numbers texts, have_numbers ms are.1)
+have_numbers (Texts name texts ∷ ms) are = (texts_have_numbers texts, have_numbers ms are.1)
 
 -- the texts of a list hold no object or list
 flat_texts : (texts : List (List ℕ)) → items_depth (texts_read texts) ≡ 0
@@ -174,24 +174,24 @@ one_most zero few = omega arith
 one_most (suc zero) few = omega arith
 one_most (suc (suc n)) few = absurd (omega (arith, few))
 
--- members hold no object, and lists of texts alone
+-- members nest one list deep at most: they hold no object, and only lists of texts
 flat : (members : List Member) → members_depth (members_read members) ≤ 1
 flat [] = omega arith
 flat (Text name bytes ∷ ms) = subst (λ n. n ≤ 1) (sym (zero-max (members_depth (members_read ms)))) (flat ms)
 flat (Number name digits ∷ ms) = subst (λ n. n ≤ 1) (sym (zero-max (members_depth (members_read ms)))) (flat ms)
 flat (Texts name texts ∷ ms) = subst (λ n. max (suc n) (members_depth (members_read ms)) ≤ 1) (sym (flat_texts texts)) (one_most (members_depth (members_read ms)) (flat ms))
 
--- the characters of a printable text are bytes
-pub bytes_shown : (text : List ℕ) → AllByRecursion IsShown text → AllByRecursion (λ b. b < 256) text
-bytes_shown [] shown = tt
-bytes_shown (b ∷ bs) shown = (omega (arith, shown.0.1), bytes_shown bs shown.1)
+-- printable bytes are below 256
+pub printable_are_bytes : (text : List ℕ) → AllByRecursion IsPrintableByte text → AllByRecursion (λ b. b < 256) text
+printable_are_bytes [] shown = tt
+printable_are_bytes (b ∷ bs) shown = (omega (arith, shown.0.1), printable_are_bytes bs shown.1)
 
 -- the moment of a run is written as a writer of JSON does it
 started_as : (run : ℕ) → run < 2 ^ 64 → flat_map behind_backslash (escaped (stamp_text run)) ≡ escape (escaped (stamp_text run))
 started_as run below =
     let text = stamp_text run in
-    let bytes = bytes_shown text (recursion_from_All IsShown text (stamp_shown run below)) in
-    escapes_as (escaped text) (recursion_from_All IsShown (escaped text) (escaped_prints text bytes))
+    let bytes = printable_are_bytes text (recursion_from_All IsPrintableByte text (stamp_prints run below)) in
+    escapes_as (escaped text) (recursion_from_All IsPrintableByte (escaped text) (escaped_prints text bytes))
 
 -- a line that ends in a brace and a line feed is the line up to its brace, and the line feed
 pub front_of : (a m : List ℕ) → (a ++ m) ++ codes "}\n" ≡ (a ++ (m ++ codes "}")) ++ codes "\n"
@@ -222,7 +222,8 @@ read_back run members below are = (
   reads_as run members below are,
 )
 
--- the strings of the texts from place k on, after `mid`, are the comma and the string of the text there, and those after it
+-- where the strings of the texts from place k on, after `mid`, make `old`, so do, after `mid`, the comma and the string of text k, and
+-- then the strings of the texts from place k + 1 on; `behind` and `next` say whether a comma is before text k and before text k + 1
 pub strings_next : (old mid : List ℕ) (texts : List (List ℕ)) (k : ℕ) (behind next : Bool) → k < length texts → next ≡ true → mid ++ strings_text behind (drop k texts) ≡ old
     → ((mid ++ comma_where behind) ++ string_text (get_or texts k [])) ++ strings_text next (drop (k + 1) texts) ≡ old
 strings_next old mid texts k behind next lt more so =

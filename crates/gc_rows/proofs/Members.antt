@@ -33,7 +33,7 @@ use Rattle.gc_values.specs.declared.value.Value.TheVariants as value
 use Rattle.gc_values.proofs.OneText.{whole_text_once, decimal_text_once}
 use Rattle.gc_texts.specs.Endings.{End, Answered, Unreadable, Elsewhere, Late, Lost, Skipped, Missed, quality_of, quality_text}
 use Rattle.gc_rows.specs.JsonLines.{Text, Number, without_zeros, sent_members, when_members, name_members, command_members, reply_members, ending_members, value_members, values_members, item_members, answer_members, quantity_members, quality_members, attempt_members, last_members, members_after_ending}
-use Rattle.gc_rows.specs.Laws.{IsPlainName, IsPlainMember, IsReplyOfBytes, IsAnswerOfBytes, IsEndOfBytes, FitsIn64Bits, ColumnsSay, RecordsAreMembers}
+use Rattle.gc_rows.specs.Laws.{IsPlainName, IsPlainMember, IsReplyOfBytes, IsAnswerOfBytes, IsEndOfBytes, FitsIn64Bits, ColumnsGiveReply, RecordsHavePlainMembers}
 use Rattle.gc_rows.specs.Quantities.{column_of, quantity_name, quantity_names}
 use Rattle.gc_texts.specs.declared.quality.Quality.TheVariants.{Fine, Warning, Refused}
 use Rattle.gc_texts.specs.Cuts.{before, behind}
@@ -41,16 +41,12 @@ use Rattle.gc_rows.specs.Rows.{com_of, code_of, values_of, procedure_of}
 use Rattle.gc_texts.specs.Stamps.{stamp_text}
 use Rattle.gc_texts.specs.declared.wish.Wish.{Wish}
 use Rattle.gc_rows.specs.declared.when.When.{When}
+use Rattle.gc_lines.proofs.Lists.{all_append}
 use Rattle.gc_rows.specs.Items.{items_of, split_items}
 use Rattle.gc_rows.proofs.Columns.{reply_columns}
 use Rattle.gc_rows.proofs.Items.{AreOfBytes, items_bytes}
-use Rattle.gc_rows.proofs.JsonLines.{bytes_shown}
-use Rattle.gc_texts.proofs.LogStamps.{IsShown, stamp_shown}
-
--- what holds of each item of two lists holds of each item of the lists joined
-all_both : {X : Type 0} (P : X → Type 0) (xs ys : List X) → AllByRecursion P xs → AllByRecursion P ys → AllByRecursion P (xs ++ ys)
-all_both P [] ys hx hy = hy
-all_both P (x ∷ xs) ys hx hy = (hx.0, all_both P xs ys hx.1 hy)
+use Rattle.gc_rows.proofs.JsonLines.{printable_are_bytes}
+use Rattle.gc_texts.proofs.LogStamps.{IsPrintableByte, stamp_prints}
 
 -- whether a byte may occur in a plain name: printable ASCII other than the double quote and the backslash
 abbrev is_fit : ℕ → Bool
@@ -103,15 +99,11 @@ quantity_named column = plain_name (quantity_name column) (name_fits quantity_na
 
 -- a plain name with `_text` after it is plain
 text_named : (name : List ℕ) → IsPlainName name → IsPlainName (name ++ codes "_text")
-text_named name is = all_both (λ b. (32 ≤ b) × ((b ≢ 34) × (b ≢ 92))) name (codes "_text") is (plain_name (codes "_text") refl)
-
--- that all numbers of a list are below 256, from its form by recursion to its form by `All`
-all_bytes : (bs : List ℕ) → AllByRecursion (λ b. b < 256) bs → All (λ b. b < 256) bs
-all_bytes bs h = All-from_recursion (λ b. b < 256) bs h
+text_named name is = all_append (λ b. (32 ≤ b) × ((b ≢ 34) × (b ≢ 92))) name (codes "_text") is (plain_name (codes "_text") refl)
 
 -- the text of a stamp is of bytes
 stamp_bytes : (utc : ℕ) → utc < 2 ^ 64 → All (λ b. b < 256) (stamp_text utc)
-stamp_bytes utc h = all_bytes (stamp_text utc) (bytes_shown (stamp_text utc) (recursion_from_All IsShown (stamp_text utc) (stamp_shown utc h)))
+stamp_bytes utc h = All-from_recursion (λ b. b < 256) (stamp_text utc) (printable_are_bytes (stamp_text utc) (recursion_from_All IsPrintableByte (stamp_text utc) (stamp_prints utc h)))
 
 -- what comes before the first mark of bytes is of bytes
 before_bytes : (mark : ℕ) (bs : List ℕ) → AllByRecursion (λ b. b < 256) bs → AllByRecursion (λ b. b < 256) (before mark bs)
@@ -216,7 +208,7 @@ sent_are (Some utc) h = ((plain_name (codes "sent") refl, stamp_bytes utc h), tt
 -- the members that say when a command was sent and ended, and which one it was, read back
 when_are : (when : When) → FitsIn64Bits when → AllByRecursion IsPlainMember (when_members when)
 when_are when is =
-    all_both IsPlainMember (sent_members when.stamp.sent) (Text (codes "time") (stamp_text when.stamp.utc) ∷ Number (codes "cycle")
+    all_append IsPlainMember (sent_members when.stamp.sent) (Text (codes "time") (stamp_text when.stamp.utc) ∷ Number (codes "cycle")
     (decimal when.stamp.cycle) ∷ Number (codes "place") (decimal when.stamp.turn.place) ∷ [])
     (sent_are when.stamp.sent is.sent) (
       (plain_name (codes "time") refl, stamp_bytes when.stamp.utc is.utc),
@@ -237,22 +229,22 @@ procedure_fits (Raw raw) = omega (arith, raw.is.bound)
 command_are : (command : Wish) (name : List ℕ) → All (λ b. b < 256) name → command.target < 2 ^ 64 → AllByRecursion IsPlainMember (command_members command name)
 command_are command name bytes target = (
   (plain_name (codes "target") refl, IsNumber-decimal command.target target),
-  all_both IsPlainMember (name_members name) (Number (codes "procedure") (decimal (procedure_of command.call)) ∷ []) (name_are name bytes)
+  all_append IsPlainMember (name_members name) (Number (codes "procedure") (decimal (procedure_of command.call)) ∷ []) (name_are name bytes)
       ((plain_name (codes "procedure") refl, IsNumber-decimal (procedure_of command.call) (procedure_fits command.call)), tt),
 )
 
 -- the member of an outcome reads back
 outcome_is : (text : List ℕ) → are_fit text ≡ true → IsPlainMember (Text (codes "outcome") text)
-outcome_is text fit = (plain_name (codes "outcome") refl, all_bytes text (plain_bytes text fit))
+outcome_is text fit = (plain_name (codes "outcome") refl, All-from_recursion (λ b. b < 256) text (plain_bytes text fit))
 
 -- the members of a reply's line read back
 reply_are : (line : List ℕ) → IsReplyOfBytes line → AllByRecursion IsPlainMember (reply_members (Some line))
 reply_are line is =
-    let say : ColumnsSay line is.0 = reply_columns line is.0 is.1 in (
+    let say : ColumnsGiveReply line is.0 = reply_columns line is.0 is.1 in (
       (plain_name (codes "rc_com") refl, code_number (com_of line) say.rc_com.digits say.rc_com.some),
       (
         (plain_name (codes "rc") refl, code_number (code_of line) say.rc.digits say.rc.some),
-        ((plain_name (codes "values") refl, all_bytes (values_of line) (values_bytes line is.2)), tt),
+        ((plain_name (codes "values") refl, All-from_recursion (λ b. b < 256) (values_of line) (values_bytes line is.2)), tt),
       ),
     )
 
@@ -281,7 +273,7 @@ HoldsBytes (value.Text bytes) = All (λ b. b < 256) bytes
 -- the members of a number, in its one written form and as it came, read back
 number_are : (name digits came : List ℕ) → IsPlainName name → IsNumber digits → AllByRecursion (λ b. b < 256) came
     → AllByRecursion IsPlainMember (Number name digits ∷ Text (name ++ codes "_text") came ∷ [])
-number_are name digits came named number bytes = ((named, number), ((text_named name named, all_bytes came bytes), tt))
+number_are name digits came named number bytes = ((named, number), ((text_named name named, All-from_recursion (λ b. b < 256) came bytes), tt))
 
 -- a boolean is written as a number of JSON
 boolean_number : (b : Bool) → IsNumber (boolean_text b)
@@ -303,7 +295,7 @@ value_are name (value.Text text) came named is bytes = ((named, is), tt)
 values_are : (column : ℕ) (vs : List Value) (came : List ℕ) → AllByRecursion HoldsBytes vs → AllByRecursion (λ b. b < 256) came → AllByRecursion IsPlainMember (values_members column vs came)
 values_are column [] came hold bytes = tt
 values_are column (v ∷ vs) came hold bytes =
-    all_both IsPlainMember (value_members (quantity_name column) v (before 44 came)) (values_members (column + 1) vs (behind 44 came))
+    all_append IsPlainMember (value_members (quantity_name column) v (before 44 came)) (values_members (column + 1) vs (behind 44 came))
     (value_are (quantity_name column) v (before 44 came) (quantity_named column) hold.0 (before_bytes 44 came bytes))
     (values_are (column + 1) vs (behind 44 came) hold.1 (behind_bytes 44 came bytes))
 
@@ -322,10 +314,10 @@ answer_holds (Angles hz v) is = (tt, (tt, tt))
 answer_holds (Measured hz v distance) is = (tt, (tt, (tt, tt)))
 answer_holds (MeasuredMode hz v distance mode) is = (tt, (tt, (tt, (tt, tt))))
 
--- texts of bytes are, in the form by `All`
+-- of texts of bytes (`AreOfBytes`) each is of bytes by `All`
 all_texts : (texts : List (List ℕ)) → AreOfBytes texts → AllByRecursion (λ text. All (λ b. b < 256) text) texts
 all_texts [] are = tt
-all_texts (text ∷ texts) are = (all_bytes text are.0, all_texts texts are.1)
+all_texts (text ∷ texts) are = (All-from_recursion (λ b. b < 256) text are.0, all_texts texts are.1)
 
 -- the member of a text's items, if it splits, reads back; `z` is whether it does
 items_where : (z : Bool) (items : List (List ℕ)) → AreOfBytes items → AllByRecursion IsPlainMember (item_members (cond z (Some items) None))
@@ -348,7 +340,7 @@ quantities_are asked end is = tt
 
 -- the member of a quality reads back
 quality_is : (text : List ℕ) → are_fit text ≡ true → IsPlainMember (Text (codes "quality") text)
-quality_is text fit = (plain_name (codes "quality") refl, all_bytes text (plain_bytes text fit))
+quality_is text fit = (plain_name (codes "quality") refl, All-from_recursion (λ b. b < 256) text (plain_bytes text fit))
 
 -- the member of the quality of a command's answer reads back
 quality_members_are : (end : End) → AllByRecursion IsPlainMember (quality_members (quality_text (quality_of end)))
@@ -360,17 +352,17 @@ quality_members_are end = tt
 -- the members after all others read back
 last_are : (when : When) (end : End) → FitsIn64Bits when → AllByRecursion IsPlainMember (last_members when end)
 last_are when end is =
-    all_both IsPlainMember (quality_members (quality_text (quality_of end))) (attempt_members when) (quality_members_are end)
+    all_append IsPlainMember (quality_members (quality_text (quality_of end))) (attempt_members when) (quality_members_are end)
     ((plain_name (codes "attempt") refl, IsNumber-decimal when.stamp.turn.attempt is.attempt), tt)
 
 -- the law: all members of a record's line read back
-pub are_members : RecordsAreMembers
-are_members when name command end is bytes target ended =
+pub have_plain_members : RecordsHavePlainMembers
+have_plain_members when name command end is bytes target ended =
     let ws = when_members when in
     let hs = command_members command name in
     let es = ending_members end in
     let qs = quantity_members command.call end in
     let ls = last_members when end in
-    all_both IsPlainMember ws (hs ++ (es ++ (qs ++ ls))) (when_are when is)
-    (all_both IsPlainMember hs (es ++ (qs ++ ls)) (command_are command name bytes target)
-    (all_both IsPlainMember es (qs ++ ls) (ending_are end ended) (all_both IsPlainMember qs ls (quantities_are command.call end ended) (last_are when end is))))
+    all_append IsPlainMember ws (hs ++ (es ++ (qs ++ ls))) (when_are when is)
+    (all_append IsPlainMember hs (es ++ (qs ++ ls)) (command_are command name bytes target)
+    (all_append IsPlainMember es (qs ++ ls) (ending_are end ended) (all_append IsPlainMember qs ls (quantities_are command.call end ended) (last_are when end is))))

@@ -8,7 +8,7 @@ use Rattle.gc_catalogue.specs.declared.answer.Answer.TheVariants.{Nothing, Short
 use Rattle.gc_catalogue.specs.declared.asked.Asked.{Asked}
 use Rattle.gc_catalogue.specs.declared.asked.Asked.TheVariants.{Table, Raw}
 use Rattle.gc_catalogue.specs.declared.call.Call.{Call}
-use Rattle.gc_catalogue.specs.declared.call.Call.TheVariants.{GetPrecision, ComVersion, InstrumentNo, InstrumentName, GetDate, IntTemp, CsvVersion, GetStation, GetHeight, GetFace, GetAngle, SimpleMea, QuickDist, GetPrism, MeasDistance}
+use Rattle.gc_catalogue.specs.declared.call.Call.TheVariants.{NullProc, SetPrecision, GetPrecision, ComVersion, InstrumentNo, InstrumentName, SetDate, GetDate, IntTemp, CsvVersion, DoMeasure, GetStation, SetStation, GetHeight, SetHeight, GetFace, GetAngle, SimpleMea, QuickDist, SetPrism, GetPrism, MeasDistance, Position, ChangeFace, FineAdjust}
 use Rattle.gc_texts.specs.Endings.{End, Answered}
 use Rattle.gc_rows.specs.Quantities.{column_of, column_of_long, quantity_names, quantity_text}
 use Rattle.gc_rows.specs.Records.{names, last_names}
@@ -20,36 +20,30 @@ use Rattle.gc_rows.specs.declared.when.When.{When}
 -- the law: the values of an answer are under the names of the quantities that its procedure returns
 pub have_their_names : QuantitiesHaveTheirNames
 have_their_names GetPrecision (Short n) is = refl
-have_their_names GetPrecision answer is = cc
 have_their_names ComVersion (Version release version subversion) is = refl
-have_their_names ComVersion answer is = cc
 have_their_names InstrumentNo (Long n) is = refl
-have_their_names InstrumentNo answer is = cc
 have_their_names InstrumentName (Name name) is = refl
-have_their_names InstrumentName answer is = cc
 have_their_names GetDate (Date d) is = refl
-have_their_names GetDate answer is = cc
 have_their_names IntTemp (Temperature t) is = refl
-have_their_names IntTemp answer is = cc
 have_their_names CsvVersion (Version release version subversion) is = refl
-have_their_names CsvVersion answer is = cc
 have_their_names GetStation (Place s) is = refl
-have_their_names GetStation answer is = cc
 have_their_names GetHeight (Height h) is = refl
-have_their_names GetHeight answer is = cc
 have_their_names GetFace (Long n) is = refl
-have_their_names GetFace answer is = cc
 have_their_names (GetAngle mode) (Angles hz v) is = refl
-have_their_names (GetAngle mode) answer is = cc
 have_their_names (SimpleMea wait mode) (Measured hz v distance) is = refl
-have_their_names (SimpleMea wait mode) answer is = cc
 have_their_names QuickDist (Measured hz v distance) is = refl
-have_their_names QuickDist answer is = cc
 have_their_names GetPrism (Long n) is = refl
-have_their_names GetPrism answer is = cc
 have_their_names (MeasDistance mode) (MeasuredMode hz v distance mode') is = refl
-have_their_names (MeasDistance mode) answer is = cc
-have_their_names call Nothing is = refl
+have_their_names NullProc Nothing is = refl
+have_their_names (SetPrecision n) Nothing is = refl
+have_their_names (SetDate d) Nothing is = refl
+have_their_names (DoMeasure command mode) Nothing is = refl
+have_their_names (SetStation s) Nothing is = refl
+have_their_names (SetHeight height) Nothing is = refl
+have_their_names (SetPrism prism) Nothing is = refl
+have_their_names (Position hz v pos_mode atr_mode dummy) Nothing is = refl
+have_their_names (ChangeFace pos_mode atr_mode dummy) Nothing is = refl
+have_their_names (FineAdjust area_hz area_v dummy) Nothing is = refl
 have_their_names call answer is = cc
 
 -- the column of a lone whole number is one of the 24

@@ -1,6 +1,6 @@
 -- Rows: the fields of one, and what a reader of comma-separated values makes of it. The writer and the reader of
 -- comma-separated values are the library's.
-use Rattle.std.proofs.Common.{◌≡◌, ◌==◌, ◌<◌, ◌≤◌, ◌++◌, ◌∷◌, ◌∙◌, [], ℕ, zero, suc, ◌-◌, List, Bool, Some, true, false, inl, inr, refl, sym, ap, arith, append_assoc, length, map, replicate}
+use Rattle.std.proofs.Common.{◌≡◌, ◌==◌, ◌<◌, ◌++◌, ◌∷◌, ◌∙◌, [], ℕ, zero, suc, ◌-◌, List, Bool, Some, true, false, inl, inr, refl, sym, ap, arith, append_assoc, length, map, replicate}
 use Rattle.std.specs.Prelude.{◌||◌, codes}
 use Rattle.std.specs.List.{All, AllByRecursion, flat_map, list_any}
 use Rattle.std.proofs.lemmas.Grind.{flat_map-append}
@@ -18,7 +18,7 @@ use Rattle.gc_texts.specs.Logs.{escaped}
 use Rattle.gc_rows.specs.Quantities.{quantity_text}
 use Rattle.gc_rows.specs.Rows.{is_special, within_quotes, csv_field, field_text, behind_comma, behind_commas, row_of, spread, value_text}
 use Rattle.gc_values.specs.declared.value.Value.{Value}
-use Rattle.gc_texts.proofs.LogStamps.{IsShown, escaped_prints}
+use Rattle.gc_texts.proofs.LogStamps.{IsPrintableByte, escaped_prints}
 use Rattle.gc_texts.proofs.Logs.{escaped_injective}
 
 -- the field of the run and four lists of fields, each field after a comma, and then a line feed, are one row of all these
@@ -136,44 +136,41 @@ read_back = record {
 }
 
 -- a list of one printable byte is printable
-one_shown : (b : ℕ) → IsShown b → All IsShown (b ∷ [])
-one_shown b h = All-from_recursion IsShown (b ∷ []) (h, tt)
-
--- a byte from 32 to 126 is printable
-mark_shown : (b : ℕ) → 32 ≤ b → b ≤ 126 → All IsShown (b ∷ [])
-mark_shown b low high = one_shown b (low, high)
+one_prints : (b : ℕ) → IsPrintableByte b → All IsPrintableByte (b ∷ [])
+one_prints b h = All-from_recursion IsPrintableByte (b ∷ []) (h, tt)
 
 -- what is printable stays so within quotes
-doubled_shown : (text : List ℕ) → AllByRecursion IsShown text → All IsShown (flat_map within_quotes text)
-doubled_shown [] h = All-from_recursion IsShown [] tt
-doubled_shown (b ∷ bs) h =
-    All-append IsShown (within_quotes b) (flat_map within_quotes bs)
-    (cond_both (b == 34) (34 ∷ 34 ∷ []) (b ∷ []) (All IsShown) (λ _. All-from_recursion IsShown (34 ∷ 34 ∷ []) ((omega arith, omega arith), ((omega arith, omega arith), tt))) (λ _. one_shown b h.0))
-    (doubled_shown bs h.1)
+doubled_prints : (text : List ℕ) → AllByRecursion IsPrintableByte text → All IsPrintableByte (flat_map within_quotes text)
+doubled_prints [] h = All-from_recursion IsPrintableByte [] tt
+doubled_prints (b ∷ bs) h =
+    All-append IsPrintableByte (within_quotes b) (flat_map within_quotes bs)
+    (cond_both (b == 34) (34 ∷ 34 ∷ []) (b ∷ []) (All IsPrintableByte)
+    (λ _. All-from_recursion IsPrintableByte (34 ∷ 34 ∷ []) ((omega arith, omega arith), ((omega arith, omega arith), tt))) (λ _. one_prints b h.0))
+    (doubled_prints bs h.1)
 
 -- the field of any bytes is printable
-field_shown : (bytes : List ℕ) → All (λ b. b < 256) bytes → All IsShown (field_text bytes)
-field_shown bytes are =
+field_prints : (bytes : List ℕ) → All (λ b. b < 256) bytes → All IsPrintableByte (field_text bytes)
+field_prints bytes are =
     let text = escaped bytes in
     let shown = escaped_prints bytes (recursion_from_All (λ b. b < 256) bytes are) in
-    let mark = mark_shown 34 (omega arith) (omega arith) in
-    cond_both (list_any is_special text) (34 ∷ (flat_map within_quotes text ++ 34 ∷ [])) text (All IsShown)
-    (λ _. All-append IsShown (34 ∷ []) (flat_map within_quotes text ++ 34 ∷ []) mark
-    (All-append IsShown (flat_map within_quotes text) (34 ∷ []) (doubled_shown text (recursion_from_All IsShown text shown)) mark))
+    let mark = one_prints 34 (omega arith, omega arith) in
+    cond_both (list_any is_special text) (34 ∷ (flat_map within_quotes text ++ 34 ∷ [])) text (All IsPrintableByte)
+    (λ _. All-append IsPrintableByte (34 ∷ []) (flat_map within_quotes text ++ 34 ∷ []) mark
+    (All-append IsPrintableByte (flat_map within_quotes text) (34 ∷ []) (doubled_prints text (recursion_from_All IsPrintableByte text shown)) mark))
     (λ _. shown)
 
 -- fields of any bytes, each after a comma, are printable
-fields_shown : (fields : List (List ℕ)) → AllByRecursion (All (λ b. b < 256)) fields → All IsShown (behind_commas fields)
-fields_shown [] are = All-from_recursion IsShown [] tt
-fields_shown (f ∷ fs) are =
-    All-append IsShown (44 ∷ field_text f) (behind_commas fs)
-    (All-append IsShown (44 ∷ []) (field_text f) (mark_shown 44 (omega arith) (omega arith)) (field_shown f are.0)) (fields_shown fs are.1)
+fields_print : (fields : List (List ℕ)) → AllByRecursion (All (λ b. b < 256)) fields → All IsPrintableByte (behind_commas fields)
+fields_print [] are = All-from_recursion IsPrintableByte [] tt
+fields_print (f ∷ fs) are =
+    All-append IsPrintableByte (44 ∷ field_text f) (behind_commas fs)
+    (All-append IsPrintableByte (44 ∷ []) (field_text f) (one_prints 44 (omega arith, omega arith)) (field_prints f are.0)) (fields_print fs are.1)
 
 -- the law: a row is printable before its line feed
 pub printable : RowsArePrintable
-printable [] are = ([], refl, All-from_recursion IsShown [] tt)
+printable [] are = ([], refl, All-from_recursion IsPrintableByte [] tt)
 printable (first ∷ others) are = (
   field_text first ++ behind_commas others,
   refl,
-  All-append IsShown (field_text first) (behind_commas others) (field_shown first are.0) (fields_shown others are.1),
+  All-append IsPrintableByte (field_text first) (behind_commas others) (field_prints first are.0) (fields_print others are.1),
 )

@@ -58,10 +58,10 @@ abbrev pub comma_where : Bool → List ℕ
 comma_where true = codes ","
 comma_where false = []
 
--- strings that hold these bytes, with commas between them, and one before the first if `behind` is true
+-- strings that hold these bytes, with commas between them, and one before the first if another string is before it (`after_another`)
 abbrev pub strings_text : Bool → List (List ℕ) → List ℕ
-strings_text behind [] = []
-strings_text behind (bytes ∷ others) = comma_where behind ++ (string_text bytes ++ strings_text true others)
+strings_text after_another [] = []
+strings_text after_another (bytes ∷ others) = comma_where after_another ++ (string_text bytes ++ strings_text true others)
 
 -- a list of strings that hold these bytes
 abbrev pub list_text : List (List ℕ) → List ℕ
@@ -70,6 +70,10 @@ list_text texts = codes "[" ++ (strings_text false texts ++ codes "]")
 -- a member that is a list of strings of these bytes, as it is written
 abbrev pub texts_member : List ℕ → List (List ℕ) → List ℕ
 texts_member name texts = named name ++ list_text texts
+
+-- the member `items`, a list of strings of these bytes, as it is written
+abbrev pub items_list : List (List ℕ) → List ℕ
+items_list texts = texts_member (codes "items") texts
 
 -- a member as it is written
 abbrev pub member_text : Member → List ℕ
@@ -85,7 +89,7 @@ members_text members = flat_map member_text members
 abbrev pub json_line : ℕ → List Member → List ℕ
 json_line run members = codes "{\"run\":" ++ string_text (stamp_text run) ++ members_text members ++ codes "}\n"
 
--- digits without the zeros before them; the last digit stays
+-- digits without leading zeros; of zeros alone the last stays, and no digits stay none
 abbrev pub without_zeros : List ℕ → List ℕ
 without_zeros [] = []
 without_zeros (b ∷ []) = b ∷ []
@@ -144,8 +148,8 @@ abbrev pub item_members : Option (List (List ℕ)) → List Member
 item_members None = []
 item_members (Some items) = Texts (codes "items") items ∷ []
 
--- the members of an answer, whose reply this line is: the quantities of a call of the table, and of any other procedure the items of the
--- line's values
+-- the members of an answer to `asked`, which came in this line: of a call of the table they are the answer's quantities, and of any
+-- other procedure the items of the line's values
 abbrev pub answer_members : Asked → Answer → List ℕ → List Member
 answer_members (Table call) answer line = values_members (column_of call answer) (answer_fields answer).values (values_of line)
 answer_members (Raw raw) answer line = item_members (split_items (values_of line))

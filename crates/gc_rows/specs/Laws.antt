@@ -25,18 +25,18 @@ use Rattle.gc_texts.specs.Stamps.{stamp_text}
 use Rattle.gc_texts.specs.declared.wish.Wish.{Wish}
 use Rattle.gc_rows.specs.declared.when.When.{When}
 
--- the columns cut from a reply's line are right: `rc_com` and `rc` are the numbers of the reply's codes in digits, and `values` its
+-- the columns cut from a reply's line give its fields: `rc_com` and `rc` are the numbers of the reply's codes in digits, and `values` its
 -- values as they are
-pub record ColumnsSay (line : List ℕ) (r : ReplyFields) : Type 0 where
+pub record ColumnsGiveReply (line : List ℕ) (r : ReplyFields) : Type 0 where
   pub rc_com : numbers.IsNumber (com_of line) r.rc_com
   pub rc : numbers.IsNumber (code_of line) r.rc
   pub values : values_of line ≡ r.params
 
 -- the columns of each reply's line are its fields
 abbrev pub ColumnsAreFields : Type 0
-ColumnsAreFields = (line : List ℕ) (r : ReplyFields) → IsReply line r → ColumnsSay line r
+ColumnsAreFields = (line : List ℕ) (r : ReplyFields) → IsReply line r → ColumnsGiveReply line r
 
--- if a reply's values are parameters of the grammar, these are the items that an object has of them
+-- if a reply's values are parameters of the grammar, these are their items (`items_of`), which an object has if they are 16 at most
 abbrev pub ItemsAreTheGrammars : Type 0
 ItemsAreTheGrammars = (text : List ℕ) (items : List (List ℕ)) → IsParams text items → items_of text ≡ items
 
@@ -120,10 +120,10 @@ pub record FitsIn64Bits (when : When) : Type 0 where
   pub place : when.stamp.turn.place < 2 ^ 64
   pub attempt : when.stamp.turn.attempt < 2 ^ 64
 
--- each member of a record's line has a plain name, and holds bytes or a number of JSON, so that the line reads back by
--- `JsonLinesReadBack`
-abbrev pub RecordsAreMembers : Type 0
-RecordsAreMembers =
+-- each member of a record's line has a plain name, and holds bytes, a number of JSON or a list of bytes (`IsPlainMember`), so that the
+-- line reads back by `JsonLinesReadBack`
+abbrev pub RecordsHavePlainMembers : Type 0
+RecordsHavePlainMembers =
     (when : When) (name : List ℕ) (command : Wish) (end : End)
     → FitsIn64Bits when → All (λ b. b < 256) name → command.target < 2 ^ 64 → IsEndOfBytes end
     → AllByRecursion IsPlainMember (json_members when name command end)

@@ -31,7 +31,7 @@ column_of_long GetFace = 9
 column_of_long GetPrism = 10
 column_of_long _ = 16
 
--- the column of the first value of a call's answer, counted from 0; each other value has the next column
+-- the column of the first value of a call's answer, counted from 0; each other value has the next column. 0 if there is no value
 abbrev pub column_of : Call → Answer → ℕ
 column_of call Nothing = 0
 column_of call (Angles hz v) = 0
@@ -46,7 +46,8 @@ column_of call (Version release version subversion) = 13
 column_of call (Name name) = 17
 column_of call (Date d) = 18
 
--- a value as a quantity: a number in its one written form, a byte as a number, and the bytes of a text without their quotes
+-- a value as a quantity: a number in its one written form, a byte as a number, a boolean as 0 or 1, and the bytes of a text without
+-- their quotes
 abbrev pub quantity_text : Value → List ℕ
 quantity_text (value.Byte n) = decimal n
 quantity_text (value.Text bytes) = bytes

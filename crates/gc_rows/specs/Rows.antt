@@ -32,8 +32,8 @@ abbrev pub values_of : List ℕ → List ℕ
 values_of line = behind 44 (behind 58 (behind 44 line))
 
 -- RC_COM, RC and VALUES as they were cut out of a reply's line are each no longer than the line
-abbrev pub AreNoLonger : (link code values line : List ℕ) → Type 0
-AreNoLonger link code values line = (length link ≤ length line) × (length code ≤ length line) × (length values ≤ length line)
+abbrev pub AreNoLonger : (com_code code values line : List ℕ) → Type 0
+AreNoLonger com_code code values line = (length com_code ≤ length line) × (length code ≤ length line) × (length values ≤ length line)
 
 -- whether a byte may occur in a field only within quotes: a comma, a double quote, CR or LF
 abbrev pub is_special : ℕ → Bool

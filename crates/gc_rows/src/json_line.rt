@@ -1,14 +1,14 @@
 //! Lines of JSON: a record as one object. Its quantities are members by their names, as numbers and as the reply wrote them; the values
 //! of a procedure that isn't in the table are one list of items.
 
-ghost use Rattle.std.specs.Prelude.{◌≡◌, ℕ, ◌+◌, ◌*◌, ◌≤◌, ◌<◌, ◌++◌, false, length, option_map, Some, codes};
+ghost use Rattle.std.specs.Prelude.{◌≡◌, ℕ, ◌+◌, ◌*◌, ◌≤◌, ◌<◌, ◌++◌, false, length, option_map, Some};
 ghost use Rattle.std.specs.List.{flat_map};
 ghost use Rattle.arrayvec.specs.ArrayVec.{array_vec_len};
 ghost use Rattle.gc_rows.specs.Items.{bytes_in, split_items};
 ghost use Rattle.gc_texts.specs.Endings.{ending_seen};
 ghost use Rattle.gc_texts.specs.Logs.{escaped};
 ghost use Rattle.gc_rows.specs.declared.json_line.TheConstants.{NAME_ROOM, VALUE_ROOM, STRINGS_ROOM, LIST_ROOM, ANSWER_ROOM, QUALITY_ROOM, LAST_ROOM, AFTER_ENDING_ROOM};
-ghost use Rattle.gc_rows.specs.JsonLines.{behind_backslash, in_quotes, named, string_text, text_member, number_member, comma_where, strings_text, texts_member, item_members, members_text, without_zeros, sent_members, when_members, name_members, command_members, fault_members, reply_members, ending_members, value_members, values_members, answer_members, quantity_members, quality_members, attempt_members, last_members, members_after_ending, json_line, json_members};
+ghost use Rattle.gc_rows.specs.JsonLines.{behind_backslash, in_quotes, named, string_text, text_member, number_member, comma_where, strings_text, items_list, item_members, members_text, without_zeros, sent_members, when_members, name_members, command_members, fault_members, reply_members, ending_members, value_members, values_members, answer_members, quantity_members, quality_members, attempt_members, last_members, members_after_ending, json_line, json_members};
 
 use crate::quantity::{answer_values, column_of, quantity_name, quantity_text};
 use crate::row::texts_of;
@@ -26,7 +26,8 @@ pub(crate) const JSON_ROOM: usize = 40_960;
 // The most bytes of a member's name of at most 37 bytes, with a comma before it, within quotes, and with a colon after.
 const NAME_ROOM: usize = 1 + 2 + 37 + 1;
 
-// The most bytes of a value's two members: the number with its name, and what the reply wrote, of at most 512 bytes, with its name.
+// The most bytes of a value's members: those of a number are the number with its name, and what the reply wrote, of at most 512 bytes,
+// with its name; a text's one member is shorter.
 const VALUE_ROOM: usize = 8 * 512 + 640;
 
 // The most bytes of up to 16 strings that hold 512 bytes together: each byte may be escaped as four, each of these come after a
@@ -76,17 +77,17 @@ fn append_string<const N: usize>(line: &mut ArrayVec<u8, N>, bytes: &[u8])
     append(line, b"\"");
 }
 
-// Appends a comma, the name of a member within double quotes, and a colon. The name is `name` with `ending` after it.
-fn append_name<const N: usize>(line: &mut ArrayVec<u8, N>, name: &[u8], ending: &[u8])
+// Appends a comma, the name of a member within double quotes, and a colon. The name is `name` with `suffix` after it.
+fn append_name<const N: usize>(line: &mut ArrayVec<u8, N>, name: &[u8], suffix: &[u8])
     requires short { length name.now ≤ 32 }
-    requires ends { length ending.now ≤ 5 }
+    requires ends { length suffix.now ≤ 5 }
     requires room { array_vec_len line.old + NAME_ROOM ≤ N }
-    ensures text { line.new.items ≡ line.old.items ++ named (name.now ++ ending.now) }
+    ensures text { line.new.items ≡ line.old.items ++ named (name.now ++ suffix.now) }
     ensures room { array_vec_len line.new ≤ array_vec_len line.old + NAME_ROOM }
 {
     append(line, b",\"");
     append(line, name);
-    append(line, ending);
+    append(line, suffix);
     append(line, b"\":");
 }
 
@@ -171,7 +172,7 @@ fn append_command<const N: usize>(line: &mut ArrayVec<u8, N>, command: &Wish, na
     );
 }
 
-// Digits without the zeros before them; the last digit stays.
+// Digits without leading zeros; of zeros alone the last stays, and no digits stay none.
 fn without_zeros(digits: &[u8]) -> &[u8]
     ensures is { result.now ≡ without_zeros digits.now }
     ensures short { length result.now ≤ length digits.now }
@@ -197,7 +198,8 @@ fn append_fault<const N: usize>(line: &mut ArrayVec<u8, N>, fault: Option<ValueF
     }
 }
 
-// Appends the members of a reply's line: its communication code, its return code, and its values, at most 5346 bytes.
+// Appends the members of a reply's line: its communication code and its return code, as numbers without leading zeros, and its values, as
+// a string. They have at most 5346 bytes.
 fn append_reply_texts<const N: usize>(line: &mut ArrayVec<u8, N>, reply: &Line)
     requires { array_vec_len line.old + 5346 ≤ N }
     ensures text { line.new.items ≡ line.old.items ++ members_text (reply_members (Some reply.now.items)) }
@@ -273,13 +275,13 @@ fn append_values<const N: usize>(
     }
 }
 
-// Appends a comma if `behind` is true, that is, if an item of the same list is before the next one.
-fn append_comma<const N: usize>(line: &mut ArrayVec<u8, N>, behind: bool)
+// Appends the comma before an item of a list, if another item is before it (`after_another`).
+fn append_comma<const N: usize>(line: &mut ArrayVec<u8, N>, after_another: bool)
     requires { array_vec_len line.old + 1 ≤ N }
-    ensures text { line.new.items ≡ line.old.items ++ comma_where behind }
+    ensures text { line.new.items ≡ line.old.items ++ comma_where after_another }
     ensures room { array_vec_len line.new ≤ array_vec_len line.old + 1 }
 {
-    if behind {
+    if after_another {
         append(line, b",");
     }
 }
@@ -303,7 +305,7 @@ fn append_list<const N: usize>(line: &mut ArrayVec<u8, N>, texts: &Items<'_>)
     requires short { bytes_in texts.now ≤ 512 }
     requires few { length texts.now ≤ 16 }
     requires room { array_vec_len line.old + LIST_ROOM ≤ N }
-    ensures text { line.new.items ≡ line.old.items ++ texts_member (codes "items") texts.now }
+    ensures text { line.new.items ≡ line.old.items ++ items_list texts.now }
     ensures room { array_vec_len line.new ≤ array_vec_len line.old + LIST_ROOM }
 {
     append_name(line, b"items", b"");
@@ -325,8 +327,8 @@ fn append_items<const N: usize>(line: &mut ArrayVec<u8, N>, values: &[u8])
     }
 }
 
-// Appends the quantities of an answer to a call of the table, whose reply this line is; of any other procedure the items of the line's
-// values.
+// Appends the members of an answer to `asked`; `reply` is the line in which the answer came. Of a call of the table they are the answer's
+// quantities, and of any other procedure the items of the line's values.
 fn append_answer<const N: usize>(
     line: &mut ArrayVec<u8, N>,
     asked: &Asked,

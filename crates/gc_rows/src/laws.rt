@@ -1,7 +1,7 @@
 //! What is proved of the definitions themselves. The functions have no effect: their contracts are the laws.
 
 ghost use Rattle.gc_rows.specs.ProcedureQuantities.{QuantitiesHaveTheirNames, RowsFillTheirColumns};
-ghost use Rattle.gc_rows.specs.Laws.{ColumnsAreFields, ItemsAreTheGrammars, RowsReadBack, RowsArePrintable, JsonLinesReadBack, RecordsAreMembers};
+ghost use Rattle.gc_rows.specs.Laws.{ColumnsAreFields, ItemsAreTheGrammars, RowsReadBack, RowsArePrintable, JsonLinesReadBack, RecordsHavePlainMembers};
 
 /// The columns `rc_com`, `rc` and `values` of a record are the fields of the reply's line: its communication code, its return
 /// code and its values.
@@ -33,8 +33,8 @@ pub fn json_lines_read_back()
 
 /// Each record's line of JSON is one of which `json_lines_read_back` speaks: its members have plain names and hold bytes,
 /// numbers of JSON or lists of bytes.
-pub fn records_are_members()
-    ensures { RecordsAreMembers }
+pub fn records_have_plain_members()
+    ensures { RecordsHavePlainMembers }
 {}
 
 /// The values of an answer are under the names of the quantities that its procedure returns by the manual's tables. The columns

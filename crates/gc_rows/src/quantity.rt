@@ -157,7 +157,8 @@ fn column_of_long(call: &Call) -> usize
     }
 }
 
-/// A value as a quantity: a number in its one written form, a byte as a number, and the bytes of a text without their quotes.
+/// A value as a quantity: a number in its one written form, a byte as a number, a boolean as 0 or 1, and the bytes of a text without
+/// their quotes.
 pub(crate) fn quantity_text(value: &Value) -> ArrayVec<u8, QUANTITY_ROOM>
     ensures { result.items ≡ quantity_text value.now }
 {

@@ -48,8 +48,8 @@ pub fn head(form: Form) -> &'static [u8]
     }
 }
 
-/// The bytes that a file of records in this form begins with, once it has a record: they distinguish it from a foreign file. None in
-/// the form `Lines`.
+/// The bytes that a file of records in this form begins with, once it has a record: they distinguish it from a foreign file. A file of
+/// `Lines` has no such bytes: the result is empty.
 pub fn sign(form: Form) -> &'static [u8]
     ensures { result.now ≡ sign_text form }
 {

@@ -101,7 +101,7 @@ fn append_doubled<const N: usize>(to: &mut ArrayVec<u8, N>, text: &[u8])
 }
 
 // Appends a text as a field: within double quotes if it has a byte that needs them, else as it is.
-fn append_quoted<const N: usize>(row: &mut ArrayVec<u8, N>, text: &[u8])
+fn append_csv_field<const N: usize>(row: &mut ArrayVec<u8, N>, text: &[u8])
     requires { array_vec_len row.old + 2 * length text.now + 2 ≤ N }
     ensures text { row.new.items ≡ row.old.items ++ csv_field text.now }
     ensures room { array_vec_len row.new ≤ array_vec_len row.old + 2 * length text.now + 2 }
@@ -122,7 +122,7 @@ fn append_field<const N: usize>(row: &mut ArrayVec<u8, N>, bytes: &[u8])
     ensures text { row.new.items ≡ row.old.items ++ field_text bytes.now }
     ensures room { array_vec_len row.new ≤ array_vec_len row.old + 8 * length bytes.now + 2 }
 {
-    append_quoted(row, &escaped(bytes));
+    append_csv_field(row, &escaped(bytes));
 }
 
 // Appends a comma and a field that holds these bytes, escaped as in a line of a log.

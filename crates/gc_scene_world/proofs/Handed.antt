@@ -1,7 +1,6 @@
--- For the loop that hands over n bytes of a direction, one completed line after the other: at each turn, handing over the bytes that are left leads to
--- the same streams as handing over all n bytes at the start.
-use Rattle.std.proofs.Common.{◌≡◌, ℕ, zero, suc, ◌+◌, ◌-◌, ◌<◌, ◌≤◌, Bool, true, false, cond, List, [], ◌∷◌, ◌++◌, length, map, drop, refl, sym, ◌∙◌, ap, subst, arith}
-use mathlib.Core.Path.{ap₂}
+-- For the loop that hands over n bytes of a direction, one completed line after the other: at each turn, handing over the bytes that are
+-- left leads to the same streams as handing over all n bytes at the start.
+use Rattle.std.proofs.Common.{◌≡◌, ℕ, suc, ◌+◌, ◌-◌, ◌<◌, ◌≤◌, Bool, true, false, cond, List, [], ◌∷◌, ◌++◌, length, map, refl, sym, ◌∙◌, ap, subst, arith}
 use Rattle.std.specs.Prelude.{replicate}
 use Rattle.std.proofs.lemmas.List.{length_push}
 use Rattle.gc_lines.specs.Lines.{with_end}
@@ -15,21 +14,15 @@ use Rattle.gc_scene_world.specs.SceneStages.{Seen, AreStreamsOf, IsRemainder, af
 use Rattle.gc_world.specs.declared.direction.Direction as world
 use Rattle.gc_world.specs.declared.direction.Direction.TheVariants.{Up, Down}
 use Rattle.gc_world.specs.Clients.{by_ids}
-use Rattle.gc_world.specs.Directions.{deliver, delivery, bytes, texts, lines, gone, reaches}
-use Rattle.gc_world.specs.Sides.{IsPart}
-use Rattle.gc_world.specs.Streams.{Streams, one_more, cut, up_texts, down_texts, remaining}
+use Rattle.gc_world.specs.Directions.{deliver, delivery, lines, gone, reaches}
+use Rattle.gc_world.specs.Streams.{Streams, cut, up_texts, down_texts, remaining}
 use Rattle.gc_world.specs.World.{Request, Numbered, Wire, World, up_delivered, down_delivered, happens, run}
-use Rattle.gc_world.proofs.Directions.{gone_reached, reaches_again, reaches_same, delivered, passing, bytes_pass, after_cut, one_less, not_idle}
-use Rattle.gc_world.proofs.Handed.{cut_long, in_front}
+use Rattle.gc_world.proofs.Directions.{after_cut}
+use Rattle.gc_world.proofs.Handed.{next, next_same, next_idle, ended}
 use Rattle.gc_world.proofs.Streaming.{cut_short}
 
--- where no byte of the front line remains, no line is in flight
-none_in_flight : (gone : ℕ) (lines : List (List ℕ)) → IsPart gone lines → remaining gone lines ≡ 0 → (lines ≡ []) × (gone ≡ 0)
-none_in_flight gone [] part e = (refl, part)
-none_in_flight gone (line ∷ lines) part e = absurd (omega (arith, part, e))
-
--- once one of `more` + 1 requests in flight was answered, and counted as an execution (b) or not, executions and requests in flight together
--- haven't grown
+-- once one of `more` + 1 requests in flight was answered, and counted as an execution (b) or not, executions and requests in flight
+-- together haven't grown
 executes : (executed : List ℕ) (k more : ℕ) (b : Bool) → length (cond b (executed ++ k ∷ []) executed) + more ≤ length executed + suc more
 executes executed k more true = omega (arith, length_push executed k)
 executes executed k more false = omega arith
@@ -78,62 +71,6 @@ delivered_wire : (width : ℕ) (d : world.Direction) (v : Streams (ById Call) Sc
 delivered_wire width Up v = refl
 delivered_wire width Down v = refl
 
--- One turn of that loop: n bytes of the direction d are to go over on the streams v, and `used` of them complete the front line.
-module _ (width : ℕ) (d : Direction) (v : Streams (ById Call) SceneState) where
-  -- the front line takes `used` of the n bytes: the cut at all n bytes is the cut of the lines behind that line at the n - used others, and one
-  -- line more
-  record IsNext (n used : ℕ) : Type 0 where
-    text : List ℕ
-    behind : List (List ℕ)
-    front : texts (world_direction d) v.world.wire ≡ text ∷ behind
-    cut_is : cut (lines (world_direction d) v.world.wire) (gone (world_direction d) v + n) ≡ one_more (cut (map with_end behind) (n - used))
-    tail : behind ≡ texts (world_direction d) (happens scene_ends (by_ids width scene_ends) v.world (deliver (world_direction d))).wire
-
-  -- `IsNext` holds where the front line takes what remains of it, which is some bytes and no more than n
-  next : (n used : ℕ) → used ≡ remaining (gone (world_direction d) v) (lines (world_direction d) v.world.wire) → 0 < used → used ≤ n → IsNext n used
-  next n used e some le =
-      let f = in_front (gone (world_direction d) v) (texts (world_direction d) v.world.wire) (subst (λ k. 0 < k) e some) in
-      let size : used ≡ length (with_end f.0) - gone (world_direction d) v = e ∙ ap (λ q. remaining (gone (world_direction d) v) (map with_end q)) f.2 in
-      let left : gone (world_direction d) v + n - length (with_end f.0) ≡ n - used = omega (arith, size, some, le) in
-      record {
-        text = f.0;
-        behind = f.1;
-        front = f.2;
-        cut_is = ap (λ q. cut (map with_end q) (gone (world_direction d) v + n)) f.2 ∙ cut_long (with_end f.0) (map with_end f.1) (gone (world_direction d) v + n) (omega (arith, size, some, le))
-            ∙ ap (λ k. one_more (cut (map with_end f.1) k)) left;
-        tail = sym (one_less scene_ends (by_ids width scene_ends) (world_direction d) v.world ∙ ap (drop 1) f.2);
-      }
-
-  -- the streams after the delivery of the front line
-  abbrev after : Streams (ById Call) SceneState
-  after = reaches (world_direction d) v (happens scene_ends (by_ids width scene_ends) v.world (deliver (world_direction d))) 0
-
-  -- handing over n bytes is delivering the front line, and then handing over the n - used others
-  next_same : (n used : ℕ) → IsNext n used → after_bytes width d v n ≡ after_bytes width d (after_event width v (delivery (world_direction d))) (n - used)
-  next_same n used h =
-      let rule = by_ids width scene_ends in
-      let c = cut (map with_end h.behind) (n - used) in
-      let w = happens scene_ends rule v.world (deliver (world_direction d)) in
-      let none : gone (world_direction d) after ≡ 0 = gone_reached (world_direction d) v w 0 in
-      let more : n - used ≡ gone (world_direction d) after + (n - used) = omega (arith, none) in
-      ap (after_cut scene_ends rule (world_direction d) v) h.cut_is ∙ sym (reaches_again (world_direction d) v w 0 (run scene_ends rule (replicate c.lines (deliver (world_direction d))) w) c.gone)
-      ∙ ap₂ (λ q k. after_cut scene_ends rule (world_direction d) after (cut (map with_end q) k)) h.tail more
-      ∙ ap (λ x. after_bytes width d x (n - used)) (sym (delivered scene_ends rule (world_direction d) v))
-
-  -- the delivery of the front line is no idle event
-  next_idle : (n used : ℕ) → IsNext n used → (after_event width v (delivery (world_direction d))).world.wire.idle ≡ v.world.wire.idle
-  next_idle n used h =
-      let some : length (texts (world_direction d) v.world.wire) ≡ suc (length h.behind) = ap length h.front in
-      ap (λ (w : Wire SceneState). w.idle) (delivered_wire width (world_direction d) v) ∙ not_idle scene_ends (by_ids width scene_ends) (world_direction d) v.world (omega (arith, some))
-
-  -- where no byte is in flight, handing over bytes changes nothing
-  no_bytes_no_change : (n : ℕ) → IsPart (gone (world_direction d) v) (lines (world_direction d) v.world.wire)
-      → remaining (gone (world_direction d) v) (lines (world_direction d) v.world.wire) ≡ 0 → after_bytes width d v n ≡ v
-  no_bytes_no_change n part e =
-      let none = none_in_flight (gone (world_direction d) v) (lines (world_direction d) v.world.wire) part e in
-      ap (λ q. after_cut scene_ends (by_ids width scene_ends) (world_direction d) v (cut q (gone (world_direction d) v + n))) none.0
-      ∙ ap (reaches (world_direction d) v v.world) (sym none.1) ∙ reaches_same (world_direction d) v
-
 -- the streams once some of n bytes were handed over: handing over those left leads where handing over all n leads
 pub record IsReached (width : ℕ) (d : Direction) (s : Seen) (v : Streams (ById Call) SceneState) (n left : ℕ) : Type 0 where
   pub now : Streams (ById Call) SceneState
@@ -151,13 +88,13 @@ module _ (width : ℕ) (d : Direction) (s : Seen) (v : Streams (ById Call) Scene
   pub reaches_next : (t : Seen) (used : ℕ) → used ≡ remaining (gone (world_direction d) h.now) (lines (world_direction d) h.now.world.wire) → 0 < used → used ≤ left
       → AreStreamsOf width t (after_event width h.now (delivery (world_direction d))) → IsReached width d t v n (left - used)
   reaches_next t used e some le shows =
-      let one = next width d h.now left used e some le in
+      let one = next scene_ends (by_ids width scene_ends) (world_direction d) h.now left used e some le in
       let more = subst (IsNoMore h.now.world.wire) (sym (delivered_wire width (world_direction d) h.now)) (no_more width (world_direction d) h.now.world) in
       record {
         now = after_event width h.now (delivery (world_direction d));
         shows = shows;
-        same = sym (next_same width d h.now left used one) ∙ h.same;
-        idle = next_idle width d h.now left used one ∙ h.idle;
+        same = sym (next_same scene_ends (by_ids width scene_ends) (world_direction d) h.now left used one) ∙ h.same;
+        idle = next_idle scene_ends (by_ids width scene_ends) (world_direction d) h.now left used one ∙ h.idle;
         room = record { executed = omega (arith, more.executed, h.room.executed); made = omega (arith, more.made, h.room.made) };
       }
 
@@ -167,20 +104,7 @@ module _ (width : ℕ) (d : Direction) (s : Seen) (v : Streams (ById Call) Scene
 
   -- where no byte is in flight any more, the streams are those that all n bytes lead to
   pub runs_dry : (r : ℕ) → IsRemainder (world_direction d) h.now r → r ≡ 0 → AreStreamsOf width s (after_bytes width d v n)
-  runs_dry r is e = subst (λ x. AreStreamsOf width s x) (sym (no_bytes_no_change width d h.now left is.part (sym is.left ∙ e)) ∙ h.same) h.shows
-
--- an event of n bytes leads to the streams that `after_bytes` gives, where n isn't 0 and bytes are in flight
-pub in_flight : (width : ℕ) (d : Direction) (v : Streams (ById Call) SceneState) (n r : ℕ)
-    → r ≡ remaining (gone (world_direction d) v) (lines (world_direction d) v.world.wire) → (n ≡ 0 → ⊥) → (r ≡ 0 → ⊥)
-    → after_event width v (bytes (world_direction d) n) ≡ after_bytes width d v n
-in_flight width d v n r e not none = bytes_pass scene_ends (by_ids width scene_ends) (world_direction d) v n ∙ by_cases n (lines (world_direction d) v.world.wire) not (λ z. none (e ∙ z))
-  where
-    -- by whether the count of bytes is 0, and whether a line is in flight
-    by_cases : (k : ℕ) (q : List (List ℕ)) → (k ≡ 0 → ⊥) → (remaining (gone (world_direction d) v) q ≡ 0 → ⊥)
-        → passing scene_ends (by_ids width scene_ends) (world_direction d) v q k ≡ after_cut scene_ends (by_ids width scene_ends) (world_direction d) v (cut q (gone (world_direction d) v + k))
-    by_cases zero q some more = absurd (some refl)
-    by_cases (suc k) [] some more = absurd (more refl)
-    by_cases (suc k) (l ∷ ls) some more = refl
+  runs_dry r is e = subst (λ x. AreStreamsOf width s x) (sym (ended scene_ends (by_ids width scene_ends) (world_direction d) h.now left is.part (sym is.left ∙ e)) ∙ h.same) h.shows
 
 -- Bytes that complete no line.
 

@@ -16,10 +16,6 @@ use Rattle.gc_world.proofs.Queues.{without_map, doubled_past}
 pub flight : (f : Flight) (texts : List (List ℕ)) (gone : ℕ) → f.texts ≡ texts → f.gone ≡ gone → f ≡ record { texts = texts; gone = gone }
 flight f texts gone e1 e2 = ap₂ {C = Flight} (λ (t : List (List ℕ)) n. record { texts = t; gone = n }) e1 e2
 
--- where the front line hasn't begun to go, no byte of it has gone
-not_begun : (gone : ℕ) → is_begun 0 gone ≡ false → gone ≡ 0
-not_begun gone e = let le : gone ≤ 0 = ltb-false 0 gone e in omega (arith, le)
-
 -- 0 bytes are a part of the front line, never all of it
 pub part_none : (texts : List (List ℕ)) → IsPart 0 (map with_end texts)
 part_none [] = refl
@@ -33,7 +29,10 @@ part_push gone (t ∷ ts) text h = h
 -- a loss of a line that hasn't begun to go leaves the part that has gone
 pub part_without : (k gone : ℕ) (texts : List (List ℕ)) → is_begun k gone ≡ false → IsPart gone (map with_end texts) → IsPart gone (map with_end (without k texts))
 part_without k gone [] e h = h
-part_without zero gone (t ∷ ts) e h = subst (λ g. IsPart g (map with_end ts)) (sym (not_begun gone e)) (part_none ts)
+part_without zero gone (t ∷ ts) e h =
+    let le : gone ≤ 0 = ltb-false 0 gone e in
+    let none : gone ≡ 0 = omega (arith, le) in
+    subst (λ g. IsPart g (map with_end ts)) (sym none) (part_none ts)
 part_without (suc k) gone (t ∷ ts) e h = h
 
 -- a repeat of a line that hasn't begun to go leaves the part that has gone
@@ -90,8 +89,8 @@ module _ {A : Type 0} (f : A → List ℕ) where
   doubled_text (z ∷ zs) (suc k) x y lt e same = ap (λ l. f z ∷ l) (doubled_text zs k x y (omega (arith, lt)) e same)
 
   -- once line k was put in once more, the lane is what `repeating` says
-  pub repeat_is : (k gone : ℕ) (old new : List A) (x y : A) → is_begun k gone ≡ false → k < length old → x ≡ get_or old k x → f y ≡ f x → new ≡ insert old k y
-      → ◌≡◌ {A = Flight} (record { texts = map f new; gone = gone }) (repeating k (record { texts = map f old; gone = gone }))
+  pub repeat_is : (k gone : ℕ) (old new : List A) (x y : A) (whole : is_begun k gone ≡ false) (there : k < length old) (at : x ≡ get_or old k x) (same : f y ≡ f x)
+      (is : new ≡ insert old k y) → ◌≡◌ {A = Flight} (record { texts = map f new; gone = gone }) (repeating k (record { texts = map f old; gone = gone }))
   repeat_is k gone old new x y whole lt at same is =
       ap {B = Flight} (λ (t : List (List ℕ)). record { texts = t; gone = gone }) (ap (map f) is ∙ doubled_text old k x y lt at same)
       ∙ ap {B = Flight} (λ b. cond b (record { texts = map f old; gone = gone }) (record { texts = doubled k (map f old); gone = gone })) (sym whole)

@@ -1,5 +1,4 @@
 pub mod Exchanges
-pub mod Booked
 pub mod Lanes
 pub mod Shown
 pub mod Handed

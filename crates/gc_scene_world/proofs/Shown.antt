@@ -1,7 +1,7 @@
--- For the proofs of `stage.rt`. The parts of a stage *show* streams where they are those of the streams (`AreStreamsOf`). Each lemma says: where they
--- show streams, and a function has done to them what its contract says, they show the streams after that event. Variables such as `up` and
--- `settled` are the values that the function left; the premises are what its contract says of them.
-use Rattle.std.proofs.Common.{◌≡◌, ℕ, zero, suc, ◌+◌, ◌<◌, ◌≤◌, ◌⊎◌, inl, inr, Bool, true, false, cond, List, [], ◌∷◌, ◌++◌, length, map, Some, None, refl, sym, ◌∙◌, ap, subst, ltb, arith}
+-- For the proofs of `stage.rt`. The parts of a stage *show* streams where they are those of the streams (`AreStreamsOf`). Each lemma says:
+-- where they show streams, and a function has done to them what its contract says, they show the streams after that event. Variables such
+-- as `up` and `settled` are the values that the function left; the premises are what its contract says of them.
+use Rattle.std.proofs.Common.{◌≡◌, ℕ, ◌+◌, ◌<◌, ◌≤◌, ◌⊎◌, Bool, true, false, cond, List, [], ◌∷◌, ◌++◌, length, map, Some, None, refl, sym, ◌∙◌, ap, subst, ltb, arith}
 use mathlib.Core.Path.{ap₂}
 use Rattle.std.specs.Prelude.{IsTrue, ◌↔◌}
 use Rattle.std.proofs.lemmas.List.{map-append, length-map, length_push}
@@ -21,19 +21,18 @@ use Rattle.gc_scene_world.specs.Lanes.{Flight, is_whole, pushed}
 use Rattle.gc_scene_world.specs.SceneReports.{AreCounts}
 use Rattle.gc_scene_world.specs.SceneRuns.{scene_handed, scene_ends}
 use Rattle.gc_scene_world.specs.SceneStages.{Seen, AreStreamsOf, IsAsked, IsRemainder, after_event}
-use Rattle.gc_scene_world.proofs.Exchanges.{Notes, id_of, counted, exchanged}
+use Rattle.gc_scene_world.proofs.Exchanges.{Notes, counted, exchanged}
 use Rattle.gc_scene_world.proofs.Lanes.{flight}
 use Rattle.gc_world.specs.declared.direction.Direction.{Direction}
-use Rattle.gc_world.specs.declared.direction.Direction.TheVariants.{Up, Down}
 use Rattle.gc_world.specs.declared.event.Event.TheVariants as event
 use Rattle.gc_world.specs.Clients.{by_ids}
-use Rattle.gc_world.specs.Directions.{bytes, lines, gone, reaches}
+use Rattle.gc_world.specs.Directions.{bytes, lines, gone}
 use Rattle.gc_world.specs.Order.{Each}
-use Rattle.gc_world.specs.Sides.{IsPart}
-use Rattle.gc_world.specs.Streams.{Streams, up_texts, down_texts, is_begun, at_line, remaining}
+use Rattle.gc_world.specs.Streams.{Streams, up_texts, down_texts, is_begun, at_line}
 use Rattle.gc_world.specs.World.{Request, Numbered, Wire, World, Step, Up_lose, Up_repeat, Down_lose, Down_repeat, Nothing, without, doubled, idle, up_delivered, with_up, with_down, on_wire, requested, down_delivered, client_restarted, instrument_restarted, happens}
-use Rattle.gc_world.proofs.Directions.{passing, bytes_pass}
-use Rattle.gc_world.proofs.Showing.{are_more, hears_next, sends_next}
+use Rattle.gc_world.proofs.Directions.{bytes_pass, idle_bytes}
+use Rattle.gc_world.proofs.Handing.{kept_id}
+use Rattle.gc_world.proofs.Showing.{are_more, hears_next, sends_next, map_none}
 use Rattle.gc_world.proofs.Queues.{without_map, doubled_map, without_past, doubled_past}
 use Rattle.gc_world.proofs.Rows.{each_append, each_without, each_doubled}
 
@@ -46,10 +45,14 @@ abbrev pub tallied : Bool → Counts → Counts
 tallied true c = c
 tallied false c = record c { idle_events = c.idle_events + 1 }
 
--- where mapping a function over a list gives the empty list, the list is empty
-map_none : {A B : Type 0} (f : A → B) (xs : List A) → map f xs ≡ [] → xs ≡ []
-map_none f [] e = refl
-map_none f (x ∷ xs) e = cc
+-- what `tallied` gives, written as one record, where n is its count of events that were not possible
+pub tallied_is : (b : Bool) (c : Counts) (n : ℕ) → n ≡ cond b c.idle_events (c.idle_events + 1) → tallied b c ≡ record c { idle_events = n }
+tallied_is b c n is = by_possible b ∙ ap (λ (i : ℕ). record c { idle_events = i }) (sym is)
+  where
+    -- by whether the event is possible
+    by_possible : (t : Bool) → tallied t c ≡ record c { idle_events = cond t c.idle_events (c.idle_events + 1) }
+    by_possible true = refl
+    by_possible false = refl
 
 -- an event that is not possible is counted in the stage as in the wire
 counts_idle : (c : Counts) (w : Wire SceneState) → AreCounts c w → AreCounts (tallied false c) (idle w)
@@ -153,9 +156,8 @@ module _ (width : ℕ) (s : Seen) (v : Streams (ById Call) SceneState) (h : AreS
 
   -- once the front request was delivered, and its reply put behind the others, the streams after that event are shown
   pub streams_up_deliver : (request : List ℕ) (up : Flight) (instrument : SceneState) (old reply : List ℕ) (b : Bool) (executed : ℕ) (down : Flight)
-      → s.up.texts ≡ request ∷ up.texts → up.gone ≡ 0 → old ≡ []
-      → AppendsAnswer (IsPlayed s.instrument request instrument) old reply b → Notes s.instrument.repeats (id_of s.instrument.base.kept) (id_of instrument.base.kept) s.counts.executed executed
-      → down ≡ pushed s.down reply
+      (front : s.up.texts ≡ request ∷ up.texts) (start : up.gone ≡ 0) (empty : old ≡ []) (played : AppendsAnswer (IsPlayed s.instrument request instrument) old reply b)
+      (notes : Notes s.instrument.repeats (kept_id s.instrument.base.kept) (kept_id instrument.base.kept) s.counts.executed executed) (down_is : down ≡ pushed s.down reply)
       → AreStreamsOf width (record s { instrument = instrument; up = up; down = down; counts = record s.counts { executed = executed; made = s.counts.made + 1 } })
       (after_event width v event.UpDeliver)
   streams_up_deliver request up instrument old reply b executed down e start empty played notes down_is = by_front v.world.wire.up refl
@@ -249,126 +251,6 @@ module _ (width : ℕ) (s : Seen) (v : Streams (ById Call) SceneState) (h : AreS
   down_length : length s.down.texts ≡ length v.world.wire.down
   down_length = ap (λ (f : Flight). length f.texts) h.down ∙ length-map v.world.wire.down (λ x. x.line)
 
-  -- once the upward lane has these texts, if the step is possible (b), or else the event was counted, the streams after the step are shown
-  up_changed : (k : ℕ) (texts : List (List ℕ)) (us : List (Numbered Request)) (step : Step) (b : Bool) (up : Flight) → b ≡ is_whole k s.up
-      → up ≡ cond (is_begun k s.up.gone) s.up (record s.up { texts = texts }) → texts ≡ map bytes_of us → (length s.up.texts ≤ k → texts ≡ s.up.texts) → Each IsAsked us
-      → happens scene_ends (by_ids width scene_ends) v.world step ≡ on_wire v.world (with_up v.world.wire us (ltb k (length v.world.wire.up)))
-      → AreStreamsOf width (record s { up = up; counts = tallied b s.counts }) (with_world (happens scene_ends (by_ids width scene_ends) v.world (at_line k v.up_gone step)))
-  up_changed k texts us step b up b_is up_is texts_are past asked step_is = by_begun (is_begun k v.up_gone) refl
-    where
-      -- whether line k has begun to go is the same in the stage and in the streams
-      same_gone : is_begun k s.up.gone ≡ is_begun k v.up_gone
-      same_gone = ap (λ (f : Flight). is_begun k f.gone) h.up
-
-      -- where line k hasn't begun to go: by whether it is in flight
-      by_there : (t : Bool) → is_begun k s.up.gone ≡ false → ltb k (length s.up.texts) ≡ t
-          → AreStreamsOf width (record s { up = up; counts = tallied b s.counts }) (with_world (on_wire v.world (with_up v.world.wire us t)))
-      by_there true whole there =
-          let said : b ≡ true = b_is ∙ ap (λ g. cond g false (ltb k (length s.up.texts))) whole ∙ there in
-          record {
-            client = h.client;
-            next = h.next;
-            instrument = h.instrument;
-            up = flight up (map bytes_of us) v.up_gone (ap (λ (f : Flight). f.texts) (up_is ∙ ap (λ g. cond g s.up (record s.up { texts = texts })) whole) ∙ texts_are)
-                (ap (λ (f : Flight). f.gone) (up_is ∙ ap (λ g. cond g s.up (record s.up { texts = texts })) whole) ∙ ap (λ (f : Flight). f.gone) h.up);
-            down = h.down;
-            requests = asked;
-            settled = h.settled;
-            counts = subst (λ c. AreCounts (tallied c s.counts) (record v.world.wire { up = us })) (sym said) (counts_queues s.counts v.world.wire us v.world.wire.down h.counts);
-          }
-      by_there false whole there =
-          let said : b ≡ false = b_is ∙ ap (λ g. cond g false (ltb k (length s.up.texts))) whole ∙ there in
-          record {
-            client = h.client;
-            next = h.next;
-            instrument = h.instrument;
-            up = up_is ∙ ap (λ g. cond g s.up (record s.up { texts = texts })) whole ∙ ap (λ (t : List (List ℕ)). record s.up { texts = t }) (past (ltb-false _ _ there)) ∙ h.up;
-            down = h.down;
-            requests = h.requests;
-            settled = h.settled;
-            counts = subst (λ c. AreCounts (tallied c s.counts) (idle v.world.wire)) (sym said) (counts_idle s.counts v.world.wire h.counts);
-          }
-
-      -- by whether line k has begun to go
-      by_begun : (g : Bool) → is_begun k v.up_gone ≡ g
-          → AreStreamsOf width (record s { up = up; counts = tallied b s.counts }) (with_world (happens scene_ends (by_ids width scene_ends) v.world (cond g Nothing step)))
-      by_begun true e =
-          let begun : is_begun k s.up.gone ≡ true = same_gone ∙ e in
-          let said : b ≡ false = b_is ∙ ap (λ g. cond g false (ltb k (length s.up.texts))) begun in
-          record {
-            client = h.client;
-            next = h.next;
-            instrument = h.instrument;
-            up = up_is ∙ ap (λ g. cond g s.up (record s.up { texts = texts })) begun ∙ h.up;
-            down = h.down;
-            requests = h.requests;
-            settled = h.settled;
-            counts = subst (λ c. AreCounts (tallied c s.counts) (idle v.world.wire)) (sym said) (counts_idle s.counts v.world.wire h.counts);
-          }
-      by_begun false e =
-          subst (λ (w : World (ById Call) SceneState). AreStreamsOf width (record s { up = up; counts = tallied b s.counts }) (with_world w)) (sym step_is)
-          (by_there (ltb k (length v.world.wire.up)) (same_gone ∙ e) (ap (ltb k) up_length))
-
-  -- once the downward lane has these texts, if the step is possible (b), or else the event was counted, the streams after the step are shown
-  down_changed : (k : ℕ) (texts : List (List ℕ)) (ds : List (Numbered (List ℕ))) (step : Step) (b : Bool) (down : Flight) → b ≡ is_whole k s.down
-      → down ≡ cond (is_begun k s.down.gone) s.down (record s.down { texts = texts }) → texts ≡ map (λ x. x.line) ds → (length s.down.texts ≤ k → texts ≡ s.down.texts)
-      → happens scene_ends (by_ids width scene_ends) v.world step ≡ on_wire v.world (with_down v.world.wire ds (ltb k (length v.world.wire.down)))
-      → AreStreamsOf width (record s { down = down; counts = tallied b s.counts }) (with_world (happens scene_ends (by_ids width scene_ends) v.world (at_line k v.down_gone step)))
-  down_changed k texts ds step b down b_is down_is texts_are past step_is = by_begun (is_begun k v.down_gone) refl
-    where
-      -- whether line k has begun to go is the same in the stage and in the streams
-      same_gone : is_begun k s.down.gone ≡ is_begun k v.down_gone
-      same_gone = ap (λ (f : Flight). is_begun k f.gone) h.down
-
-      -- where line k hasn't begun to go: by whether it is in flight
-      by_there : (t : Bool) → is_begun k s.down.gone ≡ false → ltb k (length s.down.texts) ≡ t
-          → AreStreamsOf width (record s { down = down; counts = tallied b s.counts }) (with_world (on_wire v.world (with_down v.world.wire ds t)))
-      by_there true whole there =
-          let said : b ≡ true = b_is ∙ ap (λ g. cond g false (ltb k (length s.down.texts))) whole ∙ there in
-          record {
-            client = h.client;
-            next = h.next;
-            instrument = h.instrument;
-            up = h.up;
-            down = flight down (map (λ x. x.line) ds) v.down_gone (ap (λ (f : Flight). f.texts) (down_is ∙ ap (λ g. cond g s.down (record s.down { texts = texts })) whole) ∙ texts_are)
-                (ap (λ (f : Flight). f.gone) (down_is ∙ ap (λ g. cond g s.down (record s.down { texts = texts })) whole) ∙ ap (λ (f : Flight). f.gone) h.down);
-            requests = h.requests;
-            settled = h.settled;
-            counts = subst (λ c. AreCounts (tallied c s.counts) (record v.world.wire { down = ds })) (sym said) (counts_queues s.counts v.world.wire v.world.wire.up ds h.counts);
-          }
-      by_there false whole there =
-          let said : b ≡ false = b_is ∙ ap (λ g. cond g false (ltb k (length s.down.texts))) whole ∙ there in
-          record {
-            client = h.client;
-            next = h.next;
-            instrument = h.instrument;
-            up = h.up;
-            down = down_is ∙ ap (λ g. cond g s.down (record s.down { texts = texts })) whole ∙ ap (λ (t : List (List ℕ)). record s.down { texts = t }) (past (ltb-false _ _ there)) ∙ h.down;
-            requests = h.requests;
-            settled = h.settled;
-            counts = subst (λ c. AreCounts (tallied c s.counts) (idle v.world.wire)) (sym said) (counts_idle s.counts v.world.wire h.counts);
-          }
-
-      -- by whether line k has begun to go
-      by_begun : (g : Bool) → is_begun k v.down_gone ≡ g
-          → AreStreamsOf width (record s { down = down; counts = tallied b s.counts }) (with_world (happens scene_ends (by_ids width scene_ends) v.world (cond g Nothing step)))
-      by_begun true e =
-          let begun : is_begun k s.down.gone ≡ true = same_gone ∙ e in
-          let said : b ≡ false = b_is ∙ ap (λ g. cond g false (ltb k (length s.down.texts))) begun in
-          record {
-            client = h.client;
-            next = h.next;
-            instrument = h.instrument;
-            up = h.up;
-            down = down_is ∙ ap (λ g. cond g s.down (record s.down { texts = texts })) begun ∙ h.down;
-            requests = h.requests;
-            settled = h.settled;
-            counts = subst (λ c. AreCounts (tallied c s.counts) (idle v.world.wire)) (sym said) (counts_idle s.counts v.world.wire h.counts);
-          }
-      by_begun false e =
-          subst (λ (w : World (ById Call) SceneState). AreStreamsOf width (record s { down = down; counts = tallied b s.counts }) (with_world w)) (sym step_is)
-          (by_there (ltb k (length v.world.wire.down)) (same_gone ∙ e) (ap (ltb k) down_length))
-
   -- the texts of the upward lane are those of the world's queue
   up_are : s.up.texts ≡ map bytes_of v.world.wire.up
   up_are = ap (λ (f : Flight). f.texts) h.up
@@ -377,30 +259,129 @@ module _ (width : ℕ) (s : Seen) (v : Streams (ById Call) SceneState) (h : AreS
   down_are : s.down.texts ≡ map (λ (x : Numbered (List ℕ)). x.line) v.world.wire.down
   down_are = ap (λ (f : Flight). f.texts) h.down
 
+  -- once line k of a lane was lost or repeated by this step, or the event was only counted, since that wasn't possible (b: whether it was),
+  -- the streams after the step are shown. `old` is the lane before the step and `lane` after it; the step leaves these texts; g bytes of
+  -- the front line have gone; `put` sets a lane and counts in the stage. The last premise is the case in which line k hasn't begun to go
+  changed : (old : Flight) (g : ℕ) (put : Flight → Counts → Seen) (k : ℕ) (texts : List (List ℕ)) (step : Step) (b : Bool) (lane : Flight) (gone_is : old.gone ≡ g)
+      (same : put old (tallied false s.counts) ≡ record s { counts = tallied false s.counts }) (b_is : b ≡ is_whole k old)
+      (lane_is : lane ≡ cond (is_begun k old.gone) old (record old { texts = texts }))
+      → ((t : Bool) → ltb k (length old.texts) ≡ t
+      → AreStreamsOf width (put (record old { texts = texts }) (tallied t s.counts)) (with_world (happens scene_ends (by_ids width scene_ends) v.world step)))
+      → AreStreamsOf width (put lane (tallied b s.counts)) (with_world (happens scene_ends (by_ids width scene_ends) v.world (at_line k g step)))
+  changed old g put k texts step b lane gone_is same b_is lane_is whole = by_begun (is_begun k g) (ap (is_begun k) gone_is)
+    where
+      -- by whether line k has begun to go
+      by_begun : (began : Bool) → is_begun k old.gone ≡ began
+          → AreStreamsOf width (put lane (tallied b s.counts)) (with_world (happens scene_ends (by_ids width scene_ends) v.world (cond began Nothing step)))
+      by_begun true e =
+          let said : b ≡ false = b_is ∙ ap (λ c. cond c false (ltb k (length old.texts))) e in
+          let left : lane ≡ old = lane_is ∙ ap (λ c. cond c old (record old { texts = texts })) e in
+          subst (λ t. AreStreamsOf width t (with_world (happens scene_ends (by_ids width scene_ends) v.world Nothing)))
+          (sym (ap₂ (λ (f : Flight) (c : Bool). put f (tallied c s.counts)) left said ∙ same)) idle_event
+      by_begun false e =
+          let said : b ≡ ltb k (length old.texts) = b_is ∙ ap (λ c. cond c false (ltb k (length old.texts))) e in
+          let left : lane ≡ record old { texts = texts } = lane_is ∙ ap (λ c. cond c old (record old { texts = texts })) e in
+          subst (λ t. AreStreamsOf width t (with_world (happens scene_ends (by_ids width scene_ends) v.world step)))
+          (sym (ap₂ (λ (f : Flight) (c : Bool). put f (tallied c s.counts)) left said)) (whole (ltb k (length old.texts)) refl)
+
+  -- once the upward lane has these texts, if there is a line k (t), or else the event was counted, the streams with that queue are shown
+  up_changed : (k : ℕ) (texts : List (List ℕ)) (us : List (Numbered Request)) (texts_are : texts ≡ map bytes_of us) (past : length s.up.texts ≤ k → texts ≡ s.up.texts)
+      (asked : Each IsAsked us) (t : Bool) → ltb k (length s.up.texts) ≡ t → AreStreamsOf width (record s { up = record s.up { texts = texts }; counts = tallied t s.counts })
+      (with_world (on_wire v.world (with_up v.world.wire us (ltb k (length v.world.wire.up)))))
+  up_changed k texts us texts_are past asked t there =
+      subst (λ c. AreStreamsOf width (record s { up = record s.up { texts = texts }; counts = tallied t s.counts }) (with_world (on_wire v.world (with_up v.world.wire us c))))
+      (sym (ap (ltb k) (sym up_length) ∙ there)) (by_there t there)
+    where
+      -- by whether there is a line k
+      by_there : (t : Bool) → ltb k (length s.up.texts) ≡ t
+          → AreStreamsOf width (record s { up = record s.up { texts = texts }; counts = tallied t s.counts }) (with_world (on_wire v.world (with_up v.world.wire us t)))
+      by_there true there = record {
+        client = h.client;
+        next = h.next;
+        instrument = h.instrument;
+        up = flight (record s.up { texts = texts }) (map bytes_of us) v.up_gone texts_are (ap (λ (f : Flight). f.gone) h.up);
+        down = h.down;
+        requests = asked;
+        settled = h.settled;
+        counts = counts_queues s.counts v.world.wire us v.world.wire.down h.counts;
+      }
+      by_there false there = record {
+        client = h.client;
+        next = h.next;
+        instrument = h.instrument;
+        up = ap (λ (x : List (List ℕ)). record s.up { texts = x }) (past (ltb-false _ _ there)) ∙ h.up;
+        down = h.down;
+        requests = h.requests;
+        settled = h.settled;
+        counts = counts_idle s.counts v.world.wire h.counts;
+      }
+
+  -- once the downward lane has these texts, if there is a line k (t), or else the event was counted, the streams with that queue are shown
+  down_changed : (k : ℕ) (texts : List (List ℕ)) (ds : List (Numbered (List ℕ))) (texts_are : texts ≡ map (λ x. x.line) ds) (past : length s.down.texts ≤ k → texts ≡ s.down.texts)
+      (t : Bool) → ltb k (length s.down.texts) ≡ t → AreStreamsOf width (record s { down = record s.down { texts = texts }; counts = tallied t s.counts })
+      (with_world (on_wire v.world (with_down v.world.wire ds (ltb k (length v.world.wire.down)))))
+  down_changed k texts ds texts_are past t there =
+      subst (λ c. AreStreamsOf width (record s { down = record s.down { texts = texts }; counts = tallied t s.counts }) (with_world (on_wire v.world (with_down v.world.wire ds c))))
+      (sym (ap (ltb k) (sym down_length) ∙ there)) (by_there t there)
+    where
+      -- by whether there is a line k
+      by_there : (t : Bool) → ltb k (length s.down.texts) ≡ t
+          → AreStreamsOf width (record s { down = record s.down { texts = texts }; counts = tallied t s.counts }) (with_world (on_wire v.world (with_down v.world.wire ds t)))
+      by_there true there = record {
+        client = h.client;
+        next = h.next;
+        instrument = h.instrument;
+        up = h.up;
+        down = flight (record s.down { texts = texts }) (map (λ x. x.line) ds) v.down_gone texts_are (ap (λ (f : Flight). f.gone) h.down);
+        requests = h.requests;
+        settled = h.settled;
+        counts = counts_queues s.counts v.world.wire v.world.wire.up ds h.counts;
+      }
+      by_there false there = record {
+        client = h.client;
+        next = h.next;
+        instrument = h.instrument;
+        up = h.up;
+        down = ap (λ (x : List (List ℕ)). record s.down { texts = x }) (past (ltb-false _ _ there)) ∙ h.down;
+        requests = h.requests;
+        settled = h.settled;
+        counts = counts_idle s.counts v.world.wire h.counts;
+      }
+
   module _ (k : ℕ) (b : Bool) (lane : Flight) where
     -- once line k of the upward lane was lost, if that was possible, the streams after that event are shown
     pub up_lost : b ≡ is_whole k s.up → lane ≡ cond (is_begun k s.up.gone) s.up (record s.up { texts = without k s.up.texts })
         → AreStreamsOf width (record s { up = lane; counts = tallied b s.counts }) (after_event width v (event.UpLose k))
-    up_lost said left = up_changed k (without k s.up.texts) (without k v.world.wire.up) (Up_lose k) b lane said left
-        (ap (without k) up_are ∙ without_map bytes_of k v.world.wire.up) (without_past k s.up.texts) (each_without IsAsked k v.world.wire.up h.requests) refl
+    up_lost said left =
+        changed s.up v.up_gone (λ (f : Flight) (c : Counts). record s { up = f; counts = c }) k (without k s.up.texts) (Up_lose k) b lane
+        (ap (λ (f : Flight). f.gone) h.up) refl said left
+        (up_changed k (without k s.up.texts) (without k v.world.wire.up) (ap (without k) up_are ∙ without_map bytes_of k v.world.wire.up) (without_past k s.up.texts)
+        (each_without IsAsked k v.world.wire.up h.requests))
 
     -- once line k of the upward lane was repeated, if that was possible, the streams after that event are shown
     pub up_repeated : b ≡ is_whole k s.up → lane ≡ cond (is_begun k s.up.gone) s.up (record s.up { texts = doubled k s.up.texts })
         → AreStreamsOf width (record s { up = lane; counts = tallied b s.counts }) (after_event width v (event.UpRepeat k))
-    up_repeated said left = up_changed k (doubled k s.up.texts) (doubled k v.world.wire.up) (Up_repeat k) b lane said left
-        (ap (doubled k) up_are ∙ doubled_map bytes_of k v.world.wire.up) (doubled_past k s.up.texts) (each_doubled IsAsked k v.world.wire.up h.requests) refl
+    up_repeated said left =
+        changed s.up v.up_gone (λ (f : Flight) (c : Counts). record s { up = f; counts = c }) k (doubled k s.up.texts) (Up_repeat k) b lane
+        (ap (λ (f : Flight). f.gone) h.up) refl said left
+        (up_changed k (doubled k s.up.texts) (doubled k v.world.wire.up) (ap (doubled k) up_are ∙ doubled_map bytes_of k v.world.wire.up) (doubled_past k s.up.texts)
+        (each_doubled IsAsked k v.world.wire.up h.requests))
 
     -- once line k of the downward lane was lost, if that was possible, the streams after that event are shown
     pub down_lost : b ≡ is_whole k s.down → lane ≡ cond (is_begun k s.down.gone) s.down (record s.down { texts = without k s.down.texts })
         → AreStreamsOf width (record s { down = lane; counts = tallied b s.counts }) (after_event width v (event.DownLose k))
-    down_lost said left = down_changed k (without k s.down.texts) (without k v.world.wire.down) (Down_lose k) b lane said left
-        (ap (without k) down_are ∙ without_map (λ x. x.line) k v.world.wire.down) (without_past k s.down.texts) refl
+    down_lost said left =
+        changed s.down v.down_gone (λ (f : Flight) (c : Counts). record s { down = f; counts = c }) k (without k s.down.texts) (Down_lose k) b lane
+        (ap (λ (f : Flight). f.gone) h.down) refl said left
+        (down_changed k (without k s.down.texts) (without k v.world.wire.down) (ap (without k) down_are ∙ without_map (λ x. x.line) k v.world.wire.down) (without_past k s.down.texts))
 
     -- once line k of the downward lane was repeated, if that was possible, the streams after that event are shown
     pub down_repeated : b ≡ is_whole k s.down → lane ≡ cond (is_begun k s.down.gone) s.down (record s.down { texts = doubled k s.down.texts })
         → AreStreamsOf width (record s { down = lane; counts = tallied b s.counts }) (after_event width v (event.DownRepeat k))
-    down_repeated said left = down_changed k (doubled k s.down.texts) (doubled k v.world.wire.down) (Down_repeat k) b lane said left
-        (ap (doubled k) down_are ∙ doubled_map (λ x. x.line) k v.world.wire.down) (doubled_past k s.down.texts) refl
+    down_repeated said left =
+        changed s.down v.down_gone (λ (f : Flight) (c : Counts). record s { down = f; counts = c }) k (doubled k s.down.texts) (Down_repeat k) b lane
+        (ap (λ (f : Flight). f.gone) h.down) refl said left
+        (down_changed k (doubled k s.down.texts) (doubled k v.world.wire.down) (ap (doubled k) down_are ∙ doubled_map (λ x. x.line) k v.world.wire.down) (doubled_past k s.down.texts))
 
   -- Moments and restarts.
 
@@ -483,20 +464,7 @@ module _ (width : ℕ) (s : Seen) (v : Streams (ById Call) SceneState) (h : AreS
   pub streams_idle_bytes : (d : Direction) (n r : ℕ) → IsRemainder d v r → (n ≡ 0) ⊎ (r ≡ 0) → AreStreamsOf width (record s { counts = tallied false s.counts }) (after_event width v (bytes d n))
   streams_idle_bytes d n r left none =
       subst (λ (x : Streams (ById Call) SceneState). AreStreamsOf width (record s { counts = tallied false s.counts }) x)
-      (sym (bytes_pass scene_ends (by_ids width scene_ends) d v n ∙ by_lines (lines d v.world.wire) n left.left none left.part)) idle_event
-    where
-      -- an event that is not possible leaves how much of the front lines has gone
-      unmoved : (d : Direction) → reaches d v (on_wire v.world (idle v.world.wire)) (gone d v) ≡ with_world (on_wire v.world (idle v.world.wire))
-      unmoved Up = refl
-      unmoved Down = refl
-
-      -- by whether a line of the direction is in flight, and whether n is 0
-      by_lines : (q : List (List ℕ)) (n : ℕ) → r ≡ remaining (gone d v) q → (n ≡ 0) ⊎ (r ≡ 0) → IsPart (gone d v) q
-          → passing scene_ends (by_ids width scene_ends) d v q n ≡ with_world (on_wire v.world (idle v.world.wire))
-      by_lines [] n e none part = unmoved d
-      by_lines (line ∷ q) zero e none part = unmoved d
-      by_lines (line ∷ q) (suc n) e (inl z) part = absurd (omega (arith, z))
-      by_lines (line ∷ q) (suc n) e (inr z) part = absurd (omega (arith, e, z, part))
+      (sym (bytes_pass scene_ends (by_ids width scene_ends) d v n ∙ idle_bytes scene_ends (by_ids width scene_ends) d v (lines d v.world.wire) n left.left none left.part)) idle_event
 
 -- where P says that no line is in flight, and the test for P gives false, P doesn't hold
 pub is_busy : {P : Type 0} (quiet : Bool) → IsTrue quiet ↔ P → quiet ≡ false → P → ⊥

@@ -20,6 +20,10 @@ losing k f = if is_begun k f.gone then f else record f { texts = without k f.tex
 abbrev pub repeating : ℕ → Flight → Flight
 repeating k f = if is_begun k f.gone then f else record f { texts = doubled k f.texts }
 
+-- the count of events that weren't possible after a loss or a repeat of line k: one more, unless it was possible
+abbrev pub idle_after : ℕ → Flight → ℕ → ℕ
+idle_after k f idle = if is_whole k f then idle else idle + 1
+
 -- the lines in flight with one more at the back
 abbrev pub pushed : Flight → List ℕ → Flight
 pushed f text = record f { texts = f.texts ++ text ∷ [] }

@@ -1,5 +1,5 @@
--- What holds of every run on the instrument of a scene, whatever its rules say and whatever the width of the window, up to seven: laws of this
--- project's own definitions.
+-- What holds of every run on the instrument of a scene, whatever its rules say and whatever the width of the window, up to seven: laws of
+-- this project's own definitions.
 use Rattle.std.specs.Prelude.{◌≡◌, ℕ, ◌≤◌, List, Some, slice_get}
 use Rattle.gc_catalogue.specs.declared.call.Call.{Call}
 use Rattle.gc_client.specs.declared.window.TheConstants.{WINDOW}

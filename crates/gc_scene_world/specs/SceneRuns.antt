@@ -1,5 +1,5 @@
--- A run on the instrument of a scene, this project's own: the world of gc_world with this instrument in place of the simulator. What the client
--- and the line do is the same.
+-- A run on the instrument of a scene, this project's own: the world of gc_world with this instrument in place of the simulator. What the
+-- client and the line do is the same.
 use Rattle.std.specs.Prelude.{ℕ, true, List, Some}
 use Rattle.gc_catalogue.specs.Calls.{call_fields}
 use Rattle.gc_catalogue.specs.declared.call.Call.{Call}
@@ -16,8 +16,8 @@ use Rattle.gc_world.specs.World.{Ends, Wire, World}
 abbrev pub scene_handed : SceneState → ℕ → Call → Handed SceneState
 scene_handed s id call = handed_call s (call_fields call).number (Some id) call
 
--- the two ends: the instrument of a scene, and a client that reads replies by their grammar. A restart of the client restarts the instrument too,
--- as in a run on the simulator
+-- the two ends: the instrument of a scene, and a client that reads replies by their grammar. A restart of the client restarts the
+-- instrument too, as in a run on the simulator
 abbrev pub scene_ends : Ends SceneState
 scene_ends = record { handed = scene_handed; restarted = scene_restarted; heard = heard; joint = true }
 

@@ -1,5 +1,5 @@
--- How a stage corresponds to the streams of a run: for contracts of private functions. A stage is the code's state while it plays events: the
--- client, the instrument, the lines in flight in both directions, the settlements, and counts.
+-- How a stage corresponds to the streams of a run: for contracts of private functions. A stage is the code's state while it plays events:
+-- the client, the instrument, the lines in flight in both directions, the settlements, and counts.
 use Rattle.std.specs.Prelude.{◌≡◌, ℕ, ◌+◌, ◌<◌, ◌^◌, List, length, replicate}
 use Rattle.gc_catalogue.specs.Calls.{IsFitting}
 use Rattle.gc_catalogue.specs.declared.call.Call.{Call}
@@ -61,7 +61,8 @@ after_bytes width d v n =
 abbrev pub IsAsked : Numbered Request → Type 0
 IsAsked x = (x.line.id < IDS) × IsFitting x.line.call
 
--- the parts of a stage, whose client's window has this width, correspond to these streams
+-- the parts of a stage, whose client's window has this width, correspond to these streams; the client's next id is below 8; and a client
+-- may have written each request in flight (`IsAsked`)
 pub record AreStreamsOf (width : ℕ) (s : Seen) (v : Streams (ById Call) SceneState) : Type 0 where
   pub client : s.client ≡ record { width = width; ids = v.world.client }
   pub next : v.world.client.next < IDS

@@ -71,7 +71,7 @@ impl Lane {
         Ok(())
     }
 
-    /// Takes out the front line, since its last byte goes. `None`: no line is in flight.
+    /// Takes out the front line, since its last byte goes; of the line behind it none has gone. `None`: no line is in flight.
     pub fn take(&mut self) -> Option<Line>
         ensures texts { MatchOption result ((self.old.texts ≡ []) × (self.new.texts ≡ [])) (λ line. self.old.texts ≡ line.items ∷ self.new.texts) }
         ensures gone { self.new.gone ≡ 0 }

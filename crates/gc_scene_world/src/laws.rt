@@ -2,7 +2,7 @@
 //! law.
 //!
 //! A request's number is its place among the requests sent, counted from 0. In the run by ids the client knows requests by ids of one
-//! digit; in the run by numbers it is told each reply's number.
+//! digit; in the run by numbers it is told each reply's number. The client's window is at most seven wide.
 
 ghost use Rattle.gc_scene_world.specs.SceneLaws.{BooksItsOwn, KeepsOrder, RunsAgree, SettlesInOrder};
 

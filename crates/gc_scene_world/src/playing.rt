@@ -18,9 +18,10 @@ use std::alloc::{AllocError, Global};
 /// booked is a line that the instrument made for that very request; and the run is that of a client which is told the request of each
 /// reply. So the first reply to a request is booked, if it comes while the request is outstanding and in time.
 ///
-/// What `play_width` of `gc_world` promises beyond that isn't promised here. With `repeats no` a request whose line is repeated acts
-/// as often as it comes, and each time the reply may be another. A request that a fault answers isn't executed, though it counts as
-/// executed. No record of executions is kept, and nothing is said of what an answer reads as: a scene may answer with any code.
+/// What `play_width` of `gc_world` promises beyond that isn't promised here. If the instrument doesn't repeat (`repeats no` in a scene), a
+/// request whose line is repeated acts as often as it comes, and each time the reply may be another. A request that a fault answers
+/// isn't executed, though it counts as executed. No record of executions is kept, and nothing is said of what an answer reads as: a
+/// scene may answer with any code.
 ///
 /// It has no clock: the moment of each request is that which the instrument has.
 ///

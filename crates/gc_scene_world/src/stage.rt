@@ -7,6 +7,7 @@ ghost use Rattle.gc_scenes.specs.SceneState.{SceneState};
 ghost use Rattle.gc_world.specs.declared.event.Event.{Event};
 ghost use Rattle.gc_world.specs.Directions.{bytes, delivery};
 ghost use Rattle.gc_world.specs.Streams.{Streams};
+ghost use Rattle.gc_scene_world.specs.Lanes.{losing, repeating, idle_after};
 ghost use Rattle.gc_scene_world.specs.SceneStages.{world_direction, streams_at_start, seen, Shows, IsShown, IsRemainder, Follows, FollowsBytes, HasMoreThan, HasRoom, HasRoomForExecutions, HasRoomForReplies};
 
 use crate::direction::Direction;
@@ -58,7 +59,8 @@ impl Stage {
         }
     }
 
-    /// Lets one event happen. `Err`: memory for a list that had to grow was refused.
+    /// Lets one event happen. An event that isn't possible is only counted. `Err`: memory for a list that had to grow was refused, and the
+    /// event may have happened in part.
     pub fn happen(&mut self, event: &Event) -> Result<(), AllocError>
         requires room { HasRoom (seen self.old) }
         requires shown { IsShown self.old }
@@ -67,13 +69,13 @@ impl Stage {
         match *event {
             Event::Send(target, ref call, deadline) => self.send(target, call, deadline)?,
             Event::UpDeliver => self.up_deliver()?,
-            Event::UpBytes(n) => self.bytes(Direction::Up, n)?,
-            Event::UpLose(k) => self.up_lose(k),
-            Event::UpRepeat(k) => self.up_repeat(k)?,
+            Event::UpBytes(n) => self.deliver_bytes(Direction::Up, n)?,
+            Event::UpLose(k) => lose(&mut self.up, k, &mut self.counts.idle_events),
+            Event::UpRepeat(k) => repeat(&mut self.up, k, &mut self.counts.idle_events)?,
             Event::DownDeliver => self.down_deliver()?,
-            Event::DownBytes(n) => self.bytes(Direction::Down, n)?,
-            Event::DownLose(k) => self.down_lose(k),
-            Event::DownRepeat(k) => self.down_repeat(k)?,
+            Event::DownBytes(n) => self.deliver_bytes(Direction::Down, n)?,
+            Event::DownLose(k) => lose(&mut self.down, k, &mut self.counts.idle_events),
+            Event::DownRepeat(k) => repeat(&mut self.down, k, &mut self.counts.idle_events)?,
             Event::Expire(now) => self.expire(now),
             Event::RestartClient => self.restart_client()?,
             Event::RestartInstrument => self.restart_instrument(),
@@ -151,51 +153,9 @@ impl Stage {
         append_all(&mut self.settled, settled)
     }
 
-    // Line k of the upward lane is lost. If that isn't possible, the event is only counted.
-    fn up_lose(&mut self, k: usize)
-        requires { self.old.counts.idle_events + 1 < 2 ^ 64 }
-        ensures { Follows self.old (Event.UpLose k) self.new }
-    {
-        if !self.up.lose(k) {
-            self.counts.idle_events += 1;
-        }
-    }
-
-    // Line k of the upward lane comes twice. If that isn't possible, the event is only counted. `Err`: memory was refused.
-    fn up_repeat(&mut self, k: usize) -> Result<(), AllocError>
-        requires { self.old.counts.idle_events + 1 < 2 ^ 64 }
-        ensures { OnOk result (Follows self.old (Event.UpRepeat k) self.new) }
-    {
-        if !self.up.repeat(k)? {
-            self.counts.idle_events += 1;
-        }
-        Ok(())
-    }
-
-    // Line k of the downward lane is lost. If that isn't possible, the event is only counted.
-    fn down_lose(&mut self, k: usize)
-        requires { self.old.counts.idle_events + 1 < 2 ^ 64 }
-        ensures { Follows self.old (Event.DownLose k) self.new }
-    {
-        if !self.down.lose(k) {
-            self.counts.idle_events += 1;
-        }
-    }
-
-    // Line k of the downward lane comes twice. If that isn't possible, the event is only counted. `Err`: memory was refused.
-    fn down_repeat(&mut self, k: usize) -> Result<(), AllocError>
-        requires { self.old.counts.idle_events + 1 < 2 ^ 64 }
-        ensures { OnOk result (Follows self.old (Event.DownRepeat k) self.new) }
-    {
-        if !self.down.repeat(k)? {
-            self.counts.idle_events += 1;
-        }
-        Ok(())
-    }
-
     // Hands over the next `n` bytes of a direction: each line that they complete is delivered. If `n` is 0 or no byte is in flight,
     // the event is only counted. `Err`: memory was refused.
-    fn bytes(&mut self, direction: Direction, n: usize) -> Result<(), AllocError>
+    fn deliver_bytes(&mut self, direction: Direction, n: usize) -> Result<(), AllocError>
         requires room { HasRoom (seen self.old) }
         requires shown { IsShown self.old }
         ensures { OnOk result (Follows self.old (bytes (world_direction direction) n) self.new) }
@@ -212,7 +172,7 @@ impl Stage {
             remaining = self.remaining(direction);
         }
         if left < remaining {
-            self.begin(direction, left);
+            self.go_on(direction, left);
         }
         Ok(())
     }
@@ -232,7 +192,7 @@ impl Stage {
         }
     }
 
-    // How many bytes of the front line of a direction have still to go; 0 if no line is in flight.
+    // How many bytes of the front line of a direction have still to go, CR LF included; 0 if no line is in flight.
     fn remaining(&self, direction: Direction) -> usize
         ensures { (width : ℕ) (v : Streams (ById Call) SceneState) → Shows width self.now v → IsRemainder (world_direction direction) v result }
     {
@@ -243,7 +203,7 @@ impl Stage {
     }
 
     // Hands over the next `n` bytes of the front line of a direction. They don't complete the line.
-    fn begin(&mut self, direction: Direction, n: usize)
+    fn go_on(&mut self, direction: Direction, n: usize)
         requires shown { IsShown self.old }
         requires some { HasMoreThan self.old direction n }
         ensures { FollowsBytes self.old direction n self.new }
@@ -295,6 +255,31 @@ impl Stage {
     {
         self.up.is_empty() && self.down.is_empty()
     }
+}
+
+// Line k of a lane, counted from 0 at the front, is lost. If it isn't in flight, or its first byte has gone, only `idle` changes: it
+// grows by one.
+fn lose(lane: &mut Lane, k: usize, idle: &mut usize)
+    requires { idle.old + 1 < 2 ^ 64 }
+    ensures left { lane.new ≡ losing k lane.old }
+    ensures idle { idle.new ≡ idle_after k lane.old idle.old }
+{
+    if !lane.lose(k) {
+        *idle += 1;
+    }
+}
+
+// Line k of a lane, counted from 0 at the front, comes twice. If it isn't in flight, or its first byte has gone, only `idle` changes:
+// it grows by one. `Err`: memory was refused.
+fn repeat(lane: &mut Lane, k: usize, idle: &mut usize) -> Result<(), AllocError>
+    requires { idle.old + 1 < 2 ^ 64 }
+    ensures left { OnOk result (lane.new ≡ repeating k lane.old) }
+    ensures idle { OnOk result (idle.new ≡ idle_after k lane.old idle.old) }
+{
+    if !lane.repeat(k)? {
+        *idle += 1;
+    }
+    Ok(())
 }
 
 // Counts an execution, if the instrument stores no replies (`repeats` is false), or the stored id changed from `before` to `after`: an

@@ -13,16 +13,16 @@ use Rattle.gc_instrument.specs.Targets.{is_at}
 use Rattle.gc_instrument.specs.declared.pointing.Pointing.{Pointing}
 use Rattle.gc_instrument.specs.declared.target.Target.{Target}
 use Rattle.gc_instrument.proofs.Executions.{exec_outcome}
-use Rattle.gc_instrument.proofs.Keeping.{executes_apart}
+use Rattle.gc_instrument.proofs.Keeping.{kept_stays}
 use Rattle.gc_scenes.specs.Laws.{still, all_still, ruleless, TableIsTheInstance}
 use Rattle.gc_scenes.specs.Machine.{seeing}
 use Rattle.gc_scenes.specs.Rules.{seen, drifted, moved_by, is_clear}
 use Rattle.gc_scenes.specs.SceneExecution.{Played, plays, played_of, outcome, after_call, look_of, is_measurement}
 use Rattle.gc_scenes.specs.SceneReplying.{silent, answers, AnswersRequest, names_call, names_none, unreadable, Gave, again_or_played, handed_call, handed_raw, holding}
-use Rattle.gc_scenes.specs.Acting.{acting}
+use Rattle.gc_scenes.specs.Acting.{acted_faceless}
 use Rattle.gc_scenes.specs.Ways.{no_ways}
 use Rattle.gc_scenes.specs.declared.rules.Prism.{Prism}
-use Rattle.gc_scenes.proofs.Acted.{plain_acting}
+use Rattle.gc_scenes.proofs.Acted.{table_without_ways}
 
 -- no number is at least 1 and at most 0
 no_look : (look : ℕ) (a b : Bool) → nat_le 1 look ≡ a → nat_le look 0 ≡ b → not (a && b) ≡ true
@@ -56,7 +56,7 @@ behind_still : (b : Bool) (look : ℕ) (there : Pointing) (ts : List Target) →
 behind_still true look there ts = drifted_still look there ts
 behind_still false look there ts = refl
 
--- an outcome with the state, the code and the answer of x
+-- x, put together from its parts, as `acted` puts an outcome together
 abbrev same_outcome : Executed → Executed
 same_outcome x = record { state = x.state; rc = x.rc; answer = x.answer }
 
@@ -64,11 +64,7 @@ module _ (looks moment : ℕ) (s : State) (call : Call) where
   -- the outcome of the call in a scene without rules is that of the execution table
   outcome_is : outcome (ruleless looks moment s) call ≡ same_outcome (exec s call)
   outcome_is =
-      ap (λ (ts : List Target). same_outcome (acting no_ways None (seeing ts s) call)) (seen_still (look_of false looks call) s.scene) ∙ ap same_outcome (plain_acting s call)
-
-  -- a call leaves the stored reply as it is
-  kept_stays : (exec s call).state.kept ≡ s.kept
-  kept_stays = ap (λ (x : Executed). x.state.kept) (executes_apart s s.kept call)
+      ap (λ (ts : List Target). same_outcome (acted_faceless no_ways None (seeing ts s) call)) (seen_still (look_of false looks call) s.scene) ∙ ap same_outcome (table_without_ways s call)
 
   -- the state after the call in a scene without rules is, with any stored reply, that of the table after the call
   behind_is : (kept : Option KeptReply) → ruleless (look_of false looks call) moment (with_kept kept (exec s call).state) ≡ holding kept (after_call (ruleless looks moment s) call (exec s call))
@@ -95,7 +91,7 @@ module _ (looks moment : ℕ) (s : State) (call : Call) where
         state = ap (ruleless (look_of false looks call) moment) state
             ∙ ap (λ (l : List ℕ). ruleless (look_of false looks call) moment (with_kept (kept_after s.kept id l) (exec s call).state)) line
             ∙ behind_is (kept_after s.kept id (executed_line (unwrap_or id 0) (exec s call)))
-            ∙ ap (λ (k : Option KeptReply). holding (kept_after k id (executed_line (unwrap_or id 0) (exec s call))) p.state) (sym kept_stays);
+            ∙ ap (λ (k : Option KeptReply). holding (kept_after k id (executed_line (unwrap_or id 0) (exec s call))) p.state) (sym (kept_stays s call));
         line = line;
       }))
 

@@ -1,4 +1,5 @@
 pub mod Acted
+pub mod Codes
 pub mod Days
 pub mod Instance
 pub mod Nearest

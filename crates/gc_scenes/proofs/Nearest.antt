@@ -2,20 +2,11 @@
 use Rattle.std.proofs.Common.{◌≡◌, ◌≤◌, ◌<◌, Bool, true, false, nat_le, cond, List, [], ◌∷◌, ◌++◌, Option, Some, None, refl, sym, ap, ◌∙◌, subst, append_assoc, append-nil, arith}
 use Rattle.std.specs.List.{AllByRecursion}
 use borrow.Author.Tests.{leb-true, leb-false}
+use Rattle.gc_lines.proofs.Lists.{all_append, all_on}
 use Rattle.gc_instrument.specs.declared.pointing.Pointing.{Pointing}
 use Rattle.gc_instrument.specs.declared.target.Target.{Target}
 use Rattle.gc_scenes.specs.Laws.{IsNearest, IsFarOff, IsAimedAt, NearestIsNearest}
 use Rattle.gc_scenes.specs.Ways.{apart, window, nearer, nearest_of}
-
--- where Q holds of each target of which P does, and P holds of all of a list, Q holds of all of it
-map_all : (P Q : Target → Type 0) → ((t : Target) → P t → Q t) → (ts : List Target) → AllByRecursion P ts → AllByRecursion Q ts
-map_all P Q f [] all = tt
-map_all P Q f (t ∷ ts) all = (f t all.0, map_all P Q f ts all.1)
-
--- what holds of each target of two lists holds of each target of the two in a row
-both_all : (P : Target → Type 0) (ts us : List Target) → AllByRecursion P ts → AllByRecursion P us → AllByRecursion P (ts ++ us)
-both_all P [] us a b = b
-both_all P (t ∷ ts) us a b = (a.0, both_all P ts us a.1 b)
 
 module _ (there : Pointing) where
   -- where none of the targets `done` is within the window, the next target is aimed at if it is within it (true), and else none
@@ -25,10 +16,10 @@ module _ (there : Pointing) where
     behind = [];
     among = refl;
     within = leb-true (apart there t) window is;
-    earlier = map_all (λ u. window < apart there u) (λ u. apart there t < apart there u) (λ u beyond. omega (arith, beyond, leb-true (apart there t) window is)) done far;
+    earlier = all_on (λ (u : Target). window < apart there u) (λ (u : Target). apart there t < apart there u) done (λ u beyond. omega (arith, beyond, leb-true (apart there t) window is)) far;
     later = tt;
   }
-  aimed_at_first done t false is far = both_all (λ u. window < apart there u) done (t ∷ []) far (leb-false (apart there t) window is, tt)
+  aimed_at_first done t false is far = all_append (λ (u : Target). window < apart there u) done (t ∷ []) far (leb-false (apart there t) window is, tt)
 
   -- where `u` is the nearest of the targets `done`, the nearer of `u` and the next target is aimed at
   aimed_at_nearer : (done : List Target) (u t : Target) (b : Bool) → nat_le (apart there u) (apart there t) ≡ b → IsNearest there done u → IsAimedAt there (done ++ t ∷ []) (cond b (Some u) (Some t))
@@ -38,19 +29,19 @@ module _ (there : Pointing) where
     among = ap (λ (ts : List Target). ts ++ t ∷ []) found.among ∙ append_assoc found.front (u ∷ found.behind) (t ∷ []);
     within = found.within;
     earlier = found.earlier;
-    later = both_all (λ x. apart there u ≤ apart there x) found.behind (t ∷ []) found.later (leb-true (apart there u) (apart there t) is, tt);
+    later = all_append (λ (x : Target). apart there u ≤ apart there x) found.behind (t ∷ []) found.later (leb-true (apart there u) (apart there t) is, tt);
   }
   aimed_at_nearer done u t false is found =
       let nearer_than : apart there t < apart there u = leb-false (apart there u) (apart there t) is in
-      let front = map_all (λ x. apart there u < apart there x) (λ x. apart there t < apart there x) (λ x more. omega (arith, more, nearer_than)) found.front found.earlier in
-      let behind = map_all (λ x. apart there u ≤ apart there x) (λ x. apart there t < apart there x) (λ x more. omega (arith, more, nearer_than)) found.behind found.later in
+      let front = all_on (λ (x : Target). apart there u < apart there x) (λ (x : Target). apart there t < apart there x) found.front (λ x more. omega (arith, more, nearer_than)) found.earlier in
+      let behind = all_on (λ (x : Target). apart there u ≤ apart there x) (λ (x : Target). apart there t < apart there x) found.behind (λ x more. omega (arith, more, nearer_than)) found.later in
       record {
         front = done;
         behind = [];
         among = refl;
         within = omega (arith, nearer_than, found.within);
         earlier = subst (λ (ts : List Target). AllByRecursion (λ x. apart there t < apart there x) ts) (sym found.among)
-            (both_all (λ x. apart there t < apart there x) found.front (u ∷ found.behind) front (nearer_than, behind));
+            (all_append (λ (x : Target). apart there t < apart there x) found.front (u ∷ found.behind) front (nearer_than, behind));
         later = tt;
       }
 

@@ -19,8 +19,8 @@ use Rattle.gc_instrument.specs.Execution.{Executed}
 use Rattle.gc_instrument.specs.Replying.{refusal_line, reply_id}
 use Rattle.gc_scenes.specs.Appending.{AppendsGave, AppendsPlayed, AppendsReply}
 use Rattle.gc_scenes.specs.Rules.{fault_of, answer_of, noisy, noise_after}
-use Rattle.gc_scenes.specs.SceneExecution.{Played, plays, outcome, after_call, replied_answer, played_call, played_raw, unless_faulted_raw, scripted, counting, faulted}
-use Rattle.gc_scenes.specs.SceneReplying.{IsPlayed, silent, answers, AnswersRequest, names_call, names_none, unreadable, again_for, again_or_played, handed_call, handed_raw, played_or_refused, holding, kept_behind, line_of}
+use Rattle.gc_scenes.specs.SceneExecution.{Played, Reports, plays, outcome, after_call, replied_answer, played_call, played_raw, unless_faulted_raw, scripted, counting, faulted}
+use Rattle.gc_scenes.specs.SceneReplying.{IsPlayed, silent, answers, AnswersRequest, names_call, names_none, unreadable, resent_line, again_or_played, handed_call, handed_raw, played_or_refused, holding, kept_if_repeating, played_line}
 use Rattle.gc_scenes.specs.SceneServing.{PlaysFrame}
 use Rattle.gc_scenes.specs.SceneState.{SceneState}
 use Rattle.gc_scenes.specs.declared.rules.Noise.{Noise}
@@ -31,25 +31,26 @@ use Rattle.gc_scenes.proofs.Acted.{outcome_sound}
 -- A request that isn't executed, or is.
 
 -- where a line is stored for the id, appending that line is what `again_or_played` says of the request
-pub gave_again : (s : SceneState) (id : Option ℕ) (p : Played) (line old new : List ℕ) → again_for s id ≡ Some line → new ≡ old ++ line
-    → AppendsGave (again_or_played s id p (again_for s id)) s old new
+pub gave_again : (s : SceneState) (id : Option ℕ) (p : Played) (line old new : List ℕ) → resent_line s id ≡ Some line → new ≡ old ++ line
+    → AppendsGave (again_or_played s id p (resent_line s id)) s old new
 gave_again s id p line old new again appended =
     subst (λ (o : Option (List ℕ)). AppendsGave (again_or_played s id p o) s old new) (sym again) (record { state = refl; appended = appended })
 
 -- where no line is stored for the id, appending and storing the request's own reply is what `again_or_played` says of the request
-pub gave_played : (s : SceneState) (id : Option ℕ) (p : Played) (number : ℕ) (played after : SceneState) (line old new : List ℕ) → again_for s id ≡ None
-    → number ≡ unwrap_or id 0 → played ≡ p.state → new ≡ old ++ line_of number p → line ≡ line_of number p → after ≡ holding (kept_behind played id line) played
-    → AppendsGave (again_or_played s id p (again_for s id)) after old new
+pub gave_played : (s : SceneState) (id : Option ℕ) (p : Played) (number : ℕ) (played after : SceneState) (line old new : List ℕ) → resent_line s id ≡ None
+    → number ≡ unwrap_or id 0 → played ≡ p.state → new ≡ old ++ played_line number p → line ≡ played_line number p → after ≡ holding (kept_if_repeating played id line) played
+    → AppendsGave (again_or_played s id p (resent_line s id)) after old new
 gave_played s id p number played after line old new none is state appended own kept =
-    let one : line_of number p ≡ line_of (unwrap_or id 0) p = ap (λ n. line_of n p) is in
+    let one : played_line number p ≡ played_line (unwrap_or id 0) p = ap (λ n. played_line n p) is in
     subst (λ (o : Option (List ℕ)). AppendsGave (again_or_played s id p o) after old new) (sym none)
     (record {
-      state = kept ∙ ap (λ (l : List ℕ). holding (kept_behind played id l) played) (own ∙ one) ∙ ap (λ (t : SceneState). holding (kept_behind t id (line_of (unwrap_or id 0) p)) t) state;
+      state = kept ∙ ap (λ (l : List ℕ). holding (kept_if_repeating played id l) played) (own ∙ one)
+          ∙ ap (λ (t : SceneState). holding (kept_if_repeating t id (played_line (unwrap_or id 0) p)) t) state;
       appended = appended ∙ ap (λ (l : List ℕ). old ++ l) one;
     })
 
 -- what `again_or_played` says of a call is what `handed_call` says of a request for it
-pub gave_call : (s after : SceneState) (rpc : ℕ) (id : Option ℕ) (call : Call) (old new : List ℕ) → AppendsGave (again_or_played s id (played_call s rpc call) (again_for s id)) after old new
+pub gave_call : (s after : SceneState) (rpc : ℕ) (id : Option ℕ) (call : Call) (old new : List ℕ) → AppendsGave (again_or_played s id (played_call s rpc call) (resent_line s id)) after old new
     → AppendsGave (handed_call s rpc id call) after old new
 unfolding handed_call
 gave_call s after rpc id call old new h = h
@@ -62,13 +63,13 @@ module _ (s after : SceneState) (rpc : ℕ) (id : Option ℕ) (old new : List �
   by_played o is h = subst (λ (p : Option Played). AppendsGave (played_or_refused s rpc id p) after old new) (sym is) h
 
   -- where a fault answers the request, its code is the reply
-  pub gave_fault : (code : ℕ) → Some code ≡ fault_of rpc s.faults → AppendsGave (again_or_played s id (record { state = counting rpc s; rc = code; params = [] }) (again_for s id)) after old new
+  pub gave_fault : (code : ℕ) → Some code ≡ fault_of rpc s.faults → AppendsGave (again_or_played s id (record { state = counting rpc s; rc = code; params = [] }) (resent_line s id)) after old new
       → AppendsGave (handed_raw s rpc id) after old new
   gave_fault code is h = by_played (Some (faulted (counting rpc s) code)) (ap (unless_faulted_raw (counting rpc s) rpc) (sym is)) h
 
   -- where no fault answers it, and the scene has a reply, that is the reply
   pub gave_scripted : (a : Scripted) → None ≡ fault_of rpc s.faults → Some a ≡ answer_of rpc s.answers
-      → AppendsGave (again_or_played s id (record { state = counting rpc s; rc = a.rc; params = scripted_params a.with }) (again_for s id)) after old new
+      → AppendsGave (again_or_played s id (record { state = counting rpc s; rc = a.rc; params = scripted_params a.with }) (resent_line s id)) after old new
       → AppendsGave (handed_raw s rpc id) after old new
   gave_scripted a none is h =
       by_played (Some (record { state = counting rpc s; rc = a.rc; params = scripted_params a.with }))
@@ -88,14 +89,14 @@ noise_of_none None a is = is
 noise_of_none (Some n) a is = ap (noisy (Some n)) is
 
 -- with a return code other than 0 there is no answer, also with the noise
-pub refuses : (s t : SceneState) (call : Call) (code : ℕ) (said told : Answer) → outcome s call ≡ record { state = (outcome s call).state; rc = code; answer = said }
+pub refuses : (s t : SceneState) (call : Call) (code : ℕ) (said told : Answer) → Reports (outcome s call) code said
     → told ≡ noisy t.noise said → code ≢ 0 → told ≡ answer.Nothing
 refuses s t call code said told is noise some =
     noise ∙ noise_of_none t.noise said (sym (ap (λ (y : Executed). y.answer) is) ∙ (outcome_sound s call).refuses (λ none. some (sym (ap (λ (y : Executed). y.rc) is) ∙ none)))
 
 -- executing a call, adding the noise and appending the reply is what `plays` says of the call
 pub executed : (s t u : SceneState) (call : Call) (number code : ℕ) (said told : Answer) (old new : List ℕ)
-    → outcome s call ≡ record { state = (outcome s call).state; rc = code; answer = said }
+    → Reports (outcome s call) code said
     → t ≡ record (after_call s call (outcome s call)) { noise = s.noise } → told ≡ noisy t.noise said → u ≡ record t { noise = noise_after t.noise said }
     → new ≡ old ++ reply_line number code (replied_answer u.ways.values u.base.pointing call code told) u.base.precision → AppendsPlayed number (plays s call) u old new
 unfolding plays

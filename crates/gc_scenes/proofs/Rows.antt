@@ -60,27 +60,27 @@ set_over targets d kept true s t = refl
 set_over targets d kept false s t = refl
 
 -- the outcome of a call that is passed on doesn't depend on targets, distance and stored reply
-pub others : (targets : List Target) (d : Option Decimal) (kept : Option KeptReply) (s : State) (asked : Call) → is_passed_on asked ≡ true
+pub passed_on_over : (targets : List Target) (d : Option Decimal) (kept : Option KeptReply) (s : State) (asked : Call) → is_passed_on asked ≡ true
     → exec (with_parts targets d kept s) asked ≡ outcome_with_parts targets d kept (exec s asked)
 unfolding exec
-others targets d kept s (call.SetPrecision n) is = set_over targets d kept _ _ _
-others targets d kept s (call.SetDate date) is = set_over targets d kept _ _ _
-others targets d kept s (call.SetPrism n) is = set_over targets d kept _ _ _
-others targets d kept s (call.DoMeasure command mode) is = let never : ⊥ = cc in absurd never
-others targets d kept s (call.SimpleMea wait mode) is = let never : ⊥ = cc in absurd never
-others targets d kept s call.QuickDist is = let never : ⊥ = cc in absurd never
-others targets d kept s (call.MeasDistance mode) is = let never : ⊥ = cc in absurd never
-others targets d kept s (call.Position hz v pos_mode atr_mode dummy) is = let never : ⊥ = cc in absurd never
-others targets d kept s (call.ChangeFace pos_mode atr_mode dummy) is = let never : ⊥ = cc in absurd never
-others targets d kept s (call.FineAdjust area_hz area_v dummy) is = let never : ⊥ = cc in absurd never
-others targets d kept s asked is = refl
+passed_on_over targets d kept s (call.SetPrecision n) is = set_over targets d kept _ _ _
+passed_on_over targets d kept s (call.SetDate date) is = set_over targets d kept _ _ _
+passed_on_over targets d kept s (call.SetPrism n) is = set_over targets d kept _ _ _
+passed_on_over targets d kept s (call.DoMeasure command mode) is = let never : ⊥ = cc in absurd never
+passed_on_over targets d kept s (call.SimpleMea wait mode) is = let never : ⊥ = cc in absurd never
+passed_on_over targets d kept s call.QuickDist is = let never : ⊥ = cc in absurd never
+passed_on_over targets d kept s (call.MeasDistance mode) is = let never : ⊥ = cc in absurd never
+passed_on_over targets d kept s (call.Position hz v pos_mode atr_mode dummy) is = let never : ⊥ = cc in absurd never
+passed_on_over targets d kept s (call.ChangeFace pos_mode atr_mode dummy) is = let never : ⊥ = cc in absurd never
+passed_on_over targets d kept s (call.FineAdjust area_hz area_v dummy) is = let never : ⊥ = cc in absurd never
+passed_on_over targets d kept s asked is = refl
 
 -- where an instrument carried out a call that is passed on, `CarriesOut` holds of that call over any targets
 pub passed : (targets : List Target) (d : Option Decimal) (kept : Option KeptReply) (before after : State) (asked : Call) (code : ℕ) (said : Answer) → is_passed_on asked ≡ true
     → exec before asked ≡ record { state = after; rc = code; answer = said }
     → CarriesOut targets (with_parts before.scene d kept before) asked (with_parts after.scene d kept after) code said
 passed targets d kept before after asked code said other does = record {
-  gives = others targets d kept before asked other ∙ ap (outcome_with_parts targets d kept) does;
+  gives = passed_on_over targets d kept before asked other ∙ ap (outcome_with_parts targets d kept) does;
   same = ap (λ (x : Executed). x.state.scene) (sym does) ∙ ap (λ (s : State). s.scene) (exec_outcome before asked).same;
 }
 

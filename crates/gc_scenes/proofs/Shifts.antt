@@ -21,7 +21,7 @@ one_decimal z d e x y =
     let q : Fraction = record { n = z; k = 24 } in
     rounding_unique q 24 d e (exact_rounds q 24 d.digits d.scale d.is_canonical d.has_few_places x) (exact_rounds q 24 e.digits e.scale e.is_canonical e.has_few_places y)
 
--- where two products of natural numbers are equal, they are so with one sign before their first factors
+-- where n * k is m * j, these products stay equal if n and m get the same sign: minus if `b`, else plus
 signed_same : (b : Bool) (m n k j : ℕ) → n * k ≡ m * j → signed b n *ℤ pos k ≡ signed b m *ℤ pos j
 signed_same b m n k j e = signed-mul b n k ∙ ap (signed b) e ∙ sym (signed-mul b m j)
 

@@ -7,7 +7,7 @@ use Rattle.gc_lines.specs.declared.fault.LineFault.{LineFault}
 use Rattle.gc_lines.specs.declared.request.Request.{Request}
 use Rattle.gc_scenes.specs.SceneReplying.{IsPlayed}
 use Rattle.gc_scenes.specs.SceneState.{SceneState}
-use Rattle.gc_scenes.specs.Slow.{SlowState, Hears, silent, replies, IsTaken, IsDelay, delay_of, later, scene_then, taken_up}
+use Rattle.gc_scenes.specs.Slow.{SlowState, HearsLine, silent, replies, IsTaken, IsDelay, delay_of, moment_after, scene_then, taken_up}
 use Rattle.gc_scenes.specs.declared.delay.Delay.{Delay}
 
 -- the delay of the request that a line reads as is the delay of the line
@@ -23,27 +23,27 @@ pub delay_unread : (delays : List Delay) (line : List ℕ) (view : Request → R
     → ((q : RequestFields) → IsRequest line q → Gives view (Err fault) (Ok q)) → IsDelay delays line ms
 delay_unread delays line view fault ms only = λ q reads. let wrong : ◌≡◌ {A = Result RequestFields LineFault} (Ok q) (Err fault) = only q reads in cc
 
--- where a line that was taken up gets no reply, `Hears` holds of it; v is the state `now`, field by field
+-- where a line that was taken up gets no reply, `HearsLine` holds of it; v is the state `now`, field by field
 pub silent_heard : (v now : SlowState) → v ≡ now → (line : List ℕ) (at : ℕ) (then scene : SceneState) (old new : List ℕ) → IsTaken now at
     → then ≡ scene_then now at → AppendsAnswer (IsPlayed then line scene) old new false
-    → AppendsAnswer (Hears now line at (record v { scene = scene })) old new false
+    → AppendsAnswer (HearsLine now line at (record v { scene = scene })) old new false
 silent_heard v now e line at then scene old new taken is h =
-    subst (λ (b : SlowState). AppendsAnswer (Hears b line at (record v { scene = scene })) old new false) e (
+    subst (λ (b : SlowState). AppendsAnswer (HearsLine b line at (record v { scene = scene })) old new false) e (
       silent (subst (λ (b : SlowState). IsTaken b at) (sym e) taken) scene
           (subst (λ (s : SceneState). IsPlayed s line scene None) (is ∙ ap (λ (b : SlowState). scene_then b at) (sym e)) h.0) refl refl,
       h.1,
     )
 
--- where a line that was taken up gets a reply, `Hears` holds of it
+-- where a line that was taken up gets a reply, `HearsLine` holds of it
 pub reply_heard : (v now : SlowState) → v ≡ now → (line : List ℕ) (at : ℕ) (then scene : SceneState) (ms due : ℕ) (old new : List ℕ) → IsTaken now at
-    → IsDelay now.delays line ms → due ≡ later (taken_up now at) ms → then ≡ scene_then now at → AppendsAnswer (IsPlayed then line scene) old new true
-    → AppendsAnswer (Hears now line at (record v { scene = scene; free_from = due })) old new true
+    → IsDelay now.delays line ms → due ≡ moment_after (taken_up now at) ms → then ≡ scene_then now at → AppendsAnswer (IsPlayed then line scene) old new true
+    → AppendsAnswer (HearsLine now line at (record v { scene = scene; free_from = due })) old new true
 reply_heard v now e line at then scene ms due old new taken delay is stands h =
-    subst (λ (b : SlowState). AppendsAnswer (Hears b line at (record v { scene = scene; free_from = due })) old new true) e (
+    subst (λ (b : SlowState). AppendsAnswer (HearsLine b line at (record v { scene = scene; free_from = due })) old new true) e (
       h.0,
       replies (subst (λ (b : SlowState). IsTaken b at) (sym e) taken) scene h.0
           (subst (λ (s : SceneState). IsPlayed s line scene (Some h.0)) (stands ∙ ap (λ (b : SlowState). scene_then b at) (sym e)) h.1) ms
           (subst (λ (b : SlowState). IsDelay b.delays line ms) (sym e) delay)
-          (ap (λ (d : ℕ). record v { scene = scene; free_from = d }) (is ∙ ap (λ (b : SlowState). later (taken_up b at) ms) (sym e))) refl,
+          (ap (λ (d : ℕ). record v { scene = scene; free_from = d }) (is ∙ ap (λ (b : SlowState). moment_after (taken_up b at) ms) (sym e))) refl,
       h.2,
     )

@@ -22,25 +22,25 @@ dated None s = done s (answer.Date s.date)
 -- the outcome of the call with these ways, but for the face. `now` is what a running clock shows. With `aims`, a positioning with target
 -- recognition (mode 1) turns to the nearest target within the window round its angles; if there is none it stays at these, with code 8710.
 -- With `faces`, a face change turns to the other face's angles. With `takes`, TMC_GetSimpleMea clears the distance that it answers
-abbrev pub acting : Ways → Option DateTime → State → Call → Executed
-acting w now s (call.Position hz v pos_mode atr_mode dummy) =
+abbrev pub acted_faceless : Ways → Option DateTime → State → Call → Executed
+acted_faceless w now s (call.Position hz v pos_mode atr_mode dummy) =
     if w.aims && int_eq atr_mode (pos 1) then adjusted (pointed s hz v) (nearest (record { hz = hz; v = v }) s.scene)
     else exec s (call.Position hz v pos_mode atr_mode dummy)
-acting w now s (call.ChangeFace pos_mode atr_mode dummy) =
+acted_faceless w now s (call.ChangeFace pos_mode atr_mode dummy) =
     if w.faces then done (pointed s (other_hz s.pointing.hz) (other_v s.pointing.v)) answer.Nothing else exec s (call.ChangeFace pos_mode atr_mode dummy)
-acting w now s (call.SimpleMea wait mode) =
+acted_faceless w now s (call.SimpleMea wait mode) =
     if w.takes then distance_outcome (unmeasured s) (λ d. answer.Measured s.pointing.hz s.pointing.v d) s.distance else exec s (call.SimpleMea wait mode)
-acting w now s call.GetDate = dated now s
-acting w now s other = exec s other
+acted_faceless w now s call.GetDate = dated now s
+acted_faceless w now s other = exec s other
 
 -- the state with the face that its vertical angle belongs to, if the instrument has both faces' angles (true), and else the state as it is
-abbrev pub faced : Bool → State → State
+abbrev pub faced : (faces : Bool) → State → State
 faced true s = record s { face = face_at s.pointing.v }
 faced false s = s
 
 -- the outcome of the call with these ways
 abbrev pub acted : Ways → Option DateTime → State → Call → Executed
-acted w now s asked = record { state = faced w.faces (acting w now s asked).state; rc = (acting w now s asked).rc; answer = (acting w now s asked).answer }
+acted w now s asked = record { state = faced w.faces (acted_faceless w now s asked).state; rc = (acted_faceless w now s asked).rc; answer = (acted_faceless w now s asked).answer }
 
 -- whether no way changes what the call does
 abbrev pub is_unchanged_by_ways : Call → Bool
@@ -50,10 +50,10 @@ is_unchanged_by_ways (call.SimpleMea wait mode) = false
 is_unchanged_by_ways call.GetDate = false
 is_unchanged_by_ways asked = true
 
--- over these targets, the outcome of the call with these ways, but for the face, is the state `after`, this code and this answer; the targets
--- of the state itself stay
+-- over these targets, the outcome of the call with these ways, but for the face, is the state `after`, this code and this answer; the
+-- targets of the state itself stay
 pub record ActsFaceless (w : Ways) (now : Option DateTime) (targets : List Target) (before : State) (asked : Call) (after : State) (code : ℕ) (answered : Answer) : Type 0 where
-  pub gives : acting w now (seeing targets before) asked ≡ record { state = seeing targets after; rc = code; answer = answered }
+  pub gives : acted_faceless w now (seeing targets before) asked ≡ record { state = seeing targets after; rc = code; answer = answered }
   pub same : after.scene ≡ before.scene
 
 -- over these targets, the outcome of the call with these ways is the state `after`, this code and this answer; the targets of the state

@@ -3,7 +3,7 @@ use Rattle.std.specs.Prelude.{◌≡◌, ℕ, List, ◌++◌}
 use Rattle.gc_lines.specs.Requests.{RequestFields}
 use Rattle.gc_instrument.specs.Replying.{Handed}
 use Rattle.gc_scenes.specs.SceneExecution.{Played}
-use Rattle.gc_scenes.specs.SceneReplying.{AnswersRequest, line_of}
+use Rattle.gc_scenes.specs.SceneReplying.{AnswersRequest, played_line}
 use Rattle.gc_scenes.specs.SceneState.{SceneState}
 
 -- the state after a request is that of `x`, and the reply of `x` was appended to `old`
@@ -14,7 +14,7 @@ pub record AppendsGave (x : Handed SceneState) (after : SceneState) (old new : L
 -- the state after a request is that of `p`, and the reply line of `p` with this id was appended to `old`
 pub record AppendsPlayed (number : ℕ) (p : Played) (after : SceneState) (old new : List ℕ) : Type 0 where
   pub state : after ≡ p.state
-  pub appended : new ≡ old ++ line_of number p
+  pub appended : new ≡ old ++ played_line number p
 
 -- the reply to the request was appended to `old`, by `AnswersRequest`
 pub record AppendsReply (before : SceneState) (q : RequestFields) (after : SceneState) (old new : List ℕ) : Type 0 where

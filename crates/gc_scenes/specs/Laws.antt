@@ -20,8 +20,8 @@ abbrev pub all_still : List Target → List Prism
 all_still [] = []
 all_still (t ∷ ts) = still t ∷ all_still ts
 
--- the state of an instrument in a scene without rules, with the values and the targets of the state `s` of the execution table: so many looks
--- there were, and this is the moment of the next request
+-- the state of an instrument in a scene without rules, after this many looks and with this moment of the next request: it has the values
+-- and the targets of the state `s` of the execution table
 abbrev pub ruleless : ℕ → ℕ → State → SceneState
 ruleless looks moment s = record {
   base = seeing [] s;

@@ -1,4 +1,4 @@
--- The instrument of the execution table over targets that each call is passed: this project's own.
+-- The instrument of the execution table, whose targets are passed to each call: this project's own.
 use Rattle.std.specs.Prelude.{◌≡◌, ℕ, ℤ, Bool, true, false, List, Option, Some, None}
 use Rattle.gc_values.specs.declared.decimal.Decimal.{Decimal}
 use Rattle.gc_catalogue.specs.declared.answer.Answer.{Answer}
@@ -43,8 +43,8 @@ is_passed_on (call.ChangeFace pos_mode atr_mode dummy) = false
 is_passed_on (call.FineAdjust area_hz area_v dummy) = false
 is_passed_on asked = true
 
--- over these targets, the outcome of the call by the execution table is the state `after`, this code and this answer; the targets of the state
--- itself stay
+-- over these targets, the outcome of the call by the execution table is the state `after`, this code and this answer; the targets of the
+-- state itself stay
 pub record CarriesOut (targets : List Target) (before : State) (asked : Call) (after : State) (code : ℕ) (answered : Answer) : Type 0 where
   pub gives : exec (seeing targets before) asked ≡ record { state = seeing targets after; rc = code; answer = answered }
   pub same : after.scene ≡ before.scene

@@ -1,6 +1,7 @@
 -- What each rule of a scene does to targets, to requests and to answers. A look is a measurement or a search. This project's own.
 use Rattle.std.specs.Prelude.{ℕ, ◌+◌, ◌-◌, ◌==◌, ◌&&◌, not, Bool, true, false, List, [], ◌∷◌, Option, Some, None, nat_le, if◌then◌else◌, min}
 use Rattle.gc_values.specs.Decimals.{units}
+use Rattle.gc_values.specs.declared.decimal.Decimal.{Decimal}
 use Rattle.gc_catalogue.specs.declared.answer.Answer.{Answer}
 use Rattle.gc_catalogue.specs.declared.answer.Answer.TheVariants as answer
 use Rattle.gc_instrument.specs.Targets.{is_at}
@@ -21,15 +22,15 @@ one_more n = min (n + 1) 4294967295
 -- Targets.
 
 -- whether the target isn't hidden in the look with this number, counted from 1
-abbrev pub is_clear : ℕ → Prism → Bool
+abbrev pub is_clear : (look : ℕ) → Prism → Bool
 is_clear look p = not (nat_le p.from look && nat_le look p.to)
 
 -- the targets that aren't hidden in this look, each with the angles at which the telescope points at it: those of face II if `over`
-abbrev pub seen : Bool → ℕ → List Prism → List Target
+abbrev pub seen : (over : Bool) (look : ℕ) → List Prism → List Target
 seen over look [] = []
 seen over look (p ∷ ps) = if is_clear look p then target_in_face over p.at ∷ seen over look ps else seen over look ps
 
--- the target moved by this offset
+-- the target moved by this offset; what would leave a decimal's range stays
 abbrev pub offset : Offset → Target → Target
 offset o t = record { hz = shifted t.hz (units o.hz); v = shifted t.v (units o.v); distance = shifted t.distance (units o.distance) }
 
@@ -38,12 +39,14 @@ abbrev pub moved_by : Option Offset → Prism → Prism
 moved_by None p = p
 moved_by (Some o) p = record p { at = offset o p.at }
 
--- the target after a measurement in this look, with the telescope pointing `there`, in face II if `over`: moved, if this target was measured
-abbrev pub moved : Bool → ℕ → Pointing → Prism → Prism
+-- the target after a measurement in this look, with the telescope pointing `there`, in face II if `over`: moved by its drift, if it isn't
+-- hidden and lies exactly there
+abbrev pub moved : (over : Bool) (look : ℕ) → Pointing → Prism → Prism
 moved over look there p = if is_clear look p && is_at there (target_in_face over p.at) then moved_by p.drift p else p
 
--- the targets after a measurement in this look, with the telescope pointing `there`, in face II if `over`: those that were measured have moved
-abbrev pub drifted : Bool → ℕ → Pointing → List Prism → List Prism
+-- the targets after a measurement in this look, with the telescope pointing `there`, in face II if `over`: all that aren't hidden and lie
+-- exactly there have moved by their drift
+abbrev pub drifted : (over : Bool) (look : ℕ) → Pointing → List Prism → List Prism
 drifted over look there [] = []
 drifted over look there (p ∷ ps) = moved over look there p ∷ drifted over look there ps
 
@@ -58,7 +61,7 @@ abbrev pub fault_of : ℕ → List Fault → Option ℕ
 fault_of rpc [] = None
 fault_of rpc (f ∷ fs) = if is_due rpc f then Some f.rc else fault_of rpc fs
 
--- the fault after one more request of this procedure
+-- the fault after one more request of this procedure, which it counts if the procedure is its own
 abbrev pub met_once : ℕ → Fault → Fault
 met_once rpc f = if f.rpc == rpc then record f { met = one_more f.met } else f
 
@@ -74,12 +77,22 @@ answer_of rpc (a ∷ rest) = if a.rpc == rpc then Some a else answer_of rpc rest
 
 -- Answers.
 
+-- a horizontal direction with the first deviation of one measurement, by the generator's next number
+abbrev pub deviated_hz : Noise → Decimal → Decimal
+deviated_hz n hz = shifted hz (deviation n.hz (next n.seed))
+
+-- a vertical angle with the second deviation of one measurement, by the generator's second next number
+abbrev pub deviated_v : Noise → Decimal → Decimal
+deviated_v n v = shifted v (deviation n.v (next (next n.seed)))
+
+-- a distance with the third deviation of one measurement, by the generator's third next number
+abbrev pub deviated_distance : Noise → Decimal → Decimal
+deviated_distance n d = shifted d (deviation n.distance (next (next (next n.seed))))
+
 -- the answer with the three deviations of one measurement, if it is a measurement, and else as it is
 abbrev pub disturbed : Noise → Answer → Answer
-disturbed n (answer.Measured hz v d) =
-    answer.Measured (shifted hz (deviation n.hz (next n.seed))) (shifted v (deviation n.v (next (next n.seed)))) (shifted d (deviation n.distance (next (next (next n.seed)))))
-disturbed n (answer.MeasuredMode hz v d mode) =
-    answer.MeasuredMode (shifted hz (deviation n.hz (next n.seed))) (shifted v (deviation n.v (next (next n.seed)))) (shifted d (deviation n.distance (next (next (next n.seed))))) mode
+disturbed n (answer.Measured hz v d) = answer.Measured (deviated_hz n hz) (deviated_v n v) (deviated_distance n d)
+disturbed n (answer.MeasuredMode hz v d mode) = answer.MeasuredMode (deviated_hz n hz) (deviated_v n v) (deviated_distance n d) mode
 disturbed n other = other
 
 -- whether an answer is a measurement, with angles and a distance
@@ -89,8 +102,8 @@ is_measured (answer.MeasuredMode hz v d mode) = true
 is_measured other = false
 
 -- the noise after an answer: a measurement takes the generator's next three numbers, and another answer none
-abbrev pub spent : Noise → Answer → Noise
-spent n a = if is_measured a then record n { seed = next (next (next n.seed)) } else n
+abbrev pub advanced : Noise → Answer → Noise
+advanced n a = if is_measured a then record n { seed = next (next (next n.seed)) } else n
 
 -- an answer with the scene's noise, if it has one
 abbrev pub noisy : Option Noise → Answer → Answer
@@ -100,4 +113,4 @@ noisy (Some n) a = disturbed n a
 -- the scene's noise, if it has one, after an answer
 abbrev pub noise_after : Option Noise → Answer → Option Noise
 noise_after None a = None
-noise_after (Some n) a = Some (spent n a)
+noise_after (Some n) a = Some (advanced n a)

@@ -1,6 +1,6 @@
 -- What a call does to the instrument of a scene: the execution table over the targets that aren't hidden, with the instrument's ways of
 -- real instruments, and then the scene's rules. This project's own.
-use Rattle.std.specs.Prelude.{ℕ, pos, ◌==◌, ◌&&◌, Bool, true, false, List, [], Option, Some, None, unwrap_or, if◌then◌else◌}
+use Rattle.std.specs.Prelude.{◌≡◌, ℕ, pos, ◌==◌, ◌&&◌, Bool, true, false, List, [], Option, Some, None, unwrap_or, if◌then◌else◌}
 use Rattle.std.specs.Option.{option_map}
 use Rattle.std.specs.Ordering.{int_eq}
 use Rattle.gc_values.specs.Decimals.{zero}
@@ -26,21 +26,21 @@ use Rattle.gc_scenes.specs.Ways.{is_over, is_warning, has_distance, valued}
 use Rattle.gc_scenes.specs.declared.clock.Clock.{Clock}
 use Rattle.gc_scenes.specs.declared.rules.Scripted.{Scripted}
 
--- whether the call measures a distance
+-- whether the call measures a distance; TMC_GetSimpleMea doesn't: it answers the one that was measured last
 abbrev pub is_measurement : Call → Bool
 is_measurement (call.DoMeasure command mode) = int_eq command (pos 1)
 is_measurement call.QuickDist = true
 is_measurement (call.MeasDistance mode) = true
 is_measurement other = false
 
--- whether the call is a search: if the instrument aims (true), a positioning with target recognition is one, too
-abbrev pub is_search : Bool → Call → Bool
+-- whether the call is a search: AUT_FineAdjust is one, and, if the instrument aims (true), so is a positioning with target recognition
+abbrev pub is_search : (aims : Bool) → Call → Bool
 is_search aims (call.FineAdjust area_hz area_v dummy) = true
 is_search aims (call.Position hz v pos_mode atr_mode dummy) = aims && int_eq atr_mode (pos 1)
 is_search aims other = false
 
--- the number of looks after this call: measurements and searches are counted
-abbrev pub look_of : Bool → ℕ → Call → ℕ
+-- the number of looks after this call: measurements and searches are counted, up to the greatest number of 32 bits
+abbrev pub look_of : (aims : Bool) (looks : ℕ) → Call → ℕ
 look_of aims looks asked = if is_measurement asked then one_more looks else (if is_search aims asked then one_more looks else looks)
 
 -- where the telescope points when the call looks for a target: at the angles of a positioning, and else `there`
@@ -48,7 +48,7 @@ abbrev pub heading : Pointing → Call → Pointing
 heading there (call.Position hz v pos_mode atr_mode dummy) = record { hz = hz; v = v }
 heading there other = there
 
--- whether the telescope is in face II when the call looks for a target, on an instrument that has both faces' angles
+-- whether the telescope is in face II when the call looks for a target; false also if the instrument has no angles of face II
 abbrev pub is_over_for : SceneState → Call → Bool
 is_over_for s asked = is_over s.ways (heading s.base.pointing asked)
 
@@ -64,9 +64,13 @@ shown s = option_map (shown_at s.moment) s.clock
 abbrev pub outcome : SceneState → Call → Executed
 outcome s asked = acted s.ways (shown s) (seeing (seen_by s asked) s.base) asked
 
--- the clock after a call at this moment that had this return code: if the instrument has a clock that runs (true), a date that was set
--- starts it
-abbrev pub clock_after : Bool → ℕ → Call → ℕ → Option Clock → Option Clock
+-- the outcome `x` has this return code and this answer
+abbrev pub Reports : Executed → ℕ → Answer → Type 0
+Reports x code answered = x ≡ record { state = x.state; rc = code; answer = answered }
+
+-- the clock after a call at this moment that had this return code: if the instrument has a clock that runs (true), a call that sets the
+-- date, and isn't refused, starts it from that date; else it stays as it was
+abbrev pub clock_after : (runs : Bool) (moment : ℕ) → Call → (rc : ℕ) → Option Clock → Option Clock
 clock_after false moment asked rc c = c
 clock_after true moment (call.SetDate d) rc c = if rc == 0 then Some (record { set = d; at = moment }) else c
 clock_after true moment other rc c = c
@@ -77,7 +81,8 @@ pub record Played : Type 0 where
   pub rc : ℕ
   pub params : List ℕ
 
--- the state after a call with this outcome: targets may have moved, the noise's generator has advanced, a look is counted, a clock may have been set
+-- the state after a call with this outcome: after a measurement targets may have moved; a look is counted if it was a measurement or a
+-- search; the noise's generator has advanced if the answer has a measured distance; a clock may have been set
 abbrev pub after_call : SceneState → Call → Executed → SceneState
 after_call s asked x = record s {
   base = seeing s.base.scene x.state;
@@ -89,11 +94,11 @@ after_call s asked x = record s {
 
 -- the answer that the reply to an executed call has: its own; or, if the code is a warning and the instrument has values with warnings
 -- (true), the angles, without noise, and a distance of 0 if the call answers one
-abbrev pub replied_answer : Bool → Pointing → Call → ℕ → Answer → Answer
+abbrev pub replied_answer : (values : Bool) → Pointing → Call → (rc : ℕ) → Answer → Answer
 replied_answer values there asked rc answered = if values && is_warning rc then valued there asked zero else answered
 
 -- the parameters of an answer, each double rounded to the places
-abbrev pub params_for : ℕ → Answer → List ℕ
+abbrev pub params_for : (places : ℕ) → Answer → List ℕ
 params_for places answered = params_of (answer_fields (rounded_answer places answered)).values
 
 -- what the instrument does with a call that has this outcome: the reply has its answer with the noise, each double rounded to the precision
@@ -113,28 +118,28 @@ plays s asked = played_of s asked (outcome s asked)
 abbrev pub counting : ℕ → SceneState → SceneState
 counting rpc s = record s { faults = counted rpc s.faults }
 
--- the distance that the call would answer: for TMC_GetSimpleMea the one that was measured last, for other calls that of the target which they
--- would measure; none if there is none
-abbrev pub known : SceneState → Call → Option Decimal
-known s (call.SimpleMea wait mode) = s.base.distance
-known s asked = option_map (λ t. t.distance) (first_at s.base.pointing (seen_by s asked))
+-- the distance that the call would answer: for TMC_GetSimpleMea the one that was measured last, for other calls that of the target which
+-- they would measure; none if there is none
+abbrev pub known_distance : SceneState → Call → Option Decimal
+known_distance s (call.SimpleMea wait mode) = s.base.distance
+known_distance s asked = option_map (λ t. t.distance) (first_at s.base.pointing (seen_by s asked))
 
--- the distance in the reply to a call that a fault answers with this code: the known one, if the code has a distance and one is known,
--- and else 0
-abbrev pub distance_beside : SceneState → Call → ℕ → Decimal
-distance_beside s asked code = if has_distance code then unwrap_or (known s asked) zero else zero
+-- the distance in the reply to a call that a fault answers with this code: that of `known_distance`, if replies with the code
+-- have a distance and one is known, and else 0
+abbrev pub distance_in_warning : SceneState → Call → ℕ → Decimal
+distance_in_warning s asked code = if has_distance code then unwrap_or (known_distance s asked) zero else zero
 
 -- a request that a fault answers with this code: nothing is executed, and the reply has no values
 abbrev pub faulted : SceneState → ℕ → Played
 faulted s code = record { state = s; rc = code; params = [] }
 
--- a call that a fault answers with this code: nothing is executed, and the reply has values only if the code is a warning and the instrument
--- has values with warnings
+-- a call that a fault answers with this code: nothing is executed, and the reply has values only if the code is a warning and the
+-- instrument has values with warnings
 abbrev pub warned : SceneState → Call → ℕ → Played
 warned s asked code = record {
   state = s;
   rc = code;
-  params = params_for s.base.precision (if s.ways.values && is_warning code then valued s.base.pointing asked (distance_beside s asked code) else answer.Nothing);
+  params = params_for s.base.precision (if s.ways.values && is_warning code then valued s.base.pointing asked (distance_in_warning s asked code) else answer.Nothing);
 }
 
 -- what the instrument does with a call that a fault answers with this code, or that no fault answers (`None`)
@@ -143,7 +148,7 @@ unless_faulted s asked (Some code) = warned s asked code
 unless_faulted s asked None = plays s asked
 
 -- what the instrument does with a call of the procedure with this number, which isn't a repeat
-abbrev pub played_call : SceneState → ℕ → Call → Played
+abbrev pub played_call : SceneState → (rpc : ℕ) → Call → Played
 played_call s rpc asked = unless_faulted (counting rpc s) asked (fault_of rpc s.faults)
 
 -- the reply of the scene to a request of a procedure that isn't in the table; none if the scene has none
@@ -151,12 +156,12 @@ abbrev pub scripted : SceneState → Option Scripted → Option Played
 scripted s (Some a) = Some (record { state = s; rc = a.rc; params = scripted_params a.with })
 scripted s None = None
 
--- what the instrument does with a request of a procedure that isn't in the table: a fault answers it with this code, or none does (`None`), and
--- then the scene's reply answers it, if there is one
-abbrev pub unless_faulted_raw : SceneState → ℕ → Option ℕ → Option Played
+-- what the instrument does with a request of a procedure that isn't in the table: a fault answers it with this code, or none does (`None`),
+-- and then the scene's reply answers it, if there is one
+abbrev pub unless_faulted_raw : SceneState → (rpc : ℕ) → Option ℕ → Option Played
 unless_faulted_raw s rpc (Some code) = Some (faulted s code)
 unless_faulted_raw s rpc None = scripted s (answer_of rpc s.answers)
 
 -- what the instrument does with a request of a procedure that isn't in the table and that isn't a repeat. `None`: nothing answers it
-abbrev pub played_raw : SceneState → ℕ → Option Played
+abbrev pub played_raw : SceneState → (rpc : ℕ) → Option Played
 played_raw s rpc = unless_faulted_raw (counting rpc s) rpc (fault_of rpc s.faults)

@@ -13,42 +13,47 @@ use Rattle.gc_instrument.specs.State.{KeptReply}
 use Rattle.gc_scenes.specs.SceneExecution.{Played, played_call, played_raw, counting, replied_answer}
 use Rattle.gc_scenes.specs.SceneState.{SceneState}
 
--- the reply line with this id, and with the return code and the parameters of `p`
-abbrev pub line_of : ℕ → Played → List ℕ
-line_of number p = reply_text (record { rc_com = 0; id = Some number; rc = p.rc; params = p.params })
+-- the reply line with this id, this return code and these parameters
+abbrev pub line_with : (id rc : ℕ) → List ℕ → List ℕ
+line_with id rc params = reply_text (record { rc_com = 0; id = Some id; rc = rc; params = params })
 
--- the stored line that answers a request with this id, if the instrument repeats; none if the request is no repeat
-abbrev pub again_for : SceneState → Option ℕ → Option (List ℕ)
-again_for s id = if s.repeats then kept_line s.base.kept id else None
+-- the reply line with this id, and with the return code and the parameters of `p`
+abbrev pub played_line : ℕ → Played → List ℕ
+played_line number p = line_with number p.rc p.params
+
+-- the stored line that answers a request with this id, if the instrument repeats; none if no line is stored for the id, or the instrument
+-- doesn't repeat
+abbrev pub resent_line : SceneState → Option ℕ → Option (List ℕ)
+resent_line s id = if s.repeats then kept_line s.base.kept id else None
 
 -- the stored reply after a request was answered with this line: as in the execution table if the instrument repeats, else none
-abbrev pub kept_behind : SceneState → Option ℕ → List ℕ → Option KeptReply
-kept_behind s id line = if s.repeats then kept_after s.base.kept id line else None
+abbrev pub kept_if_repeating : SceneState → Option ℕ → List ℕ → Option KeptReply
+kept_if_repeating s id line = if s.repeats then kept_after s.base.kept id line else None
 
 -- the state, but with this stored reply, or none
 abbrev pub holding : Option KeptReply → SceneState → SceneState
 holding kept s = record s { base = with_kept kept s.base }
 
--- what the instrument does with a request: it sends the stored line again, if there is one for the id, and executes nothing; else it does `p`,
--- and stores the reply
+-- what the instrument does with a request: it sends the stored line again, if there is one for the id, and executes nothing; else it does
+-- `p`, and stores the reply. `executed` is false for a repeat alone, so it is true also where a fault answers
 abbrev pub again_or_played : SceneState → Option ℕ → Played → Option (List ℕ) → Handed SceneState
 again_or_played s id p (Some line) = record { state = s; reply = line; executed = false }
 again_or_played s id p None =
-    let line = line_of (unwrap_or id 0) p in
-    record { state = holding (kept_behind p.state id line) p.state; reply = line; executed = true }
+    let line = played_line (unwrap_or id 0) p in
+    record { state = holding (kept_if_repeating p.state id line) p.state; reply = line; executed = true }
 
 -- what the instrument does with a request that names this call
-unfoldable pub handed_call : SceneState → ℕ → Option ℕ → Call → Handed SceneState
-handed_call s rpc id call = again_or_played s id (played_call s rpc call) (again_for s id)
+unfoldable pub handed_call : SceneState → (rpc : ℕ) (id : Option ℕ) → Call → Handed SceneState
+handed_call s rpc id call = again_or_played s id (played_call s rpc call) (resent_line s id)
 
--- what the instrument does with a request whose procedure isn't in the table: a repeat is answered again, and else it does `p`. `None`: nothing
--- answers it, so it is refused, and only the faults count it
-abbrev pub played_or_refused : SceneState → ℕ → Option ℕ → Option Played → Handed SceneState
-played_or_refused s rpc id (Some p) = again_or_played s id p (again_for s id)
+-- what the instrument does with a request whose procedure isn't in the table: a repeat is answered again, and else it does `p`. `None`:
+-- nothing answers it, so it is refused, and only the faults count it; `executed` says no more than that no stored line was sent
+abbrev pub played_or_refused : SceneState → (rpc : ℕ) (id : Option ℕ) → Option Played → Handed SceneState
+played_or_refused s rpc id (Some p) = again_or_played s id p (resent_line s id)
 played_or_refused s rpc id None = record { state = counting rpc s; reply = refusal_line (unwrap_or id 0) Unknown; executed = true }
 
 -- what the instrument does with a request whose procedure isn't in the table
-unfoldable pub handed_raw : SceneState → ℕ → Option ℕ → Handed SceneState
+unfoldable pub handed_raw : SceneState → (rpc : ℕ) (id : Option ℕ) → Handed SceneState
 handed_raw s rpc id = played_or_refused s rpc id (played_raw s rpc)
 
 -- the state after a request and the reply to it are those of `x`
@@ -73,14 +78,10 @@ pub data IsPlayed (before : SceneState) (line : List ℕ) (after : SceneState) (
   answers : (q : RequestFields) → IsRequest line q → (text : List ℕ) → AnswersRequest before q after text → reply ≡ Some text → IsPlayed before line after reply
 
 -- the reply line with this id to an executed call with this code and this answer, by the state after the call
-abbrev pub executed_line : SceneState → ℕ → ℕ → Call → Answer → List ℕ
-executed_line s id rc call answer = reply_line id rc (replied_answer s.ways.values s.base.pointing call rc answer) s.base.precision
+abbrev pub executed_reply_line : SceneState → (id rc : ℕ) → Call → Answer → List ℕ
+executed_reply_line s id rc call answer = reply_line id rc (replied_answer s.ways.values s.base.pointing call rc answer) s.base.precision
 
--- what the instrument does with a request for this procedure that isn't executed: a repeat is answered again, and else the reply has this code and
--- these parameters
+-- what the instrument does with a request for this procedure that isn't executed: a repeat is answered again, and else the reply has this
+-- code and these parameters
 abbrev pub handed_unexecuted : SceneState → (rpc : ℕ) → Option ℕ → (rc : ℕ) → List ℕ → Handed SceneState
-handed_unexecuted s rpc id rc params = again_or_played s id (record { state = counting rpc s; rc = rc; params = params }) (again_for s id)
-
--- the reply line with this id, this return code and these parameters
-abbrev pub line_with : (id rc : ℕ) → List ℕ → List ℕ
-line_with id rc params = reply_text (record { rc_com = 0; id = Some id; rc = rc; params = params })
+handed_unexecuted s rpc id rc params = again_or_played s id (record { state = counting rpc s; rc = rc; params = params }) (resent_line s id)

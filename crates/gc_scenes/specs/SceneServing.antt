@@ -10,8 +10,8 @@ use Rattle.gc_lines.specs.declared.served.ServeFault.{ServeFault}
 use Rattle.gc_scenes.specs.SceneReplying.{IsPlayed}
 use Rattle.gc_scenes.specs.SceneState.{SceneState}
 
--- what a scene's instrument does with a frame, where `text` is what it sends: the reply to a line with its CR LF, and nothing for a frame that
--- is no line
+-- what a scene's instrument does with a frame, where `text` is what it sends: the reply to a line with its CR LF, and nothing for a frame
+-- that is no line
 abbrev pub PlaysFrame : SceneState → Frame → SceneState → Option (List ℕ) → Type 0
 PlaysFrame before (Line line) after text = (reply : Option (List ℕ)) × IsPlayed before line.items after reply × (text ≡ option_map with_end reply)
 PlaysFrame before Cleared after text = (after ≡ before) × (text ≡ None)

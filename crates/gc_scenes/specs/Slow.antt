@@ -9,7 +9,8 @@ use Rattle.gc_scenes.specs.SceneReplying.{IsPlayed}
 use Rattle.gc_scenes.specs.SceneState.{SceneState, scene_restarted, at_moment}
 use Rattle.gc_scenes.specs.declared.delay.Delay.{Delay}
 
--- how long the reply to a request of this procedure takes, in milliseconds: as the last delay for the procedure says, or `ms` if none is for it
+-- how long the reply to a request of this procedure takes, in milliseconds: as the last delay for the procedure says, or `ms` if none is
+-- for it
 abbrev pub delay_from : ℕ → ℕ → List Delay → ℕ
 delay_from rpc ms [] = ms
 delay_from rpc ms (d ∷ ds) = delay_from rpc (if d.rpc == rpc then d.ms else ms) ds
@@ -48,25 +49,25 @@ abbrev pub scene_then : SlowState → ℕ → SceneState
 scene_then s came = at_moment (taken_up s came) s.scene
 
 -- the moment `ms` milliseconds after `at`, at most the last one that 64 bits hold
-abbrev pub later : ℕ → ℕ → ℕ
-later at ms = min (at + ms) 18446744073709551615
+abbrev pub moment_after : ℕ → ℕ → ℕ
+moment_after at ms = min (at + ms) 18446744073709551615
 
 -- what the instrument does with a line whose last byte came at the moment `at`, and its reply, if there is one. The reply goes out at
 -- `after.free_from`
-pub data Hears (before : SlowState) (line : List ℕ) (at : ℕ) (after : SlowState) (reply : Option (List ℕ)) : Type 0 where
+pub data HearsLine (before : SlowState) (line : List ℕ) (at : ℕ) (after : SlowState) (reply : Option (List ℕ)) : Type 0 where
   -- the instrument is busy, and discards the line: nothing is executed
-  drops_it : before.drops ≡ true → at < before.free_from → after ≡ before → reply ≡ None → Hears before line at after reply
+  drops_it : before.drops ≡ true → at < before.free_from → after ≡ before → reply ≡ None → HearsLine before line at after reply
   -- the line gets no reply: it is no request
   silent : IsTaken before at → (scene : SceneState) → IsPlayed (scene_then before at) line scene None → after ≡ record before { scene = scene } → reply ≡ None
-      → Hears before line at after reply
+      → HearsLine before line at after reply
   -- the line is a request: its reply goes out `ms` milliseconds after the instrument started on it
   replies : IsTaken before at → (scene : SceneState) → (text : List ℕ) → IsPlayed (scene_then before at) line scene (Some text) → (ms : ℕ) → IsDelay before.delays line ms
-      → after ≡ record before { scene = scene; free_from = later (taken_up before at) ms } → reply ≡ Some text → Hears before line at after reply
+      → after ≡ record before { scene = scene; free_from = moment_after (taken_up before at) ms } → reply ≡ Some text → HearsLine before line at after reply
 
--- what the slow instrument does with a frame that came at the moment `at`, where `text` is what it sends: the reply to a line with its CR LF, and
--- nothing for a frame that is no line
+-- what the slow instrument does with a frame that came at the moment `at`, where `text` is what it sends: the reply to a line with its CR
+-- LF, and nothing for a frame that is no line
 abbrev pub HearsFrame : SlowState → Frame → ℕ → SlowState → Option (List ℕ) → Type 0
-HearsFrame before (Line line) at after text = (reply : Option (List ℕ)) × Hears before line.items at after reply × (text ≡ option_map with_end reply)
+HearsFrame before (Line line) at after text = (reply : Option (List ℕ)) × HearsLine before line.items at after reply × (text ≡ option_map with_end reply)
 HearsFrame before Cleared at after text = (after ≡ before) × (text ≡ None)
 HearsFrame before Overlong at after text = (after ≡ before) × (text ≡ None)
 HearsFrame before More at after text = (after ≡ before) × (text ≡ None)

@@ -36,29 +36,30 @@ with_way way.Real w = record { faces = true; aims = true; takes = true; values =
 -- Two faces.
 
 -- whether a vertical angle is one of face II: above half a turn
-abbrev pub is_second : Decimal → Bool
-is_second v = not (int_le (units v) half_turn)
+abbrev pub is_in_face_two : Decimal → Bool
+is_in_face_two v = not (int_le (units v) half_turn)
 
 -- the face of the telescope at this vertical angle
 abbrev pub face_at : Decimal → Face
-face_at v = if is_second v then Turned else Normal
+face_at v = if is_in_face_two v then Turned else Normal
 
--- the horizontal direction h in the other face: h - P if h is at least P, and else h + P, where P is half a turn
+-- the horizontal direction h in the other face: h - P if h is at least P, and else h + P, where P is half a turn; or h itself, if that is
+-- out of a decimal's range
 abbrev pub other_hz : Decimal → Decimal
 other_hz h = shifted h (signed (int_le half_turn (units h)) 3141592653589793238462643)
 
--- the vertical angle v in the other face: 2P - v, where P is half a turn
+-- the vertical angle v in the other face: 2P - v, where P is half a turn; or v itself, if that is out of a decimal's range
 abbrev pub other_v : Decimal → Decimal
 other_v v = shifted v (turn -ℤ (units v +ℤ units v))
 
 -- the target with the angles at which the telescope points at it: those of the other face in face II (true), and else its own
-abbrev pub target_in_face : Bool → Target → Target
+abbrev pub target_in_face : (over : Bool) → Target → Target
 target_in_face true t = record { hz = other_hz t.hz; v = other_v t.v; distance = t.distance }
 target_in_face false t = t
 
--- whether the telescope is in face II if it points `there`, on an instrument that has both faces' angles
+-- whether the telescope is in face II if it points `there`; false also if the instrument has no angles of face II
 abbrev pub is_over : Ways → Pointing → Bool
-is_over w there = w.faces && is_second there.v
+is_over w there = w.faces && is_in_face_two there.v
 
 -- Target recognition.
 
@@ -74,8 +75,8 @@ apart there t = max (on_circle (units t.hz -ℤ units there.hz)) (unsigned_abs (
 abbrev pub window : ℕ
 window = 13100000000000000000000
 
--- the nearer of the target found so far and this one, and of two that are equally near the one found so far; if none was found so far, this one
--- if it is within the window
+-- the nearer of the target found so far and this one, and of two that are equally near the one found so far; if none was found so far, this
+-- one if it is within the window
 abbrev pub nearer : Pointing → Option Target → Target → Option Target
 nearer there None t = if nat_le (apart there t) window then Some t else None
 nearer there (Some u) t = if nat_le (apart there u) (apart there t) then Some u else Some t
@@ -91,8 +92,8 @@ nearest there targets = nearest_of there None targets
 
 -- Values of a reply whose return code isn't 0.
 
--- whether this code is a warning, with which a reply may have values: measured without all corrections (1283), or without a guarantee of the
--- accuracy (1284); angles alone (1285), without all corrections (1288), or without a guarantee (1289)
+-- whether this code is a warning, with which a reply may have values: measured without all corrections (1283), or without a guarantee of
+-- the accuracy (1284); angles alone (1285), without all corrections (1288), or without a guarantee (1289)
 abbrev pub is_warning : ℕ → Bool
 is_warning rc = (rc == 1283) || ((rc == 1284) || ((rc == 1285) || ((rc == 1288) || (rc == 1289))))
 

@@ -7,7 +7,7 @@ ghost use Rattle.gc_scenes.specs.Machine.{seeing, simply_measured};
 ghost use Rattle.gc_scenes.specs.Ways.{nearest, other_hz, other_v};
 
 use crate::machine::Machine;
-use crate::ways::{Ways, is_second, nearest, other_hz, other_v};
+use crate::ways::{Ways, is_in_face_two, nearest, other_hz, other_v};
 use gc_catalogue::{Answer, Call, DateTime};
 use gc_instrument::{NO_DISTANCE, NO_TARGET, Pointing, Target};
 use gc_values::Decimal;
@@ -16,7 +16,7 @@ impl Machine {
     ghost use Rattle.gc_catalogue.specs.declared.answer.Answer.TheVariants.{Nothing, Measured, Date};
 
     /// Carries out a call over these targets with these ways, and returns the return code. `now` is what a running clock shows, if one
-    /// runs. An answer other than `Answer::Nothing` is written into `answer`.
+    /// runs. An answer is written into `answer`, which stays `Answer::Nothing` if there is none.
     pub(crate) fn act(
         &mut self,
         ways: &Ways,
@@ -30,7 +30,7 @@ impl Machine {
     {
         let rc = self.act_faceless(ways, now, call, targets, answer);
         if ways.faces {
-            self.face_by_angle();
+            self.set_face_by_angle();
         }
         rc
     }
@@ -101,33 +101,34 @@ impl Machine {
         self.carry_out(call, targets, answer)
     }
 
-    // Turns to these angles, and then to the nearest of these targets within the window of target recognition. If there is none, the
-    // telescope stays at the angles, and the code is 8710. The distance is cleared.
+    // Turns to these angles, and then to the nearest of these targets within the window of target recognition; the code is 0. If there
+    // is none, the telescope stays at the angles, and the code is 8710. The distance is cleared in either case.
     fn aim(&mut self, hz: &Decimal, v: &Decimal, targets: &[Target]) -> u16
         ensures gives { Gives (adjusted (pointed (seeing targets.now self.old) hz.now v.now) (nearest (record { hz = hz.now; v = v.now }) targets.now))
             (seeing targets.now self.new) result Nothing }
         ensures same { self.new.scene ≡ self.old.scene }
     {
         match nearest(&Pointing { hz: *hz, v: *v }, targets) {
-            Some(target) => self.position(&target.hz, &target.v),
+            Some(target) => self.turn_to(&target.hz, &target.v),
             None => {
-                self.position(hz, v);
+                self.turn_to(hz, v);
                 NO_TARGET
             }
         }
     }
 
-    // Turns the telescope to the other face's angles, which clears the distance.
+    // Turns the telescope to the other face's angles, which clears the distance. The code is always 0.
     fn turn_over(&mut self) -> u16
         ensures gives { (targets : List Target) → Gives (done (pointed (seeing targets self.old) (other_hz self.old.pointing.hz) (other_v self.old.pointing.v)) Nothing)
             (seeing targets self.new) result Nothing }
         ensures same { self.new.scene ≡ self.old.scene }
     {
         let there = self.pointing();
-        self.position(&other_hz(&there.hz), &other_v(&there.v))
+        self.turn_to(&other_hz(&there.hz), &other_v(&there.v))
     }
 
-    // Answers the angles and the distance, and clears the distance. If there is none, the code is 1285, without an answer.
+    // Answers the angles and the distance, and clears the distance; the code is 0. If there is no distance, it is 1285, without an
+    // answer.
     fn take_distance(&mut self, answer: &mut Answer) -> u16
         requires { answer.old ≡ Nothing }
         ensures gives { (targets : List Target) → Gives (simply_measured self.old (unmeasured (seeing targets self.old))) (seeing targets self.new) result answer.new }
@@ -144,11 +145,11 @@ impl Machine {
     }
 
     // Sets the telescope's face to the one that its vertical angle belongs to.
-    fn face_by_angle(&mut self)
+    fn set_face_by_angle(&mut self)
         ensures { self.new ≡ faced true self.old }
     {
         let there = self.pointing();
-        let turned = is_second(&there.v);
+        let turned = is_in_face_two(&there.v);
         self.set_face(turned);
     }
 }

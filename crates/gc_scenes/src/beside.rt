@@ -53,9 +53,10 @@ fn push_measured<const N: usize>(
     push_value(out, distance, places);
 }
 
-/// Appends a reply with this code and, to a call that answers angles, the values that its answer has: the angles, rounded to the
-/// places, and this distance if a distance is among them. A reply to any other call has no values.
-pub(crate) fn push_valued<const N: usize>(
+/// Appends a reply with this id and this code, without CR LF. To a call that answers angles it has the values of such an answer: the
+/// angles, then this distance if the call answers one, each rounded to the places, and then the mode if the call answers that, too. To
+/// any other call it has no values.
+pub(crate) fn push_reply_with_values<const N: usize>(
     out: &mut ArrayVec<u8, N>,
     id: u8,
     rc: u16,

@@ -1,6 +1,6 @@
 //! How long the replies to a procedure take.
 
-/// The reply to each request of the procedure `rpc` goes out `ms` milliseconds later.
+/// The reply to each request of the procedure `rpc` goes out `ms` milliseconds after the instrument starts on the request.
 #[derive(Clone, Copy, Debug, PartialEq, Eq)]
 pub struct Delay {
     pub rpc: u16,

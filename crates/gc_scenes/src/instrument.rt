@@ -5,7 +5,7 @@ ghost use Rattle.std.specs.Option.{option_map};
 ghost use Rattle.gc_instrument.specs.Targets.{first_at};
 ghost use Rattle.gc_instrument.specs.State.{opening};
 ghost use Rattle.gc_scenes.specs.Rules.{seen, drifted, counted, fault_of, answer_of, noisy, noise_after};
-ghost use Rattle.gc_scenes.specs.SceneExecution.{is_measurement, is_search, look_of, heading, is_over_for, outcome, after_call, counting, shown, seen_by, clock_after, distance_beside, known};
+ghost use Rattle.gc_scenes.specs.SceneExecution.{Reports, is_measurement, is_search, look_of, heading, is_over_for, outcome, after_call, counting, shown, seen_by, clock_after, distance_in_warning, known_distance};
 ghost use Rattle.gc_scenes.specs.SceneState.{scene_restarted, at_moment};
 ghost use Rattle.gc_catalogue.specs.declared.answer.Answer.TheVariants.{Nothing};
 
@@ -90,8 +90,8 @@ impl SceneInstrument {
         }
     }
 
-    /// Sets the moment of the next request, in milliseconds of the program's clock. What the instrument's own clock shows, if it runs, is
-    /// computed from it.
+    /// Sets the moment of the next request, in milliseconds of the program's clock; it stands until it is set again. What the
+    /// instrument's own clock shows, if it runs, is computed from it.
     pub fn set_moment(&mut self, moment: u64)
         ensures { self.new ≡ at_moment moment self.old }
     {
@@ -158,7 +158,8 @@ impl SceneInstrument {
         }
     }
 
-    // Whether the telescope is in face II when the call looks for a target, on an instrument that has both faces' angles.
+    // Whether the telescope is in face II when the call looks for a target. `false`: it is in face I, or the instrument has no angles of
+    // face II.
     fn is_over_for(&self, call: &Call) -> bool
         ensures { result ≡ is_over_for self.now call.now }
     {
@@ -173,11 +174,11 @@ impl SceneInstrument {
         seen(self.is_over_for(call), look, self.prisms.as_slice())
     }
 
-    /// Executes a call that no fault answers, and returns the return code. An answer other than `Answer::Nothing` is written into
-    /// `answer`, without the noise.
+    /// Executes a call that no fault answers, and returns the return code. An answer is written into `answer`, which stays
+    /// `Answer::Nothing` if there is none. The noise is left to `disturb`.
     pub(crate) fn execute(&mut self, call: &Call, answer: &mut Answer) -> u16
         requires { answer.old ≡ Nothing }
-        ensures gives { outcome self.old call.now ≡ record { state = (outcome self.old call.now).state; rc = result; answer = answer.new } }
+        ensures gives { Reports (outcome self.old call.now) result answer.new }
         ensures state { self.new ≡ record (after_call self.old call.now (outcome self.old call.now)) { noise = self.old.noise } }
     {
         let look = look_of(self.ways.aims, self.looks, call);
@@ -196,30 +197,30 @@ impl SceneInstrument {
         rc
     }
 
-    /// The distance in the reply to a call that a fault answers with this code, in metres: that of `known`, if replies with the code have
-    /// a distance and one is known, and else 0.
-    pub(crate) fn distance_beside(&self, call: &Call, rc: u16) -> Decimal
-        ensures { result ≡ distance_beside self.now call.now rc }
+    /// The distance in the reply to a call that a fault answers with this code, in metres: that of `known_distance`, if replies with the
+    /// code have a distance and one is known, and else 0.
+    pub(crate) fn distance_in_warning(&self, call: &Call, rc: u16) -> Decimal
+        ensures { result ≡ distance_in_warning self.now call.now rc }
     {
         if !has_distance(rc) {
             return Decimal::zero();
         }
-        self.known(call).unwrap_or(Decimal::zero())
+        self.known_distance(call).unwrap_or(Decimal::zero())
     }
 
-    // The distance that the call would answer: for TMC_GetSimpleMea the one that was measured last, for other calls that of the target
-    // which they would measure. `None`: there is none.
-    fn known(&self, call: &Call) -> Option<Decimal>
-        ensures { result ≡ known self.now call.now }
+    // The distance that the call would answer, in metres: for TMC_GetSimpleMea the one that was measured last, for other calls that of
+    // the target which they would measure. `None`: there is none.
+    fn known_distance(&self, call: &Call) -> Option<Decimal>
+        ensures { result ≡ known_distance self.now call.now }
     {
         match call {
             Call::SimpleMea { .. } => self.machine.distance(),
-            _ => self.met_by(call),
+            _ => self.distance_to_target(call),
         }
     }
 
-    // The distance of the target that the call would measure. `None`: there is no such target.
-    fn met_by(&self, call: &Call) -> Option<Decimal>
+    // The distance of the target that the call would measure, in metres. `None`: there is no such target.
+    fn distance_to_target(&self, call: &Call) -> Option<Decimal>
         ensures { result ≡ option_map (λ t. t.distance) (first_at self.now.base.pointing (seen_by self.now call.now)) }
     {
         first_at(&self.machine.pointing(), self.seen_by(call).as_slice()).map(
@@ -227,19 +228,20 @@ impl SceneInstrument {
         )
     }
 
-    /// Adds the scene's noise, if it has one, to an answer, and advances the noise's generator.
+    /// Adds the scene's noise, if it has one, to an answer that is a measurement, and advances the noise's generator. Any other answer
+    /// stays as it is, and so does the generator then.
     pub(crate) fn disturb(&mut self, answer: &mut Answer)
         ensures answer { answer.new ≡ noisy self.old.noise answer.old }
         ensures state { self.new ≡ record self.old { noise = noise_after self.old.noise answer.old } }
     {
         if let Some(noise) = self.noise {
-            self.noise = Some(noise.spent(answer));
+            self.noise = Some(noise.advanced(answer));
             noise.disturb(answer);
         }
     }
 }
 
-// Whether the call measures a distance.
+// Whether the call measures a distance. TMC_GetSimpleMea doesn't: it answers the one that was measured last.
 fn is_measurement(call: &Call) -> bool
     ensures { result ≡ is_measurement call.now }
 {
@@ -272,8 +274,8 @@ fn heading(there: Pointing, call: &Call) -> Pointing
     }
 }
 
-// The clock after a call at this moment that had this return code. If the instrument has a clock that `runs`, a date that was set
-// starts it.
+// The clock after a call at this moment that had this return code. If the instrument has a clock that `runs`, a call that sets the date,
+// and isn't refused, starts it from that date; else it stays as it was.
 fn clock_after(runs: bool, moment: u64, call: &Call, rc: u16, clock: Option<Clock>) -> Option<Clock>
     ensures { result ≡ clock_after runs moment call.now rc clock }
 {
@@ -295,7 +297,7 @@ fn clock_after(runs: bool, moment: u64, call: &Call, rc: u16, clock: Option<Cloc
     }
 }
 
-// The number of looks after this call: measurements and searches are counted.
+// The number of looks after this call: measurements and searches are counted, up to the greatest number of 32 bits.
 fn look_of(aims: bool, looks: u32, call: &Call) -> u32
     ensures { result ≡ look_of aims looks call.now }
 {
@@ -324,8 +326,8 @@ fn seen(over: bool, look: u32, prisms: &[Prism]) -> ArrayVec<Target, 32>
     targets
 }
 
-// The targets after a measurement in this look, with the telescope pointing `there`, in face II if `over`: those that were measured
-// have moved.
+// The targets after a measurement in this look, with the telescope pointing `there`, in face II if `over`: all that aren't hidden and lie
+// exactly there have moved by their drift.
 fn drifted(over: bool, look: u32, there: &Pointing, prisms: &[Prism]) -> ArrayVec<Prism, 32>
     requires { length prisms.now ≤ 32 }
     ensures { result.items ≡ drifted over look there.now prisms.now }

@@ -1,5 +1,6 @@
-//! The instrument of a scene with rules: faults, hidden and moving targets, noise, and replies to procedures that aren't in the table.
-//! It uses the execution table of `gc_instrument`, and in a scene without rules it does what the instrument there does.
+//! The instrument of a scene with rules: faults, hidden and moving targets, noise, replies to procedures that aren't in the table, ways
+//! of real instruments, and replies that take time. It uses the execution table of `gc_instrument`, and in a scene without rules it
+//! does what the instrument there does.
 #![tactic(auto)]
 
 mod acting;

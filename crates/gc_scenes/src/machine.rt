@@ -1,4 +1,4 @@
-//! The instrument of the execution table over targets that each call is passed: an instrument without targets, the distance that was
+//! The instrument of the execution table, whose targets are passed to each call: an instrument without targets, the distance that was
 //! measured last, and the stored reply. Calls that need targets or the distance, or clear it, are carried out here; all others are
 //! passed on to that instrument.
 
@@ -60,6 +60,7 @@ impl Machine {
                 distance: None,
                 kept: None,
             },
+            // More than 32 targets are refused, and nothing else; here are none.
             Err(_) => unreachable!(),
         }
     }
@@ -73,7 +74,7 @@ impl Machine {
         self.kept = None;
     }
 
-    /// The number of places to which doubles are rounded in replies.
+    /// The number of places to which doubles are rounded in replies, 0 to 15.
     pub(crate) fn precision(&self) -> u8
         ensures value { result ≡ self.now.precision }
         ensures few { result ≤ 15 }
@@ -147,7 +148,7 @@ impl Machine {
         }
     }
 
-    /// Stores a request's id and the line of its reply. If the request had no id, nothing changes.
+    /// Stores a request's id and the line of its reply, at most 512 bytes. If the request had no id, nothing changes.
     pub(crate) fn keep(&mut self, id: Option<u8>, line: &[u8])
         requires { length line.now ≤ 512 }
         ensures { self.new ≡ with_kept (kept_after self.old.kept id line.now) self.old }
@@ -167,21 +168,21 @@ impl Machine {
         self.kept = None;
     }
 
-    /// Carries out a call over these targets, and returns the return code. An answer other than `Answer::Nothing` is written into
-    /// `answer`.
+    /// Carries out a call over these targets, and returns the return code. An answer is written into `answer`, which stays
+    /// `Answer::Nothing` if there is none.
     pub(crate) fn carry_out(&mut self, call: &Call, targets: &[Target], answer: &mut Answer) -> u16
         requires { answer.old ≡ Nothing }
         ensures { CarriesOut targets.now self.old call.now self.new result answer.new }
     {
         match call {
-            Call::DoMeasure { command, .. } => self.measure_as(*command, targets),
-            Call::SimpleMea { .. } => self.simple_measurement(answer),
+            Call::DoMeasure { command, .. } => self.do_measure(*command, targets),
+            Call::SimpleMea { .. } => self.answer_measured(answer),
             Call::QuickDist => {
                 self.measure(targets);
-                self.simple_measurement(answer)
+                self.answer_measured(answer)
             }
-            Call::MeasDistance { mode } => self.measured_distance(*mode, targets, answer),
-            Call::Position { hz, v, .. } => self.position(hz, v),
+            Call::MeasDistance { mode } => self.measure_in_mode(*mode, targets, answer),
+            Call::Position { hz, v, .. } => self.turn_to(hz, v),
             Call::ChangeFace { .. } => self.change_face(),
             Call::FineAdjust {
                 area_hz,
@@ -192,7 +193,7 @@ impl Machine {
         }
     }
 
-    // Carries out, by `base`, a call that neither turns the telescope nor asks for a distance or a target.
+    // Carries out, by `base`, a call that neither turns the telescope nor asks for a distance or a target, and returns the return code.
     fn pass_on(&mut self, call: &Call, answer: &mut Answer) -> u16
         requires { is_passed_on call.now ≡ true }
         ensures { (targets : List Target) → CarriesOut targets self.old call.now self.new result answer.new }
@@ -212,8 +213,9 @@ impl Machine {
         self.distance = first_at(&there, targets).map(|target| target.distance);
     }
 
-    // Carries out a command of TMC_DoMeasure: 0 does nothing, 1 measures, 3 clears the distance. Another command is refused.
-    fn measure_as(&mut self, command: i32, targets: &[Target]) -> u16
+    // Carries out a command of TMC_DoMeasure: 0 does nothing, 1 measures, 3 clears the distance, each with code 0. Another command is
+    // refused with code 2, and changes nothing.
+    fn do_measure(&mut self, command: i32, targets: &[Target]) -> u16
         ensures gives { Gives (commanded (seeing targets.now self.old) command) (seeing targets.now self.new) result Nothing }
         ensures same { self.new.scene ≡ self.old.scene }
     {
@@ -231,8 +233,8 @@ impl Machine {
         }
     }
 
-    // Answers the angles and the distance. Where there is no distance, the code is 1285, without an answer.
-    fn simple_measurement(&self, answer: &mut Answer) -> u16
+    // Answers the angles and the distance; the code is 0. Where there is no distance, it is 1285, without an answer.
+    fn answer_measured(&self, answer: &mut Answer) -> u16
         requires { answer.old ≡ Nothing }
         ensures { (targets : List Target) → Gives (simply_measured self.now (seeing targets self.now)) (seeing targets self.now) result answer.new }
     {
@@ -244,8 +246,9 @@ impl Machine {
         0
     }
 
-    // Measures, and answers the angles, the distance and the mode. Where there is no distance, the code is 1285, without an answer.
-    fn measured_distance(&mut self, mode: i32, targets: &[Target], answer: &mut Answer) -> u16
+    // Measures, and answers the angles, the distance and this mode, which changes nothing else; the code is 0. Where no target lies where
+    // the telescope points, it is 1285, without an answer, and the distance is cleared.
+    fn measure_in_mode(&mut self, mode: i32, targets: &[Target], answer: &mut Answer) -> u16
         requires { answer.old ≡ Nothing }
         ensures gives { Gives (measured_in_mode targets.now self.old mode) (seeing targets.now self.new) result answer.new }
         ensures same { self.new.scene ≡ self.old.scene }
@@ -264,9 +267,9 @@ impl Machine {
         0
     }
 
-    // Turns the telescope to these angles, which clears the distance.
+    // Turns the telescope to these angles, which clears the distance. The code is always 0.
     #[tactic(auto, unfolding(gc_instrument::specs::Execution::exec))]
-    pub(crate) fn position(&mut self, hz: &Decimal, v: &Decimal) -> u16
+    pub(crate) fn turn_to(&mut self, hz: &Decimal, v: &Decimal) -> u16
         ensures gives { (targets : List Target) → Gives (done (pointed (seeing targets self.old) hz.now v.now) Nothing) (seeing targets self.new) result Nothing }
         ensures same { self.new.scene ≡ self.old.scene }
     {
@@ -282,7 +285,7 @@ impl Machine {
         rc
     }
 
-    // Changes the face, which clears the distance. The angles stay.
+    // Changes the face, which clears the distance. The angles stay. The code is always 0.
     #[tactic(auto, unfolding(gc_instrument::specs::Execution::exec))]
     fn change_face(&mut self) -> u16
         ensures gives { (targets : List Target) → Gives (done (turned_over (seeing targets self.old)) Nothing) (seeing targets self.new) result Nothing }
@@ -298,8 +301,8 @@ impl Machine {
         rc
     }
 
-    // Turns the telescope to the first of these targets whose angles differ from its own by at most these areas, which clears the
-    // distance. If there is none, the code is 8710 and nothing changes. A negative area is refused.
+    // Turns the telescope to the first of these targets whose angles differ from the telescope's by at most these areas, in radians,
+    // which clears the distance; the code is 0. With a negative area the code is 2, and without such a target 8710: then nothing changes.
     fn fine_adjust(&mut self, area_hz: &Decimal, area_v: &Decimal, targets: &[Target]) -> u16
         ensures gives { Gives (searched (seeing targets.now self.old) area_hz.now area_v.now) (seeing targets.now self.new) result Nothing }
         ensures same { self.new.scene ≡ self.old.scene }
@@ -309,7 +312,7 @@ impl Machine {
         }
         let there = self.base.pointing();
         match first_within(&there, area_hz, area_v, targets) {
-            Some(target) => self.position(&target.hz, &target.v),
+            Some(target) => self.turn_to(&target.hz, &target.v),
             None => NO_TARGET,
         }
     }

@@ -8,10 +8,10 @@ ghost use Rattle.gc_lines.specs.Requests.{request_seen};
 ghost use Rattle.gc_instrument.specs.Replying.{Handed};
 ghost use Rattle.gc_catalogue.specs.Texts.{reply_line};
 ghost use Rattle.gc_scenes.specs.SceneExecution.{Played, plays, unless_faulted, warned};
-ghost use Rattle.gc_scenes.specs.SceneReplying.{IsPlayed, AnswersRequest, Gave, again_for, executed_line, handed_call, handed_raw, handed_unexecuted, line_of, line_with, kept_behind, holding};
+ghost use Rattle.gc_scenes.specs.SceneReplying.{IsPlayed, AnswersRequest, Gave, resent_line, executed_reply_line, handed_call, handed_raw, handed_unexecuted, played_line, line_with, kept_if_repeating, holding};
 ghost use Rattle.gc_scenes.specs.Appending.{AppendsGave, AppendsPlayed, AppendsReply};
 
-use crate::beside::push_valued;
+use crate::beside::push_reply_with_values;
 use crate::instrument::SceneInstrument;
 use crate::ways::is_warning;
 use arrayvec::ArrayVec;
@@ -27,9 +27,10 @@ impl SceneInstrument {
     ghost use Rattle.gc_catalogue.specs.declared.call.Call.{Call};
     ghost use Rattle.gc_catalogue.specs.declared.answer.Answer.TheVariants.{Nothing};
 
-    /// The reply to a line. `None`: the line is no request. The reply is that of the simulator, but for what the scene's rules say: a
-    /// request that a fault answers is not executed, a hidden target isn't found, and a procedure that isn't in the catalogue is
-    /// answered if the scene has a reply. If the instrument repeats, each of these replies is stored for a repeat, as any other is.
+    /// The reply to a line. `None`: the line is no request. The reply is that of the simulator, but for the scene's rules and the
+    /// instrument's ways: a request that a fault answers is not executed, a hidden target isn't found, and a procedure that isn't in the
+    /// catalogue is answered if the scene has a reply. If the instrument repeats, the reply to a request with an id is stored for a
+    /// repeat, whether it was executed or not, unless it was refused with a communication code (3080 or 3081).
     #[tactic(auto, using(crate::proofs::Playing::played_alone))]
     pub fn on_line(&mut self, line: &Line) -> Option<Line>
         ensures { IsPlayed self.old line.now.items self.new (option_map (λ r. r.items) result) }
@@ -42,7 +43,8 @@ impl SceneInstrument {
         }
     }
 
-    /// Appends the reply to a line to `out`, and returns `true`. If the line is no request, it returns `false`, and `out` is unchanged.
+    /// Appends the reply to a line to `out`, without CR LF, and returns `true`. If the line is no request, it returns `false`, and `out`
+    /// and the instrument are unchanged.
     pub fn reply_onto<const N: usize>(&mut self, line: &[u8], out: &mut ArrayVec<u8, N>) -> bool
         requires { array_vec_len out.old + 512 ≤ N }
         ensures played { AppendsAnswer (IsPlayed self.old line.now self.new) out.old.items out.new.items result }
@@ -57,7 +59,8 @@ impl SceneInstrument {
         }
     }
 
-    // Appends the reply to a request.
+    // Appends the reply to a request. Parameters that can't be read are refused with the communication code 3080: then nothing changes, and
+    // no fault counts the request.
     fn reply_to<const N: usize>(&mut self, request: &Request<'_>, out: &mut ArrayVec<u8, N>)
         requires id { ForSome request.now.id (λ id. id < 8) }
         requires room { array_vec_len out.old + 512 ≤ N }
@@ -74,9 +77,10 @@ impl SceneInstrument {
         }
     }
 
-    // The stored line that answers a request with this id, if the instrument repeats. `None`: the request is no repeat.
-    fn again_for(&self, id: Option<u8>) -> Option<&[u8]>
-        ensures line { option_map (λ r. r.now) result ≡ again_for self.now id }
+    // The stored line that answers a request with this id, if the instrument repeats. `None`: no line is stored for the id, or the
+    // instrument doesn't repeat.
+    fn resent_line(&self, id: Option<u8>) -> Option<&[u8]>
+        ensures line { option_map (λ r. r.now) result ≡ resent_line self.now id }
         ensures within { IfSome result (λ r. length r.now ≤ 512) }
     {
         if self.repeats {
@@ -86,10 +90,11 @@ impl SceneInstrument {
         }
     }
 
-    // Stores a reply's line with the request's id if the instrument repeats, and else discards what is stored.
+    // If the instrument repeats, stores a reply's line, at most 512 bytes, with the request's id; without an id what is stored stays.
+    // If it doesn't repeat, discards what is stored.
     fn keep(&mut self, id: Option<u8>, line: &[u8])
         requires { length line.now ≤ 512 }
-        ensures { self.new ≡ holding (kept_behind self.old id line.now) self.old }
+        ensures { self.new ≡ holding (kept_if_repeating self.old id line.now) self.old }
     {
         if self.repeats {
             self.machine.keep(id, line);
@@ -98,7 +103,8 @@ impl SceneInstrument {
         }
     }
 
-    // Appends the reply to a call: the stored one to a repeat, and else a new one, which is stored.
+    // Appends the reply to a call: the stored one to a repeat, which changes nothing, and else a new one, which `keep` stores; faults count
+    // the call then.
     fn answer_call<const N: usize>(
         &mut self,
         rpc: u16,
@@ -111,7 +117,7 @@ impl SceneInstrument {
         ensures gave { AppendsGave (handed_call self.old rpc id call.now) self.new out.old.items out.new.items }
         ensures bound { length out.new.items ≤ length out.old.items + 512 }
     {
-        if let Some(line) = self.again_for(id) {
+        if let Some(line) = self.resent_line(id) {
             append(out, line);
             return;
         }
@@ -141,17 +147,18 @@ impl SceneInstrument {
         }
     }
 
-    // Appends the reply to a call that a fault answers with this code: with values if the code is a warning and the instrument has them.
+    // Appends the reply to a call that a fault answers with this code. It has values if the code is a warning and the instrument has values
+    // with warnings.
     fn warn_onto<const N: usize>(&self, id: u8, call: &Call, rc: u16, out: &mut ArrayVec<u8, N>)
         requires id { id < 8 }
         requires room { array_vec_len out.old + 512 ≤ N }
-        ensures line { out.new.items ≡ out.old.items ++ line_of id (warned self.now call.now rc) }
+        ensures line { out.new.items ≡ out.old.items ++ played_line id (warned self.now call.now rc) }
         ensures bound { length out.new.items ≤ length out.old.items + 512 }
     {
         if self.ways.values && is_warning(rc) {
-            let distance = self.distance_beside(call, rc);
+            let distance = self.distance_in_warning(call, rc);
             let there = self.machine.pointing();
-            push_valued(
+            push_reply_with_values(
                 out,
                 id,
                 rc,
@@ -178,8 +185,8 @@ impl SceneInstrument {
         self.reply_executed_onto(id, rc, call, &answer, out);
     }
 
-    // Appends the reply to an executed call: with this code and this answer, or, if the code is a warning and the instrument has values
-    // with warnings, with the angles and a distance of 0.
+    // Appends the reply to an executed call with this code. It has this answer or, if the code is a warning and the instrument has values
+    // with warnings, the angles and a distance of 0.
     fn reply_executed_onto<const N: usize>(
         &self,
         id: u8,
@@ -191,13 +198,13 @@ impl SceneInstrument {
         requires id { id < 8 }
         requires refused { rc ≢ 0 → answer.now ≡ Nothing }
         requires room { array_vec_len out.old + 512 ≤ N }
-        ensures line { out.new.items ≡ out.old.items ++ executed_line self.now id rc call.now answer.now }
+        ensures line { out.new.items ≡ out.old.items ++ executed_reply_line self.now id rc call.now answer.now }
         ensures bound { length out.new.items ≤ length out.old.items + 512 }
     {
         if self.ways.values && is_warning(rc) {
             let there = self.machine.pointing();
             let places = self.machine.precision();
-            push_valued(out, id, rc, &there, call, &Decimal::zero(), places);
+            push_reply_with_values(out, id, rc, &there, call, &Decimal::zero(), places);
         } else {
             self.answer_onto(id, rc, answer, out);
         }
@@ -225,7 +232,7 @@ impl SceneInstrument {
     }
 
     // Appends the reply to a request of a procedure that isn't in the table: with the code of the fault, if one answers it; else the
-    // scene's reply, if it has one; else with the communication code 3081.
+    // scene's reply, if it has one; else with the communication code 3081. A repeat gets the stored reply in place of the first two.
     fn answer_raw<const N: usize>(&mut self, rpc: u16, id: Option<u8>, out: &mut ArrayVec<u8, N>)
         requires id { ForSome id (λ id. id < 8) }
         requires room { array_vec_len out.old + 512 ≤ N }
@@ -245,7 +252,7 @@ impl SceneInstrument {
     }
 
     // Appends the reply to a request that isn't executed: the stored one to a repeat, and else one with this return code and these
-    // parameters, which is stored.
+    // parameters, which `keep` stores.
     fn answer_with<const N: usize>(
         &mut self,
         rpc: u16,
@@ -260,7 +267,7 @@ impl SceneInstrument {
         ensures gave { AppendsGave (handed_unexecuted self.old rpc id rc params.now) self.new out.old.items out.new.items }
         ensures bound { length out.new.items ≤ length out.old.items + 512 }
     {
-        if let Some(line) = self.again_for(id) {
+        if let Some(line) = self.resent_line(id) {
             append(out, line);
             return;
         }

@@ -4,7 +4,7 @@ ghost use Rattle.std.specs.Prelude.{◌≡◌, ◌<◌, ◌≤◌, length, IfSom
 ghost use Rattle.gc_catalogue.specs.RawTexts.{raw_bytes};
 ghost use Rattle.gc_scenes.specs.Laws.{still};
 ghost use Rattle.gc_scenes.specs.Params.{scripted_params};
-ghost use Rattle.gc_scenes.specs.Rules.{is_clear, offset, moved_by, moved, is_due, met_once, disturbed, is_measured, spent};
+ghost use Rattle.gc_scenes.specs.Rules.{is_clear, offset, moved_by, moved, is_due, met_once, deviated_hz, deviated_v, deviated_distance, disturbed, is_measured, advanced};
 ghost use Rattle.gc_scenes.specs.Shifting.{next, shifted, deviation};
 
 use crate::rules::{Fault, Noise, Offset, Prism, Scripted};
@@ -42,7 +42,7 @@ impl Fault {
             && u64::from(self.met - self.after) + 1 <= u64::from(self.times)
     }
 
-    /// The fault after one more request of this procedure.
+    /// The fault after one more request of this procedure, which it counts if the procedure is its own.
     pub(crate) fn met_once(&self, rpc: u16) -> Fault
         ensures { result ≡ met_once rpc self.now }
     {
@@ -136,13 +136,13 @@ impl Prism {
     }
 
     // The target after a measurement of it: moved by its drift, if it has one.
-    fn moved_by(&self) -> Prism
+    fn moved_by_drift(&self) -> Prism
         ensures { result ≡ moved_by self.now.drift self.now }
     {
         match self.drift {
             None => *self,
             Some(offset) => Prism {
-                at: offset.of(&self.at),
+                at: offset.applied_to(&self.at),
                 drift: self.drift,
                 from: self.from,
                 to: self.to,
@@ -150,14 +150,14 @@ impl Prism {
         }
     }
 
-    /// The target after a measurement in this look, with the telescope pointing `there`, in face II if `over`: moved, if this target was
-    /// measured.
+    /// The target after a measurement in this look, with the telescope pointing `there`, in face II if `over`: moved by its drift, if it
+    /// isn't hidden and lies exactly there.
     pub(crate) fn moved(&self, over: bool, look: u32, there: &Pointing) -> Prism
         ensures { result ≡ moved over look there.now self.now }
     {
         let at = target_in_face(over, &self.at);
         if self.is_clear(look) && at.hz == there.hz && at.v == there.v {
-            self.moved_by()
+            self.moved_by_drift()
         } else {
             *self
         }
@@ -165,8 +165,8 @@ impl Prism {
 }
 
 impl Offset {
-    // The target moved by this offset.
-    fn of(&self, target: &Target) -> Target
+    // The target moved by this offset. What would leave a decimal's range stays.
+    fn applied_to(&self, target: &Target) -> Target
         ensures { result ≡ offset self.now target.now }
     {
         Target {
@@ -179,7 +179,7 @@ impl Offset {
 
 impl Noise {
     // The generator's next three numbers, which the three deviations of one measurement take.
-    fn numbers(&self) -> (u32, u32, u32)
+    fn next_three_numbers(&self) -> (u32, u32, u32)
         ensures first { result.0 ≡ next self.now.seed }
         ensures second { result.1 ≡ next (next self.now.seed) }
         ensures third { result.2 ≡ next (next (next self.now.seed)) }
@@ -218,11 +218,11 @@ impl Noise {
 
     // A direction, an angle and a distance, to each of which is added a deviation by one of the generator's next three numbers.
     fn deviated(&self, hz: Decimal, v: Decimal, distance: Decimal) -> (Decimal, Decimal, Decimal)
-        ensures hz { result.0 ≡ shifted hz (deviation self.now.hz (next self.now.seed)) }
-        ensures v { result.1 ≡ shifted v (deviation self.now.v (next (next self.now.seed))) }
-        ensures distance { result.2 ≡ shifted distance (deviation self.now.distance (next (next (next self.now.seed)))) }
+        ensures hz { result.0 ≡ deviated_hz self.now hz }
+        ensures v { result.1 ≡ deviated_v self.now v }
+        ensures distance { result.2 ≡ deviated_distance self.now distance }
     {
-        let (first, second, third) = self.numbers();
+        let (first, second, third) = self.next_three_numbers();
         let hz = deviated(&hz, &self.hz, first);
         let v = deviated(&v, &self.v, second);
         let distance = deviated(&distance, &self.distance, third);
@@ -230,11 +230,11 @@ impl Noise {
     }
 
     /// The noise after an answer: a measurement takes the generator's next three numbers, and another answer none.
-    pub(crate) fn spent(&self, answer: &Answer) -> Noise
-        ensures { result ≡ spent self.now answer.now }
+    pub(crate) fn advanced(&self, answer: &Answer) -> Noise
+        ensures { result ≡ advanced self.now answer.now }
     {
         if is_measured(answer) {
-            let (_, _, third) = self.numbers();
+            let (_, _, third) = self.next_three_numbers();
             Noise {
                 hz: self.hz,
                 v: self.v,

@@ -1,4 +1,4 @@
-//! Decimals that are moved by units of 10^-24, and the generator of the noise. All arithmetic of scenes is here.
+//! Decimals that are moved by units of 10^-24, and the generator of the noise.
 
 ghost use Rattle.std.specs.Prelude.{◌≡◌, ◌*◌, ◌<◌, ◌≤◌, ◌^◌, unsigned_abs};
 ghost use Rattle.gc_values.specs.Decimals.{units};

@@ -4,7 +4,7 @@
 ghost use Rattle.std.specs.Prelude.{◌≡◌, ◌+◌, ◌<◌, ◌≤◌, length, true, IsTrue, IsFalse};
 ghost use Rattle.arrayvec.specs.ArrayVec.{array_vec_len};
 ghost use Rattle.gc_lines.specs.Answering.{AppendsAnswer};
-ghost use Rattle.gc_scenes.specs.Slow.{Hears, IsDelay, IsTaken, delay_of, later, slow_restarted, taken_up};
+ghost use Rattle.gc_scenes.specs.Slow.{HearsLine, IsDelay, IsTaken, delay_of, moment_after, slow_restarted, taken_up};
 
 use crate::delay::Delay;
 use crate::instrument::SceneInstrument;
@@ -53,7 +53,7 @@ impl SlowInstrument {
         self.drops
     }
 
-    /// The moment at which the last reply goes out. The instrument is busy until then.
+    /// The moment at which the last reply goes out; 0 before the first. The instrument is busy until then.
     pub fn free_from(&self) -> u64
         ensures { result ≡ self.now.free_from }
     {
@@ -67,18 +67,19 @@ impl SlowInstrument {
         self.scene.restart();
     }
 
-    /// Answers a line whose last byte came at the moment `at`: appends the reply to `out`, and returns whether there is one. The reply
-    /// goes out at `free_from`. If the instrument is busy and `drops`, the line is discarded: nothing is executed, and there is no reply.
+    /// Answers a line whose last byte came at the moment `at`: appends the reply to `out`, without CR LF, and returns whether there is one.
+    /// The reply goes out at `free_from`. If the instrument is busy and `drops`, the line is discarded: nothing is executed, and there is
+    /// no reply. A line that is no request gets none either, and leaves `free_from` as it is.
     pub fn hear<const N: usize>(&mut self, line: &[u8], at: u64, out: &mut ArrayVec<u8, N>) -> bool
         requires { array_vec_len out.old + 512 ≤ N }
-        ensures heard { AppendsAnswer (Hears self.old line.now at self.new) out.old.items out.new.items result }
+        ensures heard { AppendsAnswer (HearsLine self.old line.now at self.new) out.old.items out.new.items result }
         ensures bound { length out.new.items ≤ length out.old.items + 512 }
     {
         if self.drops_at(at) {
             return false;
         }
         let from = self.taken_up(at);
-        let due = later(from, self.delay_of_line(line));
+        let due = moment_after(from, self.delay_of_line(line));
         self.scene.set_moment(from);
         if !self.scene.reply_onto(line, out) {
             return false;
@@ -106,7 +107,7 @@ impl SlowInstrument {
         }
     }
 
-    // How long the reply to a line takes, in milliseconds; 0 if the line is no request.
+    // How long the reply to a line takes, in milliseconds. For a line that is no request it is 0, of which the contract says nothing.
     fn delay_of_line(&self, line: &[u8]) -> u32
         ensures { IsDelay self.now.delays line.now result }
     {
@@ -118,8 +119,8 @@ impl SlowInstrument {
 }
 
 // The moment `ms` milliseconds after `at`, at most the last one that 64 bits hold.
-fn later(at: u64, ms: u32) -> u64
-    ensures { result ≡ later at ms }
+fn moment_after(at: u64, ms: u32) -> u64
+    ensures { result ≡ moment_after at ms }
 {
     at.saturating_add(u64::from(ms))
 }

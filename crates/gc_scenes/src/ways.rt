@@ -3,7 +3,7 @@
 ghost use Rattle.std.specs.Prelude.{◌≡◌, ◌≤◌, ◌*◌, ◌^◌, ◌-ℤ◌, List, unsigned_abs};
 ghost use Rattle.gc_values.specs.Decimals.{units};
 ghost use Rattle.gc_values.specs.Directions.{half_turn};
-ghost use Rattle.gc_scenes.specs.Ways.{no_ways, with_way, is_second, other_hz, other_v, target_in_face, is_over, on_circle, apart, nearer, nearest, is_warning, has_distance};
+ghost use Rattle.gc_scenes.specs.Ways.{no_ways, with_way, is_in_face_two, other_hz, other_v, target_in_face, is_over, on_circle, apart, nearer, nearest, is_warning, has_distance};
 
 use crate::shifting::shifted;
 use gc_instrument::{Pointing, Target};
@@ -83,22 +83,22 @@ impl Ways {
         ways
     }
 
-    /// Whether the telescope is in face II if it points `there`, on an instrument that has both faces' angles.
+    /// Whether the telescope is in face II if it points `there`. `false`: it is in face I, or the instrument has no angles of face II.
     pub(crate) fn is_over(&self, there: &Pointing) -> bool
         ensures { result ≡ is_over self.now there.now }
     {
-        self.faces && is_second(&there.v)
+        self.faces && is_in_face_two(&there.v)
     }
 }
 
 /// Whether a vertical angle is one of face II: greater than half a turn.
-pub(crate) fn is_second(v: &Decimal) -> bool
-    ensures { result ≡ is_second v.now }
+pub(crate) fn is_in_face_two(v: &Decimal) -> bool
+    ensures { result ≡ is_in_face_two v.now }
 {
     !(v.units() <= HALF_TURN)
 }
 
-/// The horizontal direction in the other face.
+/// The horizontal direction in the other face: half a turn more or less. What would leave a decimal's range stays.
 pub(crate) fn other_hz(hz: &Decimal) -> Decimal
     ensures { result ≡ other_hz hz.now }
 {
@@ -110,7 +110,7 @@ pub(crate) fn other_hz(hz: &Decimal) -> Decimal
     shifted(hz, by)
 }
 
-/// The vertical angle in the other face.
+/// The vertical angle in the other face: a turn less the angle. What would leave a decimal's range stays.
 pub(crate) fn other_v(v: &Decimal) -> Decimal
     ensures { result ≡ other_v v.now }
 {

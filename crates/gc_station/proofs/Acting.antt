@@ -3,6 +3,7 @@
 -- link, with its result. A mark says which command an outstanding request is of, or `None` of a null procedure; a piece is the
 -- bytes that one read gave.
 use Rattle.std.proofs.Common.{◌≡◌, ℕ, ◌<◌, inl, ◌&&◌, ◌||◌, Bool, true, false, not, List, [], ◌∷◌, length, if◌then◌else◌, nat_lt, Option, Some, None, refl, sym, ap, subst}
+use Rattle.std.proofs.lemmas.Bool.{both_ways}
 use Rattle.gc_lines.specs.Frames.{rest_behind}
 use Rattle.gc_catalogue.specs.declared.asked.Asked.{Asked}
 use Rattle.gc_client.specs.Rule.{ById, heard, hears, id_settled, place_in}
@@ -22,18 +23,17 @@ use Rattle.gc_links.specs.Acts.{Act, Told, Cut, Gave, Silent, Ended, Broke, Open
 use Rattle.gc_station.specs.Deciding.{is_up, is_past, is_quiet}
 use Rattle.gc_station.specs.Marks.{commands_in}
 use Rattle.gc_station.specs.Progressing.{moment_noted, failing, after_failure, is_finished, is_spared, lines_synchronizing, quieted, drained, time_passed, silent, is_idle, closed}
-use Rattle.gc_station.specs.Model.{Model, with_progress, with_moment, with_rest, waiting_of, line_came, lines_came, lines_completed, after_piece, is_heard, reckoned, piece_at, after_clock, after_put, after_open, after_read, after_close}
+use Rattle.gc_station.specs.Model.{Model, with_progress, with_moment, with_rest, waiting_of, line_came, lines_came, lines_completed, after_piece, is_heard, piece_noted, piece_at, after_clock, after_put, after_open, after_read, after_close}
 use Rattle.gc_station.proofs.Invariant.{is_bare, is_done, says_done}
 use Rattle.gc_station.proofs.Midway.{Placed, SoundAt, PlacedAt, Mid, sound_moment, sound_settles}
 use Rattle.gc_station.proofs.Walk.{asked_along, closed_along}
-use Rattle.gc_station.proofs.Ticking.{not_both}
 use Rattle.gc_station.proofs.Facts.{finished_so}
 
 -- the phase after a failure for `why`, closing if there is a connection (`up`) and over if there is none, is `Placed`, unless
 -- `why` is `Done`
 fail_placed : (p : Progress) (rest : List ℕ) (marks : List (Option Mark)) (why : Cause) (up : Bool) → is_done why ≡ false → Placed (if up then Closing why else Over why) p.left p.unsent rest marks
-fail_placed p rest marks why true other = record { empty = λ e. cc; finished = λ e. absurd (not_both (is_done why) e other) }
-fail_placed p rest marks why false other = record { empty = λ e. cc; finished = λ e. absurd (not_both (is_done why) e other) }
+fail_placed p rest marks why true other = record { empty = λ e. cc; finished = λ e. absurd (both_ways (is_done why) other e) }
+fail_placed p rest marks why false other = record { empty = λ e. cc; finished = λ e. absurd (both_ways (is_done why) other e) }
 
 -- a failure preserves `Mid`, unless the run fails for being done
 pub mid_fail : (plan : Plan) (commands : List Task) (s : Model) (why : Cause) → is_done why ≡ false → Mid plan commands s → Mid plan commands (with_progress (failing why) s)
@@ -60,7 +60,7 @@ again_placed : (why : Cause) (left unsent : ℕ) (rest : List ℕ) (marks : List
     → Placed (if done then Over cause.Done else if some then Pausing else Over why) left unsent rest marks
 again_placed why left unsent rest marks true some other none finished = record { empty = λ e. cc; finished = λ e. let it = finished refl in (it.0, it.1, inl refl) }
 again_placed why left unsent rest marks false true other none finished = record { empty = λ e. none; finished = λ e. cc }
-again_placed why left unsent rest marks false false other none finished = record { empty = λ e. cc; finished = λ e. absurd (not_both (is_done why) e other) }
+again_placed why left unsent rest marks false false other none finished = record { empty = λ e. cc; finished = λ e. absurd (both_ways (is_done why) other e) }
 
 -- if no bytes of a line are kept, the progress after a lost connection or a failed attempt, not for `Done`, is `PlacedAt`
 placed_again : (plan : Plan) (n : ℕ) (why : Cause) (p : Progress) (rest : List ℕ) (marks : List (Option Mark)) → is_done why ≡ false → rest ≡ [] → PlacedAt (after_failure plan n why p) rest marks
@@ -145,27 +145,27 @@ listen_came plan commands s (asked ∷ others) piece l = listen_asked plan comma
     (record { sound = l.sound; is_ready = l.is_ready })
 
 -- counting what a piece settled preserves `Mid`, where lines are heard
-reckoned_ready : (plan : Plan) (commands : List Task) (s : Model) (until : Until) (before : ℕ) → Listening plan commands s → Mid plan commands (reckoned plan until before s)
-reckoned_ready plan commands s until before l = (
+piece_noted_ready : (plan : Plan) (commands : List Task) (s : Model) (until : Until) (before : ℕ) → Listening plan commands s → Mid plan commands (piece_noted plan until before s)
+piece_noted_ready plan commands s until before l = (
   l.sound,
   record {
-    empty = λ e. absurd (not_both (is_bare s.progress.phase) e (ap is_bare l.is_ready));
+    empty = λ e. absurd (both_ways (is_bare s.progress.phase) (ap is_bare l.is_ready) e);
     finished = λ e. absurd
-        (not_both (says_done s.progress.phase) e (ap says_done l.is_ready));
+        (both_ways (says_done s.progress.phase) (ap says_done l.is_ready) e);
   },
 )
 
 -- a piece that was counted preserves `Mid`, heard or not
-reckoned_came : (plan : Plan) (commands : List Task) (s : Model) (until : Until) (before : ℕ) (h : Bool) (word piece : List ℕ) → is_heard s.progress.phase ≡ h
-    → Mid plan commands s → Mid plan commands (reckoned plan until before (after_piece h word piece s))
-reckoned_came plan commands s until before true word piece is mid =
-    reckoned_ready plan commands (after_piece true word piece s) until before (listen_came plan commands s word piece (record { sound = mid.0; is_ready = heard_ready s.progress.phase is }))
-reckoned_came plan commands s until before false word piece is mid = (mid.0, record { empty = mid.1.empty; finished = mid.1.finished })
+piece_noted_came : (plan : Plan) (commands : List Task) (s : Model) (until : Until) (before : ℕ) (h : Bool) (word piece : List ℕ) → is_heard s.progress.phase ≡ h
+    → Mid plan commands s → Mid plan commands (piece_noted plan until before (after_piece h word piece s))
+piece_noted_came plan commands s until before true word piece is mid =
+    piece_noted_ready plan commands (after_piece true word piece s) until before (listen_came plan commands s word piece (record { sound = mid.0; is_ready = heard_ready s.progress.phase is }))
+piece_noted_came plan commands s until before false word piece is mid = (mid.0, record { empty = mid.1.empty; finished = mid.1.finished })
 
 -- a piece preserves `Mid`, whether it is heard or discarded
 pub mid_piece : (plan : Plan) (commands : List Task) (s : Model) (until : Until) (piece : List ℕ) (m : Moment) → Mid plan commands s → Mid plan commands (piece_at plan until piece m s)
 mid_piece plan commands s until piece m mid =
-    reckoned_came plan commands (with_moment m (with_progress (moment_noted m) s)) until (commands_in s.marks) (is_heard s.progress.phase) s.progress.word piece refl
+    piece_noted_came plan commands (with_moment m (with_progress (moment_noted m) s)) until (commands_in s.marks) (is_heard s.progress.phase) s.progress.word piece refl
     (mid_moment plan commands (with_progress (moment_noted m) s) m mid)
 
 -- Nothing came.

@@ -25,12 +25,13 @@ use Rattle.gc_station.specs.Answers.{ReadsBefore, first_deadline, deadline_after
 use Rattle.gc_station.specs.Ends.{LateIsJustified, LostIsJustified}
 use Rattle.gc_station.specs.Deciding.{later}
 use Rattle.gc_station.specs.Quiet.{IsAsking}
-use Rattle.gc_station.specs.Progressing.{turned, moment_noted, reckoned_early, cycle_begun, skipped, attempts_left_out, skipped_at, cleared, null_sent, renewed, sent, request_noted, loses_all, setup_sent}
+use Rattle.gc_station.specs.Progressing.{turned, moment_noted, early_noted, cycle_begun, skipped, attempts_left_out, skipped_at, cleared, null_sent, renewed, sent, request_noted, loses_all, setup_sent}
 use Rattle.gc_station.specs.Marks.{commands_in}
 use Rattle.gc_station.specs.Reasons.{HoldsBefore}
 use Rattle.gc_station.specs.Records.{Record}
 use Rattle.gc_station.specs.Runs.{state_after}
-use Rattle.gc_station.specs.Model.{Model, opening, action_at, waiting_of, mark_next, place_next, request_text, null_text, first_text, with_progress, is_heard, client_sent, asks_null, asks_first, asks_next, is_chained_after_next, others_after_next, is_chained_after, others_after, after_pass, with_passes, passes_next, with_listed, skip_listed, with_records, skips, skips_first, after_clock, after_put, after_open, after_read, Puts, ReadsClock, IsOpening, IsReading, Performs, moved, Runs, cycle_length, place_out, mark_setup, text_or_null, asks_or_null, asks_setup}
+use Rattle.gc_station.specs.ActKinds.{Puts, ReadsClock, IsOpening, IsReading}
+use Rattle.gc_station.specs.Model.{Model, opening, action_at, waiting_of, mark_next, place_next, request_text, null_text, first_text, with_progress, is_heard, client_sent, asks_null, asks_first, asks_next, is_chained_after_next, others_after_next, is_chained_after, others_after, after_pass, with_passes, next_left_out, with_listed, listed_after_skip, with_records, unsent_record, first_unsent_record, after_clock, after_put, after_open, after_read, Performs, moved, Runs, cycle_length, place_to_send, mark_setup, text_or_null, asks_or_null, asks_setup}
 use Rattle.gc_station.proofs.EachRun.{invariant_holds}
 use Rattle.gc_station.proofs.Outs.{prepare_cycle, prepare_place, send_cycle, send_place, sending_asks}
 use Rattle.gc_station.proofs.Facts.{action_for}
@@ -60,7 +61,7 @@ with_sent c target call deadline = record { next = (c.next + 1) % 8; waiting = c
 -- an act that sends a request preserves `Honest`: one more request is outstanding, after the others
 sent_honest : (plan : Plan) (commands : List Task) (scope : Scope) (acts : List Act) (act : Act) (c : ById Asked) (marks : List (Option Mark))
     (records : List Record) (target : ℕ) (call : Asked) (deadline : ℕ) (mark : Option Mark)
-    → ((d : ℕ) → ReadsBefore d act) → c.next < 8 → length c.waiting < 7 → length marks ≡ length c.waiting
+    → (reads_none : (d : ℕ) → ReadsBefore d act) → (digit : c.next < 8) → (room : length c.waiting < 7) → (paired : length marks ≡ length c.waiting)
     → Waits plan commands scope (acts ++ act ∷ []) ((c.next + 1) % 8) (length c.waiting + 1) (length acts) (length c.waiting) (pending_of target call deadline) mark
     → Honest plan commands scope acts (acts ++ act ∷ []) c marks records
     → Honest plan commands scope (acts ++ act ∷ []) (acts ++ act ∷ []) (with_sent c target call deadline) (marks ++ mark ∷ []) records
@@ -88,11 +89,11 @@ sent_honest plan commands scope acts act c marks records target call deadline ma
 -- the request that is sent waits as `Waits` says, put as the last of the acts
 asked_here : (plan : Plan) (commands : List Task) (scope : Scope) (acts : List Act) (act : Act) (target : ℕ) (call : Asked) (deadline : ℕ) (mark : Option Mark)
     → Invariant plan commands (state_after plan commands scope acts)
-    → length (state_after plan commands scope acts).client.waiting < 7
-    → (0 < length (state_after plan commands scope acts).client.waiting → IsAsking (action_at plan (state_after plan commands scope acts)))
-    → ((m : Mark) → mark ≡ Some m → Marked plan commands scope acts m)
-    → ((m : Mark) → mark ≡ Some m → deadline ≡ deadline_after plan commands scope acts)
-    → Puts (request_text (state_after plan commands scope acts).client call) act
+    → (room : length (state_after plan commands scope acts).client.waiting < 7)
+    → (asks : 0 < length (state_after plan commands scope acts).client.waiting → IsAsking (action_at plan (state_after plan commands scope acts)))
+    → (marked : (m : Mark) → mark ≡ Some m → Marked plan commands scope acts m)
+    → (due : (m : Mark) → mark ≡ Some m → deadline ≡ deadline_after plan commands scope acts)
+    → (puts : Puts (request_text (state_after plan commands scope acts).client call) act)
     → Waits plan commands scope (acts ++ act ∷ []) (((state_after plan commands scope acts).client.next + 1) % 8)
     (length (state_after plan commands scope acts).client.waiting + 1) (length acts) (length (state_after plan commands scope acts).client.waiting)
     (pending_of target call deadline) mark
@@ -115,8 +116,8 @@ asked_here plan commands scope acts act target call deadline mark fine room asks
 -- an act that sends a command preserves `Honest`
 command_honest : (plan : Plan) (commands : List Task) (scope : Scope) (acts : List Act) (act : Act) (target : ℕ) (call : Asked) (mark : Mark)
     → Invariant plan commands (state_after plan commands scope acts) → IsHonest plan commands scope acts (acts ++ act ∷ []) (state_after plan commands scope acts)
-    → Marked plan commands scope acts mark → length (state_after plan commands scope acts).client.waiting < 7
-    → Puts (request_text (state_after plan commands scope acts).client call) act
+    → (marked : Marked plan commands scope acts mark) → (room : length (state_after plan commands scope acts).client.waiting < 7)
+    → (puts : Puts (request_text (state_after plan commands scope acts).client call) act)
     → Honest plan commands scope (acts ++ act ∷ []) (acts ++ act ∷ []) (with_sent (state_after plan commands scope acts).client target call (deadline_after plan commands scope acts))
     ((state_after plan commands scope acts).marks ++ Some mark ∷ []) (state_after plan commands scope acts).records
 command_honest plan commands scope acts act target call mark fine h is room puts =
@@ -130,9 +131,9 @@ command_honest plan commands scope acts act target call mark fine h is room puts
 -- the act that sends the first of these commands, with this mark, preserves `IsHonest`
 first_honest : (plan : Plan) (commands : List Task) (scope : Scope) (acts : List Act) (act : Act) (next_is_chained : Bool) (behind : ℕ) (left : List Task) (mark : Mark)
     → Invariant plan commands (state_after plan commands scope acts) → IsHonest plan commands scope acts (acts ++ act ∷ []) (state_after plan commands scope acts)
-    → Marked plan commands scope acts mark → length (state_after plan commands scope acts).client.waiting < 7
-    → drop (place_out plan commands (state_after plan commands scope acts)) commands ≡ left
-    → Puts (first_text mark.sent (state_after plan commands scope acts).client left) act
+    → (marked : Marked plan commands scope acts mark) → (room : length (state_after plan commands scope acts).client.waiting < 7)
+    → (there : drop (place_to_send plan commands (state_after plan commands scope acts)) commands ≡ left)
+    → (puts : Puts (first_text mark.sent (state_after plan commands scope acts).client left) act)
     → IsHonest plan commands scope (acts ++ act ∷ []) (acts ++ act ∷ [])
     (with_progress (sent next_is_chained behind) (asks_first mark left (with_progress turned (state_after plan commands scope acts))))
 first_honest plan commands scope acts act next_is_chained behind [] mark fine h is room at puts =
@@ -148,9 +149,9 @@ first_honest plan commands scope acts act next_is_chained behind (task ∷ other
 -- an act that sends a null procedure after commands preserves `IsHonest`
 null_honest : (plan : Plan) (commands : List Task) (scope : Scope) (acts : List Act) (act : Act) (f : Progress → Progress)
     → Invariant plan commands (state_after plan commands scope acts) → IsHonest plan commands scope acts (acts ++ act ∷ []) (state_after plan commands scope acts)
-    → length (state_after plan commands scope acts).client.waiting < 7
-    → (0 < length (state_after plan commands scope acts).client.waiting → IsAsking (action_at plan (state_after plan commands scope acts)))
-    → Puts (request_text (state_after plan commands scope acts).client (Table NullProc)) act
+    → (room : length (state_after plan commands scope acts).client.waiting < 7)
+    → (asks : 0 < length (state_after plan commands scope acts).client.waiting → IsAsking (action_at plan (state_after plan commands scope acts)))
+    → (puts : Puts (request_text (state_after plan commands scope acts).client (Table NullProc)) act)
     → IsHonest plan commands scope (acts ++ act ∷ []) (acts ++ act ∷ []) (with_progress f (asks_null plan (with_progress turned (state_after plan commands scope acts))))
 null_honest plan commands scope acts act f fine h room asks puts =
     let s = state_after plan commands scope acts in
@@ -165,9 +166,9 @@ null_honest plan commands scope acts act f fine h room asks puts =
 -- the act that sends the first of these commands of the setup, with this mark, preserves `IsHonest`
 setup_honest : (plan : Plan) (commands : List Task) (scope : Scope) (acts : List Act) (act : Act) (left : List Task) (mark : Mark)
     → Invariant plan commands (state_after plan commands scope acts) → IsHonest plan commands scope acts (acts ++ act ∷ []) (state_after plan commands scope acts)
-    → Marked plan commands scope acts mark → length (state_after plan commands scope acts).client.waiting < 7
-    → drop (place_out plan commands (state_after plan commands scope acts)) commands ≡ left
-    → Puts (text_or_null mark.sent (state_after plan commands scope acts).client left) act
+    → (marked : Marked plan commands scope acts mark) → (room : length (state_after plan commands scope acts).client.waiting < 7)
+    → (there : drop (place_to_send plan commands (state_after plan commands scope acts)) commands ≡ left)
+    → (puts : Puts (text_or_null mark.sent (state_after plan commands scope acts).client left) act)
     → IsHonest plan commands scope (acts ++ act ∷ []) (acts ++ act ∷ []) (with_progress (setup_sent plan) (asks_or_null plan mark left (with_progress turned (state_after plan commands scope acts))))
 setup_honest plan commands scope acts act [] mark fine h is room at puts =
     null_honest plan commands scope acts act (setup_sent plan) fine h room (λ above. sending_asks plan (state_after plan commands scope acts) is.sends) puts
@@ -195,12 +196,12 @@ unsent_true plan commands scope all false utc mark command = record { answered =
 
 -- the record of the first of these commands, which isn't sent, is true
 skips_first_true : (plan : Plan) (commands : List Task) (scope : Scope) (all : List Act) (p : Progress) (m : Moment) (mark : Mark) (left : List Task)
-    → AllByRecursion (IsJustified plan commands scope all) (skips_first p m mark left)
+    → AllByRecursion (IsJustified plan commands scope all) (first_unsent_record p m mark left)
 skips_first_true plan commands scope all p m mark [] = tt
 skips_first_true plan commands scope all p m mark (task ∷ others) = (unsent_true plan commands scope all p.missed (skipped_at m p) mark task.command, tt)
 
 -- the record of the next command, if it isn't sent, is true
-skips_true : (plan : Plan) (commands : List Task) (scope : Scope) (all : List Act) (p : Progress) (act : Act) → AllByRecursion (IsJustified plan commands scope all) (skips plan commands p act)
+skips_true : (plan : Plan) (commands : List Task) (scope : Scope) (all : List Act) (p : Progress) (act : Act) → AllByRecursion (IsJustified plan commands scope all) (unsent_record plan commands p act)
 skips_true plan commands scope all p (Told m) = skips_first_true plan commands scope all p m (mark_next plan commands p) (drop (place_next commands p) commands)
 skips_true plan commands scope all p act = tt
 
@@ -221,8 +222,8 @@ pass_honest : (plan : Plan) (commands : List Task) (scope : Scope) (acts : List 
 pass_honest plan commands scope acts (Told m) s h o =
     let p = turned s.progress in
     let n = p.next_others in
-    clock_honest plan commands scope acts (Told m) (λ m p'. reckoned_early plan (commands_in s.marks) (attempts_left_out (is_chained_after n commands p) (others_after n commands p) m p'))
-    (with_passes (passes_next plan commands p) s) (record { waiting = h.waiting; written = h.written }) o
+    clock_honest plan commands scope acts (Told m) (λ m p'. early_noted plan (commands_in s.marks) (attempts_left_out (is_chained_after n commands p) (others_after n commands p) m p'))
+    (with_passes (next_left_out plan commands p) s) (record { waiting = h.waiting; written = h.written }) o
 pass_honest plan commands scope acts Untold s h o = clock_honest plan commands scope acts Untold (λ m p. p) s h o
 pass_honest plan commands scope acts act s h o = absurd o
 
@@ -255,14 +256,15 @@ close_still act is d = subst (λ (x : Act). ReadsBefore d x) (sym is) tt
 -- each act preserves `IsHonest`, before what is outstanding is lost
 moved_honest : (plan : Plan) (commands : List Task) (scope : Scope) (acts : List Act) (action : Action) (act : Act) (tail : List Record)
     → Invariant plan commands (state_after plan commands scope acts) → IsHonest plan commands scope acts (acts ++ act ∷ []) (state_after plan commands scope acts)
-    → action_at plan (state_after plan commands scope acts) ≡ action → HoldsBefore plan (state_after plan commands scope acts).progress (waiting_of (state_after plan commands scope acts)) action
-    → Performs commands (state_after plan commands scope acts) action act
-    → (state_after plan commands scope (acts ++ act ∷ [])).records ≡ (moved plan commands action (with_progress turned (state_after plan commands scope acts)) act).records ++ tail
+    → (is_next : action_at plan (state_after plan commands scope acts) ≡ action)
+    → (needs : HoldsBefore plan (state_after plan commands scope acts).progress (waiting_of (state_after plan commands scope acts)) action)
+    → (performs : Performs commands (state_after plan commands scope acts) action act)
+    → (ends : (state_after plan commands scope (acts ++ act ∷ [])).records ≡ (moved plan commands action (with_progress turned (state_after plan commands scope acts)) act).records ++ tail)
     → IsHonest plan commands scope (acts ++ act ∷ []) (acts ++ act ∷ []) (moved plan commands action (with_progress turned (state_after plan commands scope acts)) act)
 moved_honest plan commands scope acts actions.ReadClock act tail fine h is needs o ends =
-    let s = state_after plan commands scope acts in clock_honest plan commands scope acts act (λ m p. reckoned_early plan (commands_in s.marks) (moment_noted m p)) s h o
+    let s = state_after plan commands scope acts in clock_honest plan commands scope acts act (λ m p. early_noted plan (commands_in s.marks) (moment_noted m p)) s h o
 moved_honest plan commands scope acts actions.Renew act tail fine h is needs o ends =
-    clock_honest plan commands scope acts act (λ m p. reckoned_early plan 0 (renewed plan m p)) (state_after plan commands scope acts) h o
+    clock_honest plan commands scope acts act (λ m p. early_noted plan 0 (renewed plan m p)) (state_after plan commands scope acts) h o
 moved_honest plan commands scope acts actions.Begin act tail fine h is needs o ends = clock_honest plan commands scope acts act (cycle_begun plan (cycle_length plan commands))
     (state_after plan commands scope acts) h o
 moved_honest plan commands scope acts actions.Open act tail fine h is needs o ends = open_honest plan commands scope acts act (state_after plan commands scope acts) h o
@@ -290,12 +292,12 @@ moved_honest plan commands scope acts actions.Send act tail fine h is needs o en
     (ap (λ n. drop n commands) (send_place plan commands s is)) o)
 moved_honest plan commands scope acts actions.Skip act tail fine h is needs o ends =
     let s = state_after plan commands scope acts in
-    clock_honest plan commands scope acts act (λ m p. reckoned_early plan (commands_in s.marks) (skipped (is_chained_after_next commands s.progress) (others_after_next commands s.progress) m p))
-    (with_listed (skip_listed plan commands (with_progress turned s) act) (with_records (skips plan commands s.progress act) s))
+    clock_honest plan commands scope acts act (λ m p. early_noted plan (commands_in s.marks) (skipped (is_chained_after_next commands s.progress) (others_after_next commands s.progress) m p))
+    (with_listed (listed_after_skip plan commands (with_progress turned s) act) (with_records (unsent_record plan commands s.progress act) s))
     (record {
       waiting = h.waiting;
       written = all_append (IsJustified plan commands scope (acts ++ act ∷ [])) s.records
-          (skips plan commands s.progress act) h.written (skips_true plan commands scope (acts ++ act ∷ []) s.progress act);
+          (unsent_record plan commands s.progress act) h.written (skips_true plan commands scope (acts ++ act ∷ []) s.progress act);
     }) o
 moved_honest plan commands scope acts actions.Pass act tail fine h is needs o ends = pass_honest plan commands scope acts act (state_after plan commands scope acts) h o
 moved_honest plan commands scope acts actions.Flush act tail fine h is needs o ends =

@@ -17,10 +17,11 @@ use Rattle.gc_station.specs.Beginnings.{lines_heard_at, unanswered_after}
 use Rattle.gc_station.specs.Begun.{AreBegun, heard_in}
 use Rattle.gc_station.specs.Deciding.{has_begun, is_none_left}
 use Rattle.gc_station.specs.Parts as part
-use Rattle.gc_station.specs.Parts.{Part, beginning, doing, in_front, parts_of}
+use Rattle.gc_station.specs.Parts.{Part, sync_part, client_part, in_front, parts_of}
 use Rattle.gc_station.specs.Progressing.{is_over, loses_all}
 use Rattle.gc_station.specs.Model.{Performs, Runs, Model, after, is_heard, lines_completed, mark_next, action_at, place_next, mark_setup}
-use Rattle.gc_station.proofs.Beginnings.{word_after as word_left, word_anew}
+use Rattle.gc_station.proofs.Beginnings.{word_after as word_left, word_if_resynchronizing}
+use Rattle.gc_station.proofs.Midway.{kept_for}
 use Rattle.gc_station.proofs.Turns.{over_stays}
 use Rattle.gc_station.proofs.Words.{left_none}
 
@@ -42,7 +43,7 @@ heard_lines : (lines : List (List ℕ)) → heard_in (map part.Hears lines) ≡ 
 heard_lines [] = refl
 heard_lines (line ∷ lines) = ap (λ l. line ∷ l) (heard_lines lines)
 
--- What an act does while it synchronizes.
+-- What an act does while the station synchronizes.
 
 -- if no id is left, the word is empty
 pub word_of : (w : List ℕ) → is_none_left w ≡ true → w ≡ []
@@ -56,7 +57,7 @@ module _ (plan : Plan) (commands : List Task) where
   heard_piece false lines = refl
 
   -- the lines that a station hears by an act while it synchronizes are those that the act brings
-  heard_by : (s : Model) (o : Action) (act : Act) → Performs commands s o act → heard_in (beginning s o act).turns ≡ lines_heard_at s act
+  heard_by : (s : Model) (o : Action) (act : Act) → Performs commands s o act → heard_in (sync_part s o act).turns ≡ lines_heard_at s act
   heard_by s action.Ask (Put bytes) obeys = refl
   heard_by s action.Ask (Cut bytes count) obeys = refl
   heard_by s (action.Read until) (Gave piece m) obeys = heard_piece (is_heard s.progress.phase) (lines_completed s.rest piece)
@@ -66,7 +67,7 @@ module _ (plan : Plan) (commands : List Task) where
 
   -- the turns of a piece, while the station synchronizes, are its lines if it is heard, and none if it is discarded
   pub turns_gave : (s : Model) (o : Action) (piece : List ℕ) (m : Moment) → Performs commands s o (Gave piece m)
-      → (beginning s o (Gave piece m)).turns ≡ (if is_heard s.progress.phase then map part.Hears (lines_completed s.rest piece) else [])
+      → (sync_part s o (Gave piece m)).turns ≡ (if is_heard s.progress.phase then map part.Hears (lines_completed s.rest piece) else [])
   turns_gave s (action.Read until) piece m obeys = refl
   turns_gave s (action.Close why) piece m obeys = cc
   turns_gave s o piece m obeys = absurd obeys
@@ -79,7 +80,7 @@ module _ (plan : Plan) (commands : List Task) where
   IsPlain act = Unit {0}
 
   -- an act that is `IsPlain` makes no turn
-  pub turns_plain : (s : Model) (o : Action) (act : Act) → IsPlain act → (beginning s o act).turns ≡ []
+  pub turns_plain : (s : Model) (o : Action) (act : Act) → IsPlain act → (sync_part s o act).turns ≡ []
   turns_plain s action.Ask (Put bytes) h = absurd h
   turns_plain s action.Ask (Cut bytes count) h = absurd h
   turns_plain s (action.Read until) (Gave piece m) h = absurd h
@@ -87,20 +88,20 @@ module _ (plan : Plan) (commands : List Task) where
 
   -- after an act while the station synchronizes, the ids that are left are those that the lines of the act leave
   pub word_after : (s : Model) (act : Act) → Performs commands s (action_at plan s) act → has_begun s.progress ≡ false
-      → (after plan commands s act).progress.word ≡ unanswered_after s.progress.word (heard_in (beginning s (action_at plan s) act).turns)
+      → (after plan commands s act).progress.word ≡ unanswered_after s.progress.word (heard_in (sync_part s (action_at plan s) act).turns)
   word_after s act obeys begins = word_left plan commands s act obeys begins ∙ ap (λ l. unanswered_after s.progress.word l) (sym (heard_by s (action_at plan s) act obeys))
 
-  -- Each part begins first.
+  -- Each part synchronizes first.
 
   -- the part of an act while the station synchronizes has no steps of the client
-  pub steps_none : (s : Model) (o : Action) (act : Act) → (beginning s o act).steps ≡ []
+  pub steps_none : (s : Model) (o : Action) (act : Act) → (sync_part s o act).steps ≡ []
   steps_none s action.Ask (Put bytes) = refl
   steps_none s action.Ask (Cut bytes count) = refl
   steps_none s (action.Read until) (Gave piece m) = refl
   steps_none s o act = refl
 
   -- the part of an act while the station synchronizes has no marks
-  pub marks_none : (s : Model) (o : Action) (act : Act) → (beginning s o act).marks ≡ []
+  pub marks_none : (s : Model) (o : Action) (act : Act) → (sync_part s o act).marks ≡ []
   marks_none s action.Ask (Put bytes) = refl
   marks_none s action.Ask (Cut bytes count) = refl
   marks_none s (action.Read until) (Gave piece m) = refl
@@ -143,11 +144,7 @@ begun_out p (q ∷ ps) h = (left_none (heard_in p.turns), h)
 module _ (plan : Plan) (commands : List Task) where
   -- if nothing is lost the station has synchronized
   pub goes_begun : (t : Model) → loses_all t.progress ≡ false → has_begun t.progress ≡ true
-  goes_begun t e = still (has_begun t.progress) (is_over t.progress) e where
-    -- the lemma above, by whether the station has synchronized, and whether the run is over
-    still : (b over : Bool) → (not b || over) ≡ false → b ≡ true
-    still true over e = refl
-    still false over e = cc
+  goes_begun t e = (kept_for (has_begun t.progress) (is_over t.progress) e).0
 
   -- if a part ends with the model t, the acts after it begin with all eight ids; or the run is over, and there are none
   next_begun : (t : Model) (acts : List Act) → loses_all t.progress ≡ true → (has_begun t.progress ≡ false → t.progress.word ≡ the_word)
@@ -167,26 +164,26 @@ module _ (plan : Plan) (commands : List Task) where
   -- if the parts of the acts after `act` have synchronized from the ids that it leaves, the parts with `act` before it have
   -- synchronized from the ids before it. `begun` is whether the station had synchronized before the act, and `lost` whether all
   -- that is outstanding is lost at its end
-  parts_begun_with : (s : Model) (act : Act) (acts : List Act) (begun lost : Bool) → has_begun s.progress ≡ begun → loses_all (after plan commands s act).progress ≡ lost
-      → Performs commands s (action_at plan s) act → Runs plan commands (after plan commands s act) acts
+  parts_begun_with : (s : Model) (act : Act) (acts : List Act) (begun lost : Bool) → (is_begun : has_begun s.progress ≡ begun) → (is_lost : loses_all (after plan commands s act).progress ≡ lost)
+      → (performs : Performs commands s (action_at plan s) act) → (runs : Runs plan commands (after plan commands s act) acts)
       → AreBegun (after plan commands s act).progress.word (parts_of plan commands (after plan commands s act) acts)
-      → AreBegun s.progress.word (in_front (if begun then doing plan commands s (action_at plan s) act else beginning s (action_at plan s) act)
+      → AreBegun s.progress.word (in_front (if begun then client_part plan commands s (action_at plan s) act else sync_part s (action_at plan s) act)
       (begun && lost) (parts_of plan commands (after plan commands s act) acts))
   parts_begun_with s act acts false lost e f obeys runs h =
       let t = after plan commands s act in
-      begun_on s.progress.word (beginning s (action_at plan s) act) (parts_of plan commands t acts) (steps_none plan commands s (action_at plan s) act)
+      begun_on s.progress.word (sync_part s (action_at plan s) act) (parts_of plan commands t acts) (steps_none plan commands s (action_at plan s) act)
       (subst (λ w. AreBegun w (parts_of plan commands t acts)) (word_after plan commands s act obeys e) h)
   parts_begun_with s act acts true false e f obeys runs h =
       let t = after plan commands s act in
-      let p = doing plan commands s (action_at plan s) act in
+      let p = client_part plan commands s (action_at plan s) act in
       let goes : has_begun t.progress ≡ true = goes_begun t f in
       subst (λ w. AreBegun w (in_front p false (parts_of plan commands t acts))) (sym (word_of s.progress.word e))
       (begun_in p (parts_of plan commands t acts) (subst (λ w. AreBegun w (parts_of plan commands t acts)) (word_of t.progress.word goes) h))
   parts_begun_with s act acts true true e f obeys runs h =
       let t = after plan commands s act in
-      let p = doing plan commands s (action_at plan s) act in
+      let p = client_part plan commands s (action_at plan s) act in
       subst (λ w. AreBegun w (p ∷ parts_of plan commands t acts)) (sym (word_of s.progress.word e))
-      (begun_out p (parts_of plan commands t acts) (next_begun t acts f (λ begins. word_anew plan commands s act obeys e begins) runs h))
+      (begun_out p (parts_of plan commands t acts) (next_begun t acts f (λ begins. word_if_resynchronizing plan commands s act obeys e begins) runs h))
 
   -- all parts of a run have synchronized, as `AreBegun` says
   pub parts_begun : (s : Model) (acts : List Act) → Runs plan commands s acts → AreBegun s.progress.word (parts_of plan commands s acts)
@@ -194,7 +191,7 @@ module _ (plan : Plan) (commands : List Task) where
   parts_begun s (act ∷ acts) runs =
       parts_begun_with s act acts (has_begun s.progress) (loses_all (after plan commands s act).progress) refl refl runs.0 runs.1 (parts_begun (after plan commands s act) acts runs.1)
 
-  -- Once it has synchronized there are no turns.
+  -- Once the station has synchronized there are no turns.
 
   -- parts of which the first has no turns stay so with a part without turns before it
   none_in_front : (p : Part) (b : Bool) (ps : List Part) → p.turns ≡ [] → (b ≡ false → FirstHasNoTurns ps) → FirstHasNoTurns (in_front p b ps)
@@ -203,24 +200,24 @@ module _ (plan : Plan) (commands : List Task) where
   none_in_front p false (q ∷ ps) e h = nil_both p.turns q.turns e (h refl)
 
   -- the part of a command that is sent has no turns
-  none_asking : (now : ℕ) (mark : Mark) (tasks : List Task) → (part.asking_first now mark tasks).turns ≡ []
+  none_asking : (now : ℕ) (mark : Mark) (tasks : List Task) → (part.first_request_part now mark tasks).turns ≡ []
   none_asking now mark [] = refl
   none_asking now mark (task ∷ others) = refl
 
   -- the part of a command of the setup that is sent has no turns
-  none_setup : (now : ℕ) (mark : Mark) (tasks : List Task) → (part.asking_or_null plan now mark tasks).turns ≡ []
+  none_setup : (now : ℕ) (mark : Mark) (tasks : List Task) → (part.request_or_null_part plan now mark tasks).turns ≡ []
   none_setup now mark [] = refl
   none_setup now mark (task ∷ others) = refl
 
   -- the part of an action that puts bytes has no turns
-  none_putting : (s : Model) (o : Action) → (part.putting plan commands s o).turns ≡ []
+  none_putting : (s : Model) (o : Action) → (part.put_part plan commands s o).turns ≡ []
   none_putting s action.Flush = refl
   none_putting s action.Prepare = none_setup s.progress.moment.elapsed (mark_setup commands s.progress) (drop s.progress.prepared commands)
   none_putting s action.Send = none_asking s.progress.moment.elapsed (mark_next plan commands s.progress) (drop (place_next commands s.progress) commands)
   none_putting s o = refl
 
   -- the part of an act once the station has synchronized has no turns
-  pub none_doing : (s : Model) (o : Action) (act : Act) → (doing plan commands s o act).turns ≡ []
+  pub none_doing : (s : Model) (o : Action) (act : Act) → (client_part plan commands s o act).turns ≡ []
   none_doing s o (Put bytes) = none_putting s o
   none_doing s o (Cut bytes count) = none_putting s o
   none_doing s o (Told m) = refl
@@ -233,5 +230,5 @@ module _ (plan : Plan) (commands : List Task) where
   no_turns s (act ∷ acts) e =
       let t = after plan commands s act in
       let o = action_at plan s in
-      subst (λ b. FirstHasNoTurns (in_front (if b then doing plan commands s o act else beginning s o act) (b && loses_all t.progress) (parts_of plan commands t acts))) (sym e)
-      (none_in_front (doing plan commands s o act) (loses_all t.progress) (parts_of plan commands t acts) (none_doing s o act) (λ f. no_turns t acts (goes_begun t f)))
+      subst (λ b. FirstHasNoTurns (in_front (if b then client_part plan commands s o act else sync_part s o act) (b && loses_all t.progress) (parts_of plan commands t acts))) (sym e)
+      (none_in_front (client_part plan commands s o act) (loses_all t.progress) (parts_of plan commands t acts) (none_doing s o act) (λ f. no_turns t acts (goes_begun t f)))

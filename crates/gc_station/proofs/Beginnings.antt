@@ -3,7 +3,7 @@
 -- with its result.
 use Rattle.std.proofs.Common.{◌≡◌, inl, inr, ℕ, Bool, true, false, List, [], ◌∷◌, ◌++◌, length, Option, Some, None, nat_eq, refl, sym, ap, ◌∙◌, subst}
 use Rattle.std.specs.List.{filter_map}
-use Rattle.std.proofs.lemmas.Bool.{eqb-true}
+use Rattle.std.proofs.lemmas.Bool.{eqb-true, both_ways}
 use Rattle.std.proofs.lemmas.List.{nil_from_length}
 use Rattle.std.proofs.lemmas.List.Elements.{filter_map-append}
 use Rattle.gc_catalogue.specs.declared.asked.Asked.{Asked}
@@ -31,7 +31,6 @@ use Rattle.gc_station.proofs.Facts.{action_for}
 use Rattle.gc_station.proofs.Going.{after_all-append, runs_behind}
 use Rattle.gc_station.proofs.Quiets.{asks_only}
 use Rattle.gc_station.proofs.Words.{word_moved, renews_only, renews_needs}
-use Rattle.gc_station.proofs.Ticking.{not_both}
 
 -- Lines answer the ids of a word, the null procedures that aren't answered yet, in their order: the word is a subsequence of the
 -- lines' ids.
@@ -60,7 +59,7 @@ lines_answered word (line ∷ others) ids h = left_answered word line others ids
 module _ (plan : Plan) (commands : List Task) where
   -- a synchronizing station doesn't resynchronize
   begins_not : (s : Model) (o : Action) → HoldsBefore plan s.progress (waiting_of s) o → has_begun s.progress ≡ false → o ≡ actions.Renew → ⊥
-  begins_not s o needs begins is = let it = subst (λ (x : Action). HoldsBefore plan s.progress (waiting_of s) x) is needs in not_both (has_begun s.progress) it.1 begins
+  begins_not s o needs begins is = let it = subst (λ (x : Action). HoldsBefore plan s.progress (waiting_of s) x) is needs in both_ways (has_begun s.progress) begins it.1
 
   -- while the station synchronizes, the ids that an act leaves unanswered are those that its lines leave
   pub word_after : (s : Model) (act : Act) → Performs commands s (action_at plan s) act → has_begun s.progress ≡ false
@@ -70,9 +69,9 @@ module _ (plan : Plan) (commands : List Task) where
       ∙ word_moved plan commands s (action_at plan s) act obeys (begins_not s (action_at plan s) (action_for plan s.progress (waiting_of s)) begins)
 
   -- if the station resynchronizes, all ids of the word are left
-  pub word_anew : (s : Model) (act : Act) → Performs commands s (action_at plan s) act → has_begun s.progress ≡ true
+  pub word_if_resynchronizing : (s : Model) (act : Act) → Performs commands s (action_at plan s) act → has_begun s.progress ≡ true
       → has_begun (after plan commands s act).progress ≡ false → (after plan commands s act).progress.word ≡ the_word
-  word_anew s act obeys begun begins =
+  word_if_resynchronizing s act obeys begun begins =
       let o = action_at plan s in
       let far = ended_progress (moved plan commands o (with_progress turned s) act) in
       let it = renews_only plan commands s o act obeys begun (ap has_begun (sym far) ∙ begins) in
@@ -118,7 +117,7 @@ none_before_the_last plan commands scope earlier between runs asks =
     none_before plan commands (state_after plan commands scope earlier) between (runs_behind plan commands (opening plan scope) earlier between runs)
     (ap (λ (x : Model). has_begun x.progress) (sym (after_all-append plan commands (opening plan scope) earlier between)) ∙ begun)
 
--- Each act while it synchronizes, and if it resynchronizes.
+-- Each act while the station synchronizes, and if it resynchronizes.
 
 module _ (plan : Plan) (commands : List Task) (scope : Scope) (acts : List Act) (act : Act) where
   -- the model before the act
@@ -145,15 +144,15 @@ module _ (plan : Plan) (commands : List Task) (scope : Scope) (acts : List Act) 
 
   -- an act of a run at which the station resynchronizes is `IsResynchronizing`: it reads the clock where seven requests are
   -- outstanding, all timed out; after it the client is new, and all eight ids are left
-  is_anew : Performs commands here (action_at plan here) act → has_begun here.progress ≡ true → has_begun there.progress ≡ false → IsResynchronizing plan commands scope acts act
-  is_anew obeys begun begins =
+  of_resynchronizing : Performs commands here (action_at plan here) act → has_begun here.progress ≡ true → has_begun there.progress ≡ false → IsResynchronizing plan commands scope acts act
+  of_resynchronizing obeys begun begins =
       let far = progress_behind plan commands scope acts act in
       let on = after_all-append plan commands (opening plan scope) acts (act ∷ []) in
       let it = renews_only plan commands here (action_at plan here) act obeys begun (ap has_begun (sym far) ∙ begins) in
       let full = renews_needs plan commands here (action_at plan here) (invariant_holds plan commands scope acts) it.0 (action_for plan here.progress (waiting_of here)) in
       record {
         resynchronizes = record { renews = it.0; moment = it.1; told = it.2; seven = full.0; given_up = full.1 };
-        word = ap (λ (x : Model). x.progress.word) on ∙ word_anew plan commands here act obeys begun (ap (λ (x : Model). has_begun x.progress) (sym on) ∙ begins);
+        word = ap (λ (x : Model). x.progress.word) on ∙ word_if_resynchronizing plan commands here act obeys begun (ap (λ (x : Model). has_begun x.progress) (sym on) ∙ begins);
         client = (invariant_holds plan commands scope (acts ++ act ∷ [])).begins begins;
       }
 
@@ -162,4 +161,4 @@ module _ (plan : Plan) (commands : List Task) (scope : Scope) (acts : List Act) 
   pub begins_so : Runs plan commands (opening plan scope) (acts ++ act ∷ []) → SynchronizesInOrder plan commands scope acts act
   begins_so runs =
       let obeys = (runs_split plan commands (opening plan scope) acts [] act runs).1 in
-      record { starts = refl; begins = λ begins. of_beginning obeys begins; anew = λ begun begins. is_anew obeys begun begins }
+      record { starts = refl; begins = λ begins. of_beginning obeys begins; anew = λ begun begins. of_resynchronizing obeys begun begins }

@@ -1,10 +1,10 @@
 -- Where commands are sent after calls of the table. A course is what a client has sent and settled so far, and the client after
 -- that; its steps are to send, to hear a line, to read the clock and to restart. `behind_by` says of steps how many requests
--- are after the last call of the table that a reply ended, and `Counts` that a course is so. A part reaches from one
+-- are after the last call of the table that a reply ended, and `CountsBehind` that a course is so. A part reaches from one
 -- synchronization to the next. An act is one call on the link, with its result.
 use Rattle.std.proofs.Common.{◌≡◌, ◌⊎◌, inl, inr, ℕ, zero, suc, ◌+◌, ◌-◌, ◌<◌, ◌≤◌, Bool, true, false, List, [], ◌∷◌, ◌++◌, length, map, Option, Some, None, refl, sym, ap, ◌∙◌, subst, arith, append_assoc, append-nil, if◌then◌else◌, nat_lt}
 use Rattle.std.specs.Prelude.{slice_get}
-use Rattle.std.proofs.lemmas.Bool.{ltb-true}
+use Rattle.std.proofs.lemmas.Bool.{ltb-true, cond_both, ltb-false}
 use Rattle.std.proofs.lemmas.List.{length-map, length-append}
 use Rattle.gc_catalogue.specs.Asked.{is_of_table}
 use Rattle.gc_catalogue.specs.declared.asked.Asked.{Asked}
@@ -17,7 +17,6 @@ use Rattle.gc_station.specs.Behind.{IsReplied, IsNearTheTable}
 use Rattle.gc_station.specs.Model.{is_some_of_table, ends_with_table}
 use Rattle.gc_station.specs.Progressing.{one_more_in_window}
 use Rattle.gc_station.proofs.Booking.{stepped, course_client}
-use Rattle.gc_station.proofs.Facts.{either}
 use Rattle.gc_station.proofs.Meets.{settle_length, met_lost}
 use Rattle.gc_station.proofs.Lists.{get_more, get_behind}
 
@@ -31,7 +30,7 @@ behind_step c b (Hear line) = if ends_with_table (hears c line (heard line)).set
 behind_step c b (Expire now) = b
 behind_step c b Restart = b
 
--- the same after these steps, in order
+-- the count after these steps of this client, in order, if it was `b` before
 abbrev pub behind_by : ById Asked → ℕ → List (Step Asked) → ℕ
 behind_by c b [] = b
 behind_by c b (step ∷ steps) = behind_by (stepped c step) (behind_step c b step) steps
@@ -43,14 +42,8 @@ IsWithin x b =
     ⊎ ((k : ℕ) × (s : Settlement Asked) × (slice_get x.settlements k ≡ Some s) × IsReplied s × (length x.sent ≤ suc k + b))
 
 -- if the count `b` is below seven, `IsWithin` holds of it
-abbrev pub Counts : Course Asked → ℕ → Type 0
-Counts x b = b < 7 → IsWithin x b
-
--- an element that is there lies below the length
-get_low : {A : Type 0} (xs : List A) (k : ℕ) (x : A) → slice_get xs k ≡ Some x → k < length xs
-get_low [] k x e = cc
-get_low (y ∷ xs) zero x e = omega arith
-get_low (y ∷ xs) (suc k) x e = let low = get_low xs k x e in omega (arith, low)
+abbrev pub CountsBehind : Course Asked → ℕ → Type 0
+CountsBehind x b = b < 7 → IsWithin x b
 
 -- a request that a reply meets isn't lost
 met_not_lost : (p : Pending Asked) (line : List ℕ) → (settled_by_line p line).outcome ≡ Lost → ⊥
@@ -123,14 +116,11 @@ within_sent x target call (Some sending) b (inr (k, s, at, replied, near)) =
 
 -- if `one_more_in_window` of a number is below seven, so is the number, and the former is the number and 1
 one_more_is : (b : ℕ) → one_more_in_window b < 7 → (b < 7) × (one_more_in_window b ≡ b + 1)
-one_more_is b low = either (λ n. n < 7 → (b < 7) × (n ≡ b + 1)) (b + 1) b (nat_lt b WINDOW) (λ e l. (ltb-true b WINDOW e, refl))
-    (λ e l. let high : 7 ≤ b = ltb_not b e in absurd (omega (arith, l, high))) low where
-      -- if the test whether b is below seven fails, it isn't
-      ltb_not : (n : ℕ) → nat_lt n WINDOW ≡ false → 7 ≤ n
-      ltb_not n e = grind (arith, e)
+one_more_is b low = cond_both (nat_lt b WINDOW) (b + 1) b (λ n. n < 7 → (b < 7) × (n ≡ b + 1)) (λ e l. (ltb-true b WINDOW e, refl))
+    (λ e l. let high : 7 ≤ b = ltb-false b WINDOW e in absurd (omega (arith, l, high))) low
 
--- a step preserves `Counts`, if the course is one for one after it
-counts_step : (x : Course Asked) (b : ℕ) (step : Step Asked) → IsOneForOne (course_after WINDOW x step) → Counts x b → Counts (course_after WINDOW x step) (behind_step x.client b step)
+-- a step preserves `CountsBehind`, if the course is one for one after it
+counts_step : (x : Course Asked) (b : ℕ) (step : Step Asked) → IsOneForOne (course_after WINDOW x step) → CountsBehind x b → CountsBehind (course_after WINDOW x step) (behind_step x.client b step)
 counts_step x b (Send target call deadline) one h low =
     let is = one_more_is b low in
     subst (λ (n : ℕ). IsWithin (course_after WINDOW x (Send target call deadline)) n) (sym is.1) (within_sent x target call (sends WINDOW x.client target call deadline) b (h is.0))
@@ -162,25 +152,25 @@ reached steps = course WINDOW begun steps
 reached_more : (done : List (Step Asked)) (step : Step Asked) → reached (done ++ step ∷ []) ≡ course_after WINDOW (reached done) step
 reached_more done step = course_append WINDOW done (step ∷ []) begun
 
--- steps preserve `Counts`, after the steps that were done
-pub counts_steps : (done steps : List (Step Asked)) (b : ℕ) → Counts (reached done) b → Counts (reached (done ++ steps)) (behind_by (reached done).client b steps)
-counts_steps done [] b h = subst (λ (l : List (Step Asked)). Counts (reached l) b) (sym (append-nil done)) h
+-- steps preserve `CountsBehind`, after the steps that were done
+pub counts_steps : (done steps : List (Step Asked)) (b : ℕ) → CountsBehind (reached done) b → CountsBehind (reached (done ++ steps)) (behind_by (reached done).client b steps)
+counts_steps done [] b h = subst (λ (l : List (Step Asked)). CountsBehind (reached l) b) (sym (append-nil done)) h
 counts_steps done (step ∷ steps) b h =
     let x = reached done in
     let next = done ++ step ∷ [] in
     let more = reached_more done step in
     let one : IsOneForOne (course_after WINDOW x step) = subst (λ (y : Course Asked). IsOneForOne y) more (one_for_one WINDOW next) in
-    let here : Counts (reached next) (behind_step x.client b step) = subst (λ (y : Course Asked). Counts y (behind_step x.client b step)) (sym more) (counts_step x b step one h) in
+    let here : CountsBehind (reached next) (behind_step x.client b step) = subst (λ (y : Course Asked). CountsBehind y (behind_step x.client b step)) (sym more) (counts_step x b step one h) in
     let there = counts_steps next steps (behind_step x.client b step) here in
     let client : (reached next).client ≡ stepped x.client step = ap (λ (y : Course Asked). y.client) more ∙ client_of_step x step in
-    subst (λ (l : List (Step Asked)). Counts (reached l) (behind_by x.client b (step ∷ steps))) (append_assoc done (step ∷ []) steps)
-    (subst (λ (c : ById Asked). Counts (reached (next ++ steps)) (behind_by c (behind_step x.client b step) steps)) client there) where
+    subst (λ (l : List (Step Asked)). CountsBehind (reached l) (behind_by x.client b (step ∷ steps))) (append_assoc done (step ∷ []) steps)
+    (subst (λ (c : ById Asked). CountsBehind (reached (next ++ steps)) (behind_by c (behind_step x.client b step) steps)) client there) where
       -- the client of a course after a step is its client before it with that step made, whatever was sent and settled before
       client_of_step : (x : Course Asked) (step : Step Asked) → (course_after WINDOW x step).client ≡ stepped x.client step
       client_of_step x step = course_client (step ∷ []) x
 
--- where `Counts` holds with fewer than seven after, one of the last seven requests is a call of the table that a reply ended
-pub near_so : (x : Course Asked) (b : ℕ) → Counts x b → b < 7 → IsNearTheTable x
+-- where `CountsBehind` holds with fewer than seven after, one of the last seven requests is a call of the table that a reply ended
+pub near_so : (x : Course Asked) (b : ℕ) → CountsBehind x b → b < 7 → IsNearTheTable x
 near_so x b h low = by_case (h low) where
   -- the lemma above, whether no more than `b` requests were sent, or such a call was sent before them
   by_case : IsWithin x b → IsNearTheTable x

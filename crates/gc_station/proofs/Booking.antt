@@ -5,8 +5,9 @@
 use Rattle.std.proofs.Common.{◌≡◌, ℕ, zero, suc, ◌+◌, ◌<◌, ◌≤◌, Bool, true, false, List, [], ◌∷◌, ◌++◌, length, map, drop, Option, Some, None, refl, sym, ◌∙◌, ap, subst, arith, append_assoc, append-nil}
 use Rattle.std.specs.Prelude.{slice_get}
 use Rattle.std.specs.List.{AllByRecursion}
-use Rattle.std.proofs.lemmas.List.{length-map, length-append, length-drop, map-append}
+use Rattle.std.proofs.lemmas.List.{length-map, length-append, length-drop, map-append, drop-append-le}
 use Rattle.std.proofs.lemmas.Bool.{ne_eqb}
+use Rattle.std.proofs.lemmas.Option.{same_Some}
 use Rattle.gc_catalogue.specs.declared.answer.Answer.{Answer}
 use Rattle.gc_catalogue.specs.declared.answer.Reading.{Reading}
 use Rattle.gc_catalogue.specs.declared.asked.Asked.{Asked}
@@ -26,10 +27,9 @@ use Rattle.gc_station.specs.declared.mark.Mark.{Mark}
 use Rattle.gc_station.specs.Marks.{value_as, warned_as, refused_as, answer_as, end_of, record_of, records_of}
 use Rattle.gc_station.specs.Records.{Record}
 use Rattle.gc_station.specs.Model.{client_sent}
-use Rattle.gc_station.specs.Parts.{Turn, Part, only_turns, only_steps, nothing, joined, asking, MarkAsks, MarksAsk, went_out, sent_with, sent_of, timeless}
-use Rattle.gc_texts.proofs.Cutting.{some_injective}
+use Rattle.gc_station.specs.Lists.{with_if}
+use Rattle.gc_station.specs.Parts.{Turn, Part, only_turns, only_steps, nothing, joined, request_part, MarkAsks, MarksAsk, went_out, sent_of, timeless}
 use Rattle.gc_station.proofs.Records.{records-none, records-append}
-use Rattle.gc_station.proofs.Lists.{drop_append}
 
 -- Steps.
 
@@ -181,17 +181,17 @@ records_sent reads utc (m ∷ ms) [] = refl
 records_sent reads utc (None ∷ ms) (s ∷ ss) = records_sent reads utc ms ss
 records_sent reads utc (Some mark ∷ ms) (s ∷ ss) =
     let r = record_of reads utc mark s in
-    ap (λ (b : Bool). sent_with b r (sent_of (records_of reads utc ms ss))) (ended_sent reads mark.expected s.call s.outcome) ∙ ap (λ rs. r ∷ rs) (records_sent reads utc ms ss)
+    ap (λ (b : Bool). with_if b r (sent_of (records_of reads utc ms ss))) (ended_sent reads mark.expected s.call s.outcome) ∙ ap (λ rs. r ∷ rs) (records_sent reads utc ms ss)
 
 -- to put the record r before `xs`, if its command was sent (b), and to append `ys`, comes to the same in either order
-sent_more : (b : Bool) (r : Record) (xs ys : List Record) → sent_with b r (xs ++ ys) ≡ sent_with b r xs ++ ys
+sent_more : (b : Bool) (r : Record) (xs ys : List Record) → with_if b r (xs ++ ys) ≡ with_if b r xs ++ ys
 sent_more true r xs ys = refl
 sent_more false r xs ys = refl
 
 -- the records of commands that were sent, of two lists, are those of the first and then those of the second
 pub sent_both : (xs ys : List Record) → sent_of (xs ++ ys) ≡ sent_of xs ++ sent_of ys
 sent_both [] ys = refl
-sent_both (r ∷ xs) ys = ap (sent_with (went_out r.end) r) (sent_both xs ys) ∙ sent_more (went_out r.end) r (sent_of xs) (sent_of ys)
+sent_both (r ∷ xs) ys = ap (with_if (went_out r.end) r) (sent_both xs ys) ∙ sent_more (went_out r.end) r (sent_of xs) (sent_of ys)
 
 -- the records of settlements, after others, are all of commands that were sent
 pub sent_records : (reads : Asked → List ℕ → Reading) (rs : List Record) (utc : ℕ) (ms : List (Option Mark)) (ss : List (Settlement Asked))
@@ -219,7 +219,7 @@ pub of_at : (commands : List Task) (ms : List (Option Mark)) (xs : List (Wanted 
 of_at commands [] [] n mark h e = cc
 of_at commands [] (x ∷ xs) n mark h e = absurd h
 of_at commands (m ∷ ms) [] n mark h e = absurd h
-of_at commands (m ∷ ms) (x ∷ xs) zero mark h e = (x, refl, subst (λ (k : Option Mark). MarkAsks commands k x) (some_injective m mark e) h.0)
+of_at commands (m ∷ ms) (x ∷ xs) zero mark h e = (x, refl, subst (λ (k : Option Mark). MarkAsks commands k x) (same_Some m mark e) h.0)
 of_at commands (m ∷ ms) (x ∷ xs) (suc n) mark h e = of_at commands ms xs n mark h.1 e
 
 -- what holds of each record of a settlement, by its mark and the settlement, holds of all records of these settlements
@@ -249,7 +249,7 @@ wrote_both : (reads : Asked → List ℕ → Reading) (commands : List Task) (ms
 wrote_both reads commands ms ms1 ms2 more1 more2 rs rs1 rs2 ss1 ss2 asks1 asks2 h g =
     let all = ms ++ (more1 ++ more2) in
     let whole : (ms ++ more1) ++ more2 ≡ all = append_assoc ms more1 more2 in
-    let left : ms1 ++ more2 ≡ drop (length ss1) all = ap (λ xs. xs ++ more2) h.marks ∙ sym (drop_append (length ss1) (ms ++ more1) more2 h.count) ∙ ap (drop (length ss1)) whole in
+    let left : ms1 ++ more2 ≡ drop (length ss1) all = ap (λ xs. xs ++ more2) h.marks ∙ sym (drop-append-le (length ss1) (ms ++ more1) more2 h.count) ∙ ap (drop (length ss1)) whole in
     let many : length (ss1 ++ ss2) ≡ length ss1 + length ss2 = length-append ss1 ss2 in
     let first : length ms1 ≡ length (drop (length ss1) (ms ++ more1)) = ap length h.marks in
     let dropped : length (ms ++ more1) ≡ length ss1 + length (drop (length ss1) (ms ++ more1)) = let d = length-drop (length ss1) (ms ++ more1) in omega (arith, d, h.count) in
@@ -388,7 +388,7 @@ sent_some reads commands c ms rs target call mark x is = (
 -- a send if there is room: its mark is added, and the records stay
 pub books_send : (reads : Asked → List ℕ → Reading) (commands : List Task) (c : ById Asked) (ms : List (Option Mark)) (rs : List Record) (target : ℕ) (call : Asked)
     (deadline : ℕ) (mark : Option Mark) → length c.waiting < 7 → MarkAsks commands mark (record { target = target; call = call })
-    → Books reads commands c ms rs (asking target call deadline mark) (client_sent c (sends 7 c target call deadline)) (ms ++ mark ∷ []) rs
+    → Books reads commands c ms rs (request_part target call deadline mark) (client_sent c (sends 7 c target call deadline)) (ms ++ mark ∷ []) rs
 books_send reads commands c ms rs target call deadline mark room is =
     let h : IsSendBooked reads commands c ms rs target call mark (sends 7 c target call deadline) =
     subst (IsSendBooked reads commands c ms rs target call mark) (sym (sends_with_room c target call deadline room))

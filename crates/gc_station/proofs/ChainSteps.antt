@@ -31,10 +31,10 @@ pub record Next (next_is_chained : Bool) (p q : Progress) : Type 0 where
   pub left : q.left ≡ p.left
   pub unsent : q.unsent ≡ p.unsent - 1
   pub missed : q.missed ≡ p.missed
-  pub is_bound : q.next_is_chained ≡ next_is_chained
+  pub chained : q.next_is_chained ≡ next_is_chained
 
 -- q is at the beginning of a cycle of `count` commands: all are unsent, and no chain has begun
-pub record Anew (count : ℕ) (q : Progress) : Type 0 where
+pub record AtCycleStart (count : ℕ) (q : Progress) : Type 0 where
   pub unsent : q.unsent ≡ count
   pub chain_unbroken : q.chain_unbroken ≡ false
 
@@ -44,13 +44,13 @@ pub record Past (commands : List Task) (p q : Progress) : Type 0 where
   pub left : q.left ≡ p.left
   pub unsent : q.unsent ≡ p.unsent - p.next_others
   pub missed : q.missed ≡ p.missed
-  pub is_bound : q.next_is_chained ≡ is_chained_after p.next_others commands p
+  pub chained : q.next_is_chained ≡ is_chained_after p.next_others commands p
   pub chain_unbroken : q.chain_unbroken ≡ false
 
 -- what an act of an action does to the fields on chains, from p to q: it leaves them, breaks the chain, goes on to the next
 -- command, leaves out attempts, or begins a cycle. If an action has two cases, the first is that the clock couldn't be read
 abbrev pub Steps : Plan → List Task → Action → Progress → Progress → Type 0
-Steps plan commands Begin p q = Still p q ⊎ Anew (cycle_length plan commands) q
+Steps plan commands Begin p q = Still p q ⊎ AtCycleStart (cycle_length plan commands) q
 Steps plan commands Renew p q = Still p q ⊎ (Still p q × (q.chain_unbroken ≡ false))
 Steps plan commands Send p q = Next (is_chained_after_next commands p) p q
 Steps plan commands Skip p q = Still p q ⊎ (Next (is_chained_after_next commands p) p q × (q.chain_unbroken ≡ false))
@@ -60,11 +60,13 @@ Steps plan commands (Close why) p q = Still p q × (q.chain_unbroken ≡ false)
 Steps plan commands _ p q = Still p q
 
 -- if these fields are the same, `Still` holds
-still : (p q : Progress) → q.left ≡ p.left → q.unsent ≡ p.unsent → q.missed ≡ p.missed → q.next_is_chained ≡ p.next_is_chained → q.chain_unbroken ≡ p.chain_unbroken → Still p q
+pub still : (p q : Progress) → (left : q.left ≡ p.left) → (unsent : q.unsent ≡ p.unsent) → (missed : q.missed ≡ p.missed) → (next_is_chained : q.next_is_chained ≡ p.next_is_chained)
+    → (chain_unbroken : q.chain_unbroken ≡ p.chain_unbroken) → Still p q
 still p q left unsent missed next_is_chained chain_unbroken = record { left = left; unsent = unsent; missed = missed; next_is_chained = next_is_chained; chain_unbroken = λ e. sym chain_unbroken ∙ e }
 
 -- if these fields are the same, but for a chain that is broken in q, `Still` holds, and q's chain is broken
-pub broken : (p q : Progress) → q.left ≡ p.left → q.unsent ≡ p.unsent → q.missed ≡ p.missed → q.next_is_chained ≡ p.next_is_chained → q.chain_unbroken ≡ false → Still p q × (q.chain_unbroken ≡ false)
+pub broken : (p q : Progress) → (left : q.left ≡ p.left) → (unsent : q.unsent ≡ p.unsent) → (missed : q.missed ≡ p.missed) → (next_is_chained : q.next_is_chained ≡ p.next_is_chained)
+    → (chain_unbroken : q.chain_unbroken ≡ false) → Still p q × (q.chain_unbroken ≡ false)
 broken p q left unsent missed next_is_chained chain_unbroken = (
   record {
     left = left;
@@ -93,12 +95,12 @@ moved_steps plan commands Prepare s act =
     subst (λ (x : Model). Still s.progress x.progress × (x.progress.chain_unbroken ≡ false)) (is_prepared plan commands s) (broken s.progress _ refl refl refl refl refl)
 moved_steps plan commands Send s (Cut bytes n) =
     subst (λ (x : Model). Next (is_chained_after_next commands s.progress) s.progress (failing (cause.Write (commands_before plan commands s.progress) n) x.progress)) (is_sent plan commands s)
-    (record { left = refl; unsent = refl; missed = refl; is_bound = refl })
+    (record { left = refl; unsent = refl; missed = refl; chained = refl })
 moved_steps plan commands Send s act =
-    subst (λ (x : Model). Next (is_chained_after_next commands s.progress) s.progress x.progress) (is_sent plan commands s) (record { left = refl; unsent = refl; missed = refl; is_bound = refl })
-moved_steps plan commands Skip s (Told m) = inr (record { left = refl; unsent = refl; missed = refl; is_bound = refl }, refl)
+    subst (λ (x : Model). Next (is_chained_after_next commands s.progress) s.progress x.progress) (is_sent plan commands s) (record { left = refl; unsent = refl; missed = refl; chained = refl })
+moved_steps plan commands Skip s (Told m) = inr (record { left = refl; unsent = refl; missed = refl; chained = refl }, refl)
 moved_steps plan commands Skip s act = inl (still s.progress _ refl refl refl refl refl)
-moved_steps plan commands Pass s (Told m) = inr (record { left = refl; unsent = refl; missed = refl; is_bound = refl; chain_unbroken = refl })
+moved_steps plan commands Pass s (Told m) = inr (record { left = refl; unsent = refl; missed = refl; chained = refl; chain_unbroken = refl })
 moved_steps plan commands Pass s act = inl (still s.progress _ refl refl refl refl refl)
 moved_steps plan commands (Close why) s act =
     closed_along (λ (q : Progress). Still s.progress q × (q.chain_unbroken ≡ false)) plan (waiting_of (with_rest [] s)) why s.progress

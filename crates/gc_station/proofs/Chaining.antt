@@ -5,6 +5,7 @@
 use Rattle.std.proofs.Common.{◌≡◌, ◌⊎◌, inl, inr, ℕ, ◌+◌, ◌-◌, ◌<◌, ◌≤◌, ◌||◌, Bool, true, false, List, [], ◌∷◌, ◌++◌, length, drop, map, Option, refl, sym, ap, ◌∙◌, subst, arith, append_assoc, append-nil}
 use Rattle.std.specs.List.{AllByRecursion}
 use Rattle.std.proofs.lemmas.List.{drop_all, length-drop, map-append, same_from_push}
+use Rattle.std.proofs.lemmas.Bool.{both_ways, or_right}
 use Rattle.gc_catalogue.specs.declared.answer.Answer.{Answer}
 use Rattle.gc_texts.specs.declared.tasks.Task.{Task}
 use Rattle.gc_texts.specs.Endings.{End, Answered}
@@ -19,7 +20,7 @@ use Rattle.gc_links.specs.Acts.{Act, Told}
 use Rattle.gc_station.specs.Answers.{AnswerIsJustified, answer_of}
 use Rattle.gc_station.specs.Chains.{IsChained, IsLinked}
 use Rattle.gc_station.specs.Deciding.{has_begun}
-use Rattle.gc_station.specs.EachOnce.{Parted, Request, of_record, of_task, requests, commands_reached, still_waiting, of_text, in_text}
+use Rattle.gc_station.specs.EachOnce.{Interleave, Request, of_record, of_task, requests, commands_reached, still_waiting, of_text, in_text}
 use Rattle.gc_station.specs.Marks.{commands_in, is_well, last_well}
 use Rattle.gc_station.specs.Qualities.{IsAsListed}
 use Rattle.gc_station.specs.Quiet.{KeepsOpen}
@@ -32,18 +33,17 @@ use Rattle.gc_station.specs.Model.{Model, Performs, Runs, opening, action_at, wa
 use Rattle.gc_station.proofs.Answers.{answers_true}
 use Rattle.gc_station.proofs.Counts.{ended_progress, ended_passes}
 use Rattle.gc_station.proofs.Each.{each_settled, sent_next}
-use Rattle.gc_station.proofs.Parted.{IsInFront, drop_past, parted_all, parted_last, sent_before}
+use Rattle.gc_station.proofs.Interleaving.{IsInFront, drop_past, interleave_all, interleave_last, sent_before}
 use Rattle.gc_station.proofs.EachRun.{invariant_holds}
 use Rattle.gc_station.proofs.Row.{last_of_cycle, listed_last}
-use Rattle.gc_station.proofs.Facts.{or_true, action_for}
+use Rattle.gc_station.proofs.Facts.{action_for}
 use Rattle.gc_station.proofs.Invariant.{Invariant}
 use Rattle.gc_station.proofs.Going.{after_all-append}
 use Rattle.gc_station.proofs.Lists.{all_append}
 use Rattle.gc_station.proofs.Nearly.{as_listed}
 use Rattle.gc_station.proofs.Walk.{moved_changed}
 use Rattle.gc_station.proofs.Words.{begun_kept}
-use Rattle.gc_station.proofs.ChainSteps.{Still, Next, Anew, Past, Steps, broken, moved_steps, stays_open}
-use Rattle.gc_station.proofs.Ticking.{not_both}
+use Rattle.gc_station.proofs.ChainSteps.{Still, Next, AtCycleStart, Past, Steps, broken, moved_steps, stays_open}
 
 -- What every run keeps of the chain where it is.
 
@@ -112,13 +112,13 @@ moved_keeps plan commands action s act = inl (ap (λ (x : Model). x.passes) (mov
 -- if a chain goes on in the model t, the commands left out there are those that were left out in s
 still_passes : (s t : Model) (before : List Request) → LeavesNothingOut s t → t.progress.chain_unbroken ≡ true → s.passes ≡ before → t.passes ≡ before
 still_passes s t before (inl same) e is = same ∙ is
-still_passes s t before (inr none) e is = absurd (not_both t.progress.chain_unbroken e none)
+still_passes s t before (inr none) e is = absurd (both_ways t.progress.chain_unbroken none e)
 
 -- `Chain` is preserved by an act that leaves these fields and doesn't close the connection
 chain_still : (plan : Plan) (commands : List Task) (scope : Scope) (acts : List Act) (act : Act) (p q : Progress)
-    → (state_after plan commands scope (acts ++ act ∷ [])).progress ≡ q → Still p q → (has_begun p ≡ true → q.chain_unbroken ≡ true → has_begun q ≡ true)
-    → LeavesNothingOut (state_after plan commands scope acts) (state_after plan commands scope (acts ++ act ∷ [])) → KeepsOpen act
-    → (action_at plan (state_after plan commands scope acts) ≡ Prepare → ⊥)
+    → (there : (state_after plan commands scope (acts ++ act ∷ [])).progress ≡ q) → (stays : Still p q) → (begins : has_begun p ≡ true → q.chain_unbroken ≡ true → has_begun q ≡ true)
+    → (leaves : LeavesNothingOut (state_after plan commands scope acts) (state_after plan commands scope (acts ++ act ∷ []))) → (keeps_open : KeepsOpen act)
+    → (not_setup : action_at plan (state_after plan commands scope acts) ≡ Prepare → ⊥)
     → Chain plan commands scope acts p → Chain plan commands scope (acts ++ act ∷ []) q
 chain_still plan commands scope acts act p q there k begins keeps stays other h =
     let place_is : place_next commands q ≡ place_next commands p = ap (λ (n : ℕ). length commands - n) k.unsent in
@@ -163,14 +163,14 @@ chain_closed plan commands scope acts all p q k broken h =
       next_is_chained = λ above.
           k.next_is_chained ∙ h.next_is_chained (subst (λ (n : ℕ). plan.setup < n) place_is above) ∙ ap (λ (b : Bool). b || is_chained (drop (place_next commands p) commands)) (sym k.missed)
           ∙ ap (λ (n : ℕ). q.missed || is_chained (drop n commands)) (sym place_is);
-      chain_unbroken = λ e. absurd (not_both q.chain_unbroken e broken);
+      chain_unbroken = λ e. absurd (both_ways q.chain_unbroken broken e);
     }
 
 -- `Chain` holds at the beginning of a cycle
-chain_anew : (plan : Plan) (commands : List Task) (scope : Scope) (acts : List Act) (q : Progress) → Anew (cycle_length plan commands) q → Chain plan commands scope acts q
-chain_anew plan commands scope acts q a =
+chain_at_start : (plan : Plan) (commands : List Task) (scope : Scope) (acts : List Act) (q : Progress) → AtCycleStart (cycle_length plan commands) q → Chain plan commands scope acts q
+chain_at_start plan commands scope acts q a =
     let none : place_next commands q ≤ plan.setup = omega (arith, a.unsent) in
-    record { next_is_chained = λ above. absurd (omega (arith, none, above)); chain_unbroken = λ e. absurd (not_both q.chain_unbroken e a.chain_unbroken) }
+    record { next_is_chained = λ above. absurd (omega (arith, none, above)); chain_unbroken = λ e. absurd (both_ways q.chain_unbroken a.chain_unbroken e) }
 
 -- if one command less is left, the next one is one place further on
 next_place : (commands : List Task) (p q : Progress) → q.unsent ≡ p.unsent - 1 → 0 < p.unsent → p.unsent ≤ length commands → place_next commands q ≡ place_next commands p + 1
@@ -178,39 +178,39 @@ next_place commands p q less some within = omega (arith, less, some, within)
 
 -- after a command that was sent or left out, `next_is_chained` is what the text says of the next command, or true in a missed
 -- cycle
-next_bound : (commands : List Task) (p q : Progress) → Next (is_chained_after_next commands p) p q → place_next commands q ≡ place_next commands p + 1
+next_chained : (commands : List Task) (p q : Progress) → Next (is_chained_after_next commands p) p q → place_next commands q ≡ place_next commands p + 1
     → q.next_is_chained ≡ (q.missed || is_chained (drop (place_next commands q) commands))
-next_bound commands p q n at =
-    n.is_bound ∙ ap (λ (b : Bool). b || is_chained (drop (place_next commands p + 1) commands)) (sym n.missed) ∙ ap (λ (k : ℕ). q.missed || is_chained (drop k commands)) (sym at)
+next_chained commands p q n at =
+    n.chained ∙ ap (λ (b : Bool). b || is_chained (drop (place_next commands p + 1) commands)) (sym n.missed) ∙ ap (λ (k : ℕ). q.missed || is_chained (drop k commands)) (sym at)
 
 -- `Chain` holds after a command that isn't sent
 chain_skipped : (plan : Plan) (commands : List Task) (scope : Scope) (acts : List Act) (p q : Progress) → Next (is_chained_after_next commands p) p q
     → q.chain_unbroken ≡ false → 0 < p.unsent → p.unsent ≤ length commands → Chain plan commands scope acts q
 chain_skipped plan commands scope acts p q n broken some within =
     let at = next_place commands p q n.unsent some within in
-    record { next_is_chained = λ above. next_bound commands p q n at; chain_unbroken = λ e. absurd (not_both q.chain_unbroken e broken) }
+    record { next_is_chained = λ above. next_chained commands p q n at; chain_unbroken = λ e. absurd (both_ways q.chain_unbroken broken e) }
 
 -- `Chain` holds after the further attempts of a chain are left out
 chain_past : (plan : Plan) (commands : List Task) (scope : Scope) (acts : List Act) (p q : Progress) → Past commands p q → p.unsent ≤ length commands → Chain plan commands scope acts q
 chain_past plan commands scope acts p q k within =
     record {
       next_is_chained = λ above.
-          k.is_bound ∙ ap (λ (b : Bool). b || is_chained (drop (place_next commands p + p.next_others) commands)) (sym k.missed)
+          k.chained ∙ ap (λ (b : Bool). b || is_chained (drop (place_next commands p + p.next_others) commands)) (sym k.missed)
           ∙ ap (λ (xs : List Task). q.missed || is_chained xs) (drop_past commands p.unsent p.next_others within)
           ∙ ap (λ (n : ℕ). q.missed || is_chained (drop (length commands - n) commands)) (sym k.unsent);
-      chain_unbroken = λ e. absurd (not_both q.chain_unbroken e k.chain_unbroken);
+      chain_unbroken = λ e. absurd (both_ways q.chain_unbroken k.chain_unbroken e);
     }
 
 -- `Chain` holds after a command that is sent
 chain_sent : (plan : Plan) (commands : List Task) (scope : Scope) (acts : List Act) (act : Act) (p q : Progress)
-    → p ≡ turned (state_after plan commands scope acts).progress → (state_after plan commands scope (acts ++ act ∷ [])).progress ≡ q
-    → action_at plan (state_after plan commands scope acts) ≡ Send → (q.chain_unbroken ≡ true → has_begun q ≡ true)
-    → Next (is_chained_after_next commands p) p q → 0 < p.unsent → p.unsent ≤ length commands
+    → (here : p ≡ turned (state_after plan commands scope acts).progress) → (there : (state_after plan commands scope (acts ++ act ∷ [])).progress ≡ q)
+    → (sends : action_at plan (state_after plan commands scope acts) ≡ Send) → (begins : q.chain_unbroken ≡ true → has_begun q ≡ true)
+    → (goes_on : Next (is_chained_after_next commands p) p q) → (some : 0 < p.unsent) → (within : p.unsent ≤ length commands)
     → LeavesNothingOut (state_after plan commands scope acts) (state_after plan commands scope (acts ++ act ∷ [])) → Chain plan commands scope (acts ++ act ∷ []) q
 chain_sent plan commands scope acts act p q here there is begins n some within keeps =
     let at = next_place commands p q n.unsent some within in
     record {
-      next_is_chained = λ above. next_bound commands p q n at;
+      next_is_chained = λ above. next_chained commands p q n at;
       chain_unbroken = λ e. record {
         before = acts;
         request = act;
@@ -231,16 +231,17 @@ chain_sent plan commands scope acts act p q here there is begins n some within k
 -- `Chain` is preserved by an act of any action
 chain_moved : (plan : Plan) (commands : List Task) (scope : Scope) (acts : List Act) (act : Act) (action : Action) (w : Waiting) (q : Progress)
     → Invariant plan commands (state_after plan commands scope acts)
-    → action_at plan (state_after plan commands scope acts) ≡ action → HoldsBefore plan (state_after plan commands scope acts).progress w action
-    → Performs commands (state_after plan commands scope acts) action act
-    → (state_after plan commands scope (acts ++ act ∷ [])).progress ≡ q → (has_begun (state_after plan commands scope acts).progress ≡ true → q.chain_unbroken ≡ true → has_begun q ≡ true)
-    → Steps plan commands action (turned (state_after plan commands scope acts).progress) q
-    → LeavesNothingOut (state_after plan commands scope acts) (state_after plan commands scope (acts ++ act ∷ []))
+    → (is_next : action_at plan (state_after plan commands scope acts) ≡ action) → (needs : HoldsBefore plan (state_after plan commands scope acts).progress w action)
+    → (performs : Performs commands (state_after plan commands scope acts) action act)
+    → (there : (state_after plan commands scope (acts ++ act ∷ [])).progress ≡ q)
+    → (begins : has_begun (state_after plan commands scope acts).progress ≡ true → q.chain_unbroken ≡ true → has_begun q ≡ true)
+    → (steps : Steps plan commands action (turned (state_after plan commands scope acts).progress) q)
+    → (leaves : LeavesNothingOut (state_after plan commands scope acts) (state_after plan commands scope (acts ++ act ∷ [])))
     → Chain plan commands scope acts (turned (state_after plan commands scope acts).progress) → Chain plan commands scope (acts ++ act ∷ []) q
 chain_moved plan commands scope acts act Begin w q fine is needs o at begins (inl k) keeps h =
     chain_still plan commands scope acts act _ q at k begins keeps (stays_open plan commands Begin (state_after plan commands scope acts) act o (λ why e. cc))
     (λ e. let both : Begin ≡ Prepare = sym is ∙ e in cc) h
-chain_moved plan commands scope acts act Begin w q fine is needs o at begins (inr a) keeps h = chain_anew plan commands scope (acts ++ act ∷ []) q a
+chain_moved plan commands scope acts act Begin w q fine is needs o at begins (inr a) keeps h = chain_at_start plan commands scope (acts ++ act ∷ []) q a
 chain_moved plan commands scope acts act Renew w q fine is needs o at begins (inl k) keeps h =
     chain_still plan commands scope acts act _ q at k begins keeps (stays_open plan commands Renew (state_after plan commands scope acts) act o (λ why e. cc))
     (λ e. let both : Renew ≡ Prepare = sym is ∙ e in cc) h
@@ -264,7 +265,7 @@ chain_moved plan commands scope acts act next w q fine is needs o at begins k ke
     chain_still plan commands scope acts act _ q at k begins keeps (stays_open plan commands next (state_after plan commands scope acts) act o (λ why e. cc))
     (λ e. let both : next ≡ Prepare = sym is ∙ e in cc) h
 
--- what is lost after an act leaves `LeavesNothingOut`
+-- `LeavesNothingOut` is preserved by the loss of what is outstanding, at the end of an act
 kept_ended : (s t : Model) → LeavesNothingOut s t → LeavesNothingOut s (ended t)
 kept_ended s t (inl same) = inl (ended_passes t ∙ same)
 kept_ended s t (inr none) = inr (ap (λ (p : Progress). p.chain_unbroken) (ended_progress t) ∙ none)
@@ -397,7 +398,7 @@ chain_whole plan commands scope acts runs is chained = of_may needs.4 where
 
   -- the next command waits for the answer of the one before it
   next_is_chained : s.progress.next_is_chained ≡ true
-  next_is_chained = h.next_is_chained chained.0 ∙ ap (λ (b : Bool). s.progress.missed || b) chained.1 ∙ or_true s.progress.missed
+  next_is_chained = h.next_is_chained chained.0 ∙ ap (λ (b : Bool). s.progress.missed || b) chained.1 ∙ or_right s.progress.missed true refl
 
   -- the command before the next one, if no command is outstanding: `Whole` says that it was sent, and `EndsAnsweredWell` that the last
   -- record was answered well; that record is its own, so `IsLinked` holds of it
@@ -420,16 +421,16 @@ chain_whole plan commands scope acts runs is chained = of_may needs.4 where
       let there : commands_reached plan.setup commands (cycles_begun plan s.progress) (place_next commands s.progress) ≡ commands_reached plan.setup commands cycle (place + 1) =
       ap (λ (n : ℕ). commands_reached plan.setup commands n (place_next commands s.progress)) w.cycle ∙ ap (λ (n : ℕ). commands_reached plan.setup commands cycle n) w.place in
       let one : Request = record { cycle = cycle; place = place; asked = of_task sent.0 } in
-      let all : Parted (of_text commands (map of_record s.records)) b_passes (commands_reached plan.setup commands cycle place ++ one ∷ []) =
-      subst (λ (xs : List Request). Parted (of_text commands (map of_record s.records)) b_passes xs) (there ∙ sym sent.1)
-      (subst (λ (ys : List Request). Parted (of_text commands (map of_record s.records)) ys
+      let all : Interleave (of_text commands (map of_record s.records)) b_passes (commands_reached plan.setup commands cycle place ++ one ∷ []) =
+      subst (λ (xs : List Request). Interleave (of_text commands (map of_record s.records)) b_passes xs) (there ∙ sym sent.1)
+      (subst (λ (ys : List Request). Interleave (of_text commands (map of_record s.records)) ys
       (commands_reached plan.setup commands (cycles_begun plan s.progress) (place_next commands s.progress))) w.passes
-      (subst (λ (xs : List Request). Parted xs s.passes (commands_reached plan.setup commands (cycles_begun plan s.progress) (place_next commands s.progress)))
+      (subst (λ (xs : List Request). Interleave xs s.passes (commands_reached plan.setup commands (cycles_begun plan s.progress) (place_next commands s.progress)))
       (sym (each_settled commands s.marks s.client.waiting s.records (of_text commands (map of_record s.records ++ still_waiting s.marks s.client.waiting)) settled refl)) fine.each)) in
-      let front = parted_all (IsInFront cycle place) (of_text commands (map of_record b.records ++ still_waiting b.marks b.client.waiting)) b_passes
+      let front = interleave_all (IsInFront cycle place) (of_text commands (map of_record b.records ++ still_waiting b.marks b.client.waiting)) b_passes
       (commands_reached plan.setup commands cycle place) before.each
       (sent_before plan.setup commands cycle place within) in
-      let kept = parted_last one (of_text commands (map of_record s.records)) b_passes (commands_reached plan.setup commands cycle place) all
+      let kept = interleave_last one (of_text commands (map of_record s.records)) b_passes (commands_reached plan.setup commands cycle place) all
       (λ xs e. not_in_front cycle place one refl refl (all_last (IsInFront cycle place) xs one (subst (AllByRecursion (IsInFront cycle place)) e front))) in
       let split = map-append of_record l.earlier (l.answer ∷ []) in
       let listed_all : map of_record s.records ≡ map of_record l.earlier ++ of_record l.answer ∷ [] = ap (map of_record) l.last ∙ split in
@@ -469,7 +470,7 @@ chain_whole plan commands scope acts runs is chained = of_may needs.4 where
   -- answered well
   of_may : MayGo s.progress (waiting_of s) → (l : IsLinked plan commands scope acts) × StaysBegun plan commands (state_after plan commands scope l.before) (l.request ∷ l.between)
       × PreparesNothing plan commands (state_after plan commands scope l.before) (l.request ∷ l.between)
-  of_may (inl free) = absurd (not_both s.progress.next_is_chained next_is_chained free)
+  of_may (inl free) = absurd (both_ways s.progress.next_is_chained free next_is_chained)
   of_may (inr it) = of_last it.0 it.2 (ends_well s.records it.1) (h.chain_unbroken it.2)
 
 -- a chained command is sent only after the answer of the one before it

@@ -4,6 +4,7 @@
 use Rattle.std.proofs.Common.{◌≡◌, ℕ, ◌⊎◌, inl, inr, ◌&&◌, ◌||◌, Bool, true, false, not, List, [], ◌∷◌, ◌++◌, length, drop, Option, Some, None, if◌then◌else◌, nat_lt, refl, sym, ap, ◌∙◌, subst, arith}
 use Rattle.std.proofs.lemmas.Bool.Decides.{nat_tests}
 use Rattle.std.proofs.lemmas.List.{nil_from_length}
+use Rattle.std.proofs.lemmas.Bool.{both_ways}
 use Rattle.gc_catalogue.specs.declared.asked.Asked.TheVariants.{Table}
 use Rattle.gc_catalogue.specs.declared.call.Call.TheVariants.{NullProc}
 use Rattle.gc_catalogue.specs.declared.asked.Asked.{Asked}
@@ -129,10 +130,10 @@ cleared_none : (begun : Bool) (c : Cause) → end_of (if begun then Draining els
 cleared_none true c e = cc
 cleared_none false c e = cc
 
--- after a line feed that was sent it can't be that there is no connection
-cleared_up : (begun : Bool) → is_up (if begun then Draining else Ready) ≡ false → ⊥
-cleared_up true e = cc
-cleared_up false e = cc
+-- after a line feed that was sent there is a connection
+pub cleared_up : (begun : Bool) → is_up (if begun then Draining else Ready) ≡ true
+cleared_up true = refl
+cleared_up false = refl
 
 -- if the end is decided after an act, the act decided it, or the phase is as before
 moved_decides : (plan : Plan) (commands : List Task) (next : Action) (s : Model) (act : Act) (c : Cause) → Performs commands s next act
@@ -150,7 +151,7 @@ moved_decides plan commands action.Clear s act c o done e =
     walk plan commands (DecidesSo plan s action.Clear c) action.Clear (with_progress turned s) act o (
       λ m g. absurd (cleared_none (has_begun s.progress) c g),
       λ n g. fail_decides s.progress.phase at (is_up at) (cause.Write (commands_before plan commands (turned s.progress)) n) c (Cut (10 ∷ []) n) refl (10 ∷ [], refl)
-          (λ d. absurd (cleared_up (has_begun s.progress) d)) g,
+          (λ d. absurd (both_ways (is_up (if has_begun s.progress then Draining else Ready)) d (cleared_up (has_begun s.progress)))) g,
     ) e
 moved_decides plan commands action.Ask s act c o done e =
     let text = null_text s.progress.word in

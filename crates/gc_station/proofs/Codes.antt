@@ -5,6 +5,7 @@
 use Rattle.std.proofs.Common.{◌≡◌, ◌==◌, ◌&&◌, ◌||◌, ◌⊎◌, inl, inr, ℕ, zero, suc, replicate, Bool, true, false, not, List, refl, sym, ap, ◌∙◌}
 use Rattle.std.specs.List.{list_any}
 use Rattle.std.proofs.lemmas.Bool.Decides.{eqb_tells}
+use Rattle.std.proofs.lemmas.Bool.{both_ways}
 use Rattle.gc_lines.specs.Replies.{ReplyFields, IsReply}
 use Rattle.gc_catalogue.specs.declared.answer.Answer.{Answer}
 use Rattle.gc_catalogue.specs.declared.answer.Reading.{Reading}
@@ -26,7 +27,6 @@ use Rattle.gc_station.specs.Codes.{WellIsAnAcceptedCode}
 use Rattle.gc_station.specs.Qualities.{GoodIsAnAnswer}
 use Rattle.gc_station.specs.Marks.{value_as, warned_as, refused_as, answer_as, end_of, is_well}
 use Rattle.gc_station.specs.Scopes.{AreReadings}
-use Rattle.gc_station.proofs.Ticking.{not_both}
 
 -- a reply with a communication code other than 0 says that fault, whatever was asked
 pub com_fault_is : (asked : Asked) (r : ReplyFields) → (r.rc_com ≡ 0 → ⊥) → IsAskedReading asked r (reading.ComFault r.rc_com)
@@ -84,14 +84,15 @@ module _ (reads : Asked → List ℕ → Reading) (expected : Expected) (call : 
   com_zero : is_well (end_of reads expected call (Answered line)) ≡ true → r.rc_com ≡ 0
   com_zero well = elim (eqb_tells r.rc_com 0) as (λ _. r.rc_com ≡ 0) [
     | inl same ↦ same.1
-    | inr other ↦ absurd (not_both _ well (ap is_well (ended (reading.ComFault r.rc_com) (says (reading.ComFault r.rc_com) (com_fault_is call r other.1)))))
+    | inr other ↦ absurd
+        (both_ways (is_well (end_of reads expected call (Answered line))) (ap is_well (ended (reading.ComFault r.rc_com) (says (reading.ComFault r.rc_com) (com_fault_is call r other.1)))) well)
   ]
 
   -- a command that is refused, and is answered well nevertheless, was refused with an accepted code
   accepted_one : (b : Bool) → lists_code expected.accepted r.rc ≡ b → reads call line ≡ reading.Refused r.rc → is_well (end_of reads expected call (Answered line)) ≡ true
       → lists_code expected.accepted r.rc ≡ true
   accepted_one true e said well = e
-  accepted_one false e said well = absurd (not_both _ well (refused_unwell r.rc said e))
+  accepted_one false e said well = absurd (both_ways (is_well (end_of reads expected call (Answered line))) (refused_unwell r.rc said e) well)
 
   -- a command is answered well only if the return code of its reply is 0 or an accepted one
   rc_zero : r.rc_com ≡ 0 → is_well (end_of reads expected call (Answered line)) ≡ true → (r.rc ≡ 0) ⊎ (lists_code expected.accepted r.rc ≡ true)

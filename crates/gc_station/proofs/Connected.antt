@@ -18,8 +18,11 @@ use Rattle.gc_station.specs.declared.progress.Until.{Until}
 use Rattle.gc_links.specs.Acts.{Act, Told, Put, Gave, Silent, Opened}
 use Rattle.gc_station.specs.Deciding.{is_up, is_past, is_quiet}
 use Rattle.gc_station.specs.Marks.{commands_in}
-use Rattle.gc_station.specs.Progressing.{turned, moment_noted, cycle_begun, skipped, attempts_left_out, opened, cleared, request_noted, null_sent, renewed, sent, reckoned_early, time_passed, quieted, is_idle, drained, setup_sent}
-use Rattle.gc_station.specs.Model.{Model, commands_before, request_text, null_text, first_text, place_next, is_chained_after_next, others_after_next, is_chained_after, others_after, waiting_of, piece_at, with_progress, Performs, moved, cycle_length, text_or_null}
+use Rattle.gc_station.specs.Progressing.{turned, moment_noted, cycle_begun, skipped, attempts_left_out, opened, cleared, request_noted, null_sent, renewed, sent, early_noted, time_passed, quieted, is_idle, drained, setup_sent}
+use Rattle.gc_station.specs.Model.{Model, commands_before, request_text, null_text, first_text, place_next, is_chained_after_next, others_after_next, is_chained_after, others_after, waiting_of, piece_at, with_progress, Performs, moved, cycle_length, text_or_null, opening, action_at, Runs}
+use Rattle.gc_station.specs.Runs.{state_after}
+use Rattle.gc_station.specs.Scopes.{Scope}
+use Rattle.gc_station.proofs.Always.{always_of_progress}
 use Rattle.gc_station.proofs.Turns.{again_down, closed_down}
 use Rattle.gc_station.proofs.Walk.{walk}
 
@@ -60,8 +63,8 @@ Silenced plan F until m p acts =
 -- the fact F holds after these acts and one more, of this action: of what the act makes of the model's progress, for each
 -- outcome that leaves a connection in use
 abbrev pub OnLine : Plan → List Task → (Progress → List Act → Type 0) → Action → Model → List Act → Type 0
-OnLine plan commands F actions.ReadClock s acts = (m : Moment) → F (reckoned_early plan (commands_in s.marks) (moment_noted m s.progress)) (acts ++ Told m ∷ [])
-OnLine plan commands F actions.Renew s acts = (m : Moment) → F (reckoned_early plan 0 (renewed plan m s.progress)) (acts ++ Told m ∷ [])
+OnLine plan commands F actions.ReadClock s acts = (m : Moment) → F (early_noted plan (commands_in s.marks) (moment_noted m s.progress)) (acts ++ Told m ∷ [])
+OnLine plan commands F actions.Renew s acts = (m : Moment) → F (early_noted plan 0 (renewed plan m s.progress)) (acts ++ Told m ∷ [])
 OnLine plan commands F actions.Begin s acts = (m : Moment) → F (cycle_begun plan (cycle_length plan commands) m s.progress) (acts ++ Told m ∷ [])
 OnLine plan commands F actions.Open s acts = (m : Moment) → F (opened s.progress) (acts ++ Opened ∷ [])
 OnLine plan commands F actions.Clear s acts = (m : Moment) → F (cleared s.progress) (acts ++ Put (10 ∷ []) ∷ [])
@@ -70,10 +73,10 @@ OnLine plan commands F actions.Prepare s acts = (m : Moment) → F (setup_sent p
 OnLine plan commands F actions.Send s acts = (m : Moment) → F (sent (is_chained_after_next commands s.progress) (others_after_next commands s.progress) s.progress)
     (acts ++ Put (first_text s.progress.moment.utc s.client (drop (place_next commands s.progress) commands)) ∷ [])
 OnLine plan commands F actions.Skip s acts = (m : Moment)
-    → F (reckoned_early plan (commands_in s.marks) (skipped (is_chained_after_next commands s.progress) (others_after_next commands s.progress) m s.progress))
+    → F (early_noted plan (commands_in s.marks) (skipped (is_chained_after_next commands s.progress) (others_after_next commands s.progress) m s.progress))
     (acts ++ Told m ∷ [])
 OnLine plan commands F actions.Pass s acts =
-    (m : Moment) → F (reckoned_early plan (commands_in s.marks)
+    (m : Moment) → F (early_noted plan (commands_in s.marks)
     (attempts_left_out (is_chained_after s.progress.next_others commands s.progress) (others_after s.progress.next_others commands s.progress) m s.progress)) (acts ++ Told m ∷ [])
 OnLine plan commands F actions.Flush s acts = (m : Moment) → F (request_noted s.progress) (acts ++ Put (request_text s.client (Table NullProc)) ∷ [])
 OnLine plan commands F (actions.Read until) s acts =
@@ -126,3 +129,12 @@ module _ (plan : Plan) (commands : List Task) (F : Progress → List Act → Typ
   on_line actions.Flush s act acts o h = walk plan commands (FactBehind acts) actions.Flush (with_progress turned s) act o
       (h, λ n. unused _ _ (failed_unused (is_up s.progress.phase) (cause.Write (commands_before plan commands (turned s.progress)) n)))
   on_line next s act acts o h = walk plan commands (FactBehind acts) next (with_progress turned s) act o (h, λ n. unused _ _ (failed_unused (is_up s.progress.phase) cause.Clock))
+
+  -- the fact holds after every run, if it holds at the start, and `OnLine` holds of the action that is next after each run
+  pub on_line_always : (scope : Scope)
+      → ((done : List Act) → Runs plan commands (opening plan scope) done → F (state_after plan commands scope done).progress done
+      → OnLine plan commands F (action_at plan (state_after plan commands scope done)) (with_progress turned (state_after plan commands scope done)) done)
+      → F (opening plan scope).progress [] → (acts : List Act) → Runs plan commands (opening plan scope) acts → F (state_after plan commands scope acts).progress acts
+  on_line_always scope row start acts runs =
+      always_of_progress plan commands (opening plan scope) F
+      (λ done act runs o held. on_line (action_at plan (state_after plan commands scope done)) (state_after plan commands scope done) act done o (row done runs held)) start acts runs

@@ -13,13 +13,13 @@ use Rattle.gc_station.specs.Model.{Model, cycle_length, commands_before, moved, 
 use Rattle.gc_station.specs.Progressing.{failing, skipped, loses_all}
 
 -- from p to q the turns, the cycles that are left and the commands that are unsent stay the same
-pub record Kept (p q : Progress) : Type 0 where
+pub record KeepsCounts (p q : Progress) : Type 0 where
   pub turns : q.turns ≡ p.turns
   pub left : q.left ≡ p.left
   pub unsent : q.unsent ≡ p.unsent
 
--- `Kept`, from its three parts
-pub kept : (p q : Progress) → q.turns ≡ p.turns → q.left ≡ p.left → q.unsent ≡ p.unsent → Kept p q
+-- `KeepsCounts`, from its three parts
+pub kept : (p q : Progress) → q.turns ≡ p.turns → q.left ≡ p.left → q.unsent ≡ p.unsent → KeepsCounts p q
 kept p q turns left unsent = record { turns = turns; left = left; unsent = unsent }
 
 -- the progress with a cycle of `count` commands begun, as far as these counts go
@@ -37,11 +37,11 @@ counted_passed p = record p { unsent = p.unsent - p.next_others }
 -- what an act of an action does to these counts, from p to q: nothing, or what begins a cycle, or what sends or skips a
 -- command, or leaves out some. The first argument is how many commands a cycle has
 abbrev pub Counts : ℕ → Action → Progress → Progress → Type 0
-Counts count Begin p q = Kept p q ⊎ Kept (counted_begun count p) q
-Counts count Send p q = Kept (counted_sent p) q
-Counts count Skip p q = Kept p q ⊎ Kept (counted_sent p) q
-Counts count Pass p q = Kept p q ⊎ Kept (counted_passed p) q
-Counts count _ p q = Kept p q
+Counts count Begin p q = KeepsCounts p q ⊎ KeepsCounts (counted_begun count p) q
+Counts count Send p q = KeepsCounts (counted_sent p) q
+Counts count Skip p q = KeepsCounts p q ⊎ KeepsCounts (counted_sent p) q
+Counts count Pass p q = KeepsCounts p q ⊎ KeepsCounts (counted_passed p) q
+Counts count _ p q = KeepsCounts p q
 
 -- each act does to the counts what `Counts` says
 pub moved_counts : (plan : Plan) (commands : List Task) (action : Action) (s : Model) (act : Act) → Counts (cycle_length plan commands) action s.progress (moved plan commands action s act).progress
@@ -51,23 +51,23 @@ moved_counts plan commands Skip s (Told m) = inr (kept (counted_sent s.progress)
 moved_counts plan commands Skip s act = inl (kept s.progress _ refl refl refl)
 moved_counts plan commands Pass s (Told m) = inr (kept (counted_passed s.progress) _ refl refl refl)
 moved_counts plan commands Pass s act = inl (kept s.progress _ refl refl refl)
-moved_counts plan commands Send s (Cut bytes n) = subst (λ (x : Model). Kept (counted_sent s.progress)
+moved_counts plan commands Send s (Cut bytes n) = subst (λ (x : Model). KeepsCounts (counted_sent s.progress)
     (failing (cause.Write (commands_before plan commands s.progress) n) x.progress)) (is_sent plan commands s) (kept (counted_sent s.progress) _ refl refl refl)
-moved_counts plan commands Send s act = subst (λ (x : Model). Kept (counted_sent s.progress) x.progress) (is_sent plan commands s) (kept (counted_sent s.progress) _ refl refl refl)
+moved_counts plan commands Send s act = subst (λ (x : Model). KeepsCounts (counted_sent s.progress) x.progress) (is_sent plan commands s) (kept (counted_sent s.progress) _ refl refl refl)
 moved_counts plan commands action s act =
     let is = moved_changed plan commands action s act in
     kept s.progress _ (ap (λ (x : Model). x.progress.turns) is) (ap (λ (x : Model). x.progress.left) is) (ap (λ (x : Model). x.progress.unsent) is)
 
--- where requests are lost, the progress stays
+-- the loss of requests, all or none, changes no progress
 pub losing_progress : (b : Bool) (s : Model) → (losing b s).progress ≡ s.progress
 losing_progress true s = refl
 losing_progress false s = refl
 
--- what is lost after an act changes no progress
+-- the loss of what is outstanding, at the end of an act, changes no progress
 pub ended_progress : (s : Model) → (ended s).progress ≡ s.progress
 ended_progress s = losing_progress (loses_all s.progress) s
 
--- where requests are lost, nothing is left out
+-- the loss of requests, all or none, leaves no command out
 losing_passes : (b : Bool) (s : Model) → (losing b s).passes ≡ s.passes
 losing_passes true s = refl
 losing_passes false s = refl

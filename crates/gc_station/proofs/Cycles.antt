@@ -4,7 +4,7 @@
 -- `chain_unbroken`. `Cycling` says which cycle the station is in, and when it began; `Begun` says that it is in one, or that none
 -- has begun yet.
 use Rattle.std.proofs.Common.{◌≡◌, ◌⊎◌, inl, inr, ℕ, suc, ◌+◌, ◌-◌, ◌<◌, ◌≤◌, ◌||◌, Bool, true, false, List, [], ◌∷◌, ◌++◌, length, drop, min, nat_lt, nat_le, nat_eq, refl, sym, ap, ◌∙◌, subst, arith, append_assoc}
-use Rattle.std.proofs.lemmas.Bool.{lt-ltb, ne_eqb, eq-eqb}
+use Rattle.std.proofs.lemmas.Bool.{lt-ltb, ne_eqb, eq-eqb, leb-true, leb-false, or_from, or_left, cond-true, cond-false, both_ways, false_from_ne_true}
 use Rattle.gc_texts.specs.declared.tasks.Task.{Task}
 use Rattle.gc_links.specs.Acts.{Act, Told, Untold, Gave, Silent, Ended, Broke, Closed, Opened, Unopened}
 use Rattle.gc_links.specs.declared.link.Moment.{Moment}
@@ -25,20 +25,24 @@ use Rattle.gc_station.specs.declared.progress.Progress.{Progress}
 use Rattle.gc_station.specs.declared.progress.Until.{Until}
 use Rattle.gc_station.specs.declared.progress.Waiting.{Waiting}
 use Rattle.gc_station.specs.Silences.{latest}
-use Rattle.gc_station.proofs.Parted.{drop_past}
+use Rattle.gc_station.proofs.Interleaving.{drop_past}
 use Rattle.gc_station.proofs.Closings.{runs_split, needs_of}
 use Rattle.gc_station.proofs.Always.{always, progress_behind}
 use Rattle.gc_station.proofs.EachRun.{invariant_holds}
 use Rattle.gc_station.proofs.Facts.{action_for}
 use Rattle.gc_station.proofs.Invariant.{Invariant}
 use Rattle.gc_station.proofs.Walk.{asked_along, came_along, quieted_along, closed_along, moved_changed, walk}
-use Rattle.gc_station.proofs.Ticking.{le_of, lt_of, due_since, picks, picks_other, or_none, or_some, or_second, and_second, not_both, Ticks, ticked, rises_front, rises_last, latest_more, last_ticks}
+use Rattle.gc_station.proofs.Ticking.{or_second, and_second, Ticks, ticked, rises_front, rises_last, latest_more, last_ticks}
 use Rattle.gc_station.proofs.Due.{begin_due}
-use Rattle.gc_station.proofs.Staying.{Stays, stays, broken}
+use Rattle.gc_station.proofs.Staying.{Stays, stays}
 
 -- What every run keeps of its cycles.
 
 module _ (plan : Plan) (commands : List Task) (scope : Scope) (some : 0 < plan.every) where
+  -- why the next command of p waits for the answer of the one before it: its cycle is missed, or the text chains it
+  abbrev pub WaitsForAnswer : Progress → Type 0
+  WaitsForAnswer p = (p.missed ≡ true) ⊎ ((plan.setup < place_next commands p) × (is_chained (drop (place_next commands p) commands) ≡ true))
+
   -- with the progress p a station is within a cycle: which one (how many came before it, `earlier`), when it began (`moment`),
   -- how long after its due moment (`late`), and what the fields on missed cycles and chains mean
   pub record Cycling (acts : List Act) (p : Progress) : Type 0 where
@@ -53,7 +57,7 @@ module _ (plan : Plan) (commands : List Task) (scope : Scope) (some : 0 < plan.e
     pub missed : p.missed ≡ nat_le plan.every late
     pub due : p.due ≡ moment.utc - late
     pub held : p.missed ≡ true → (p.next_is_chained ≡ true) × (p.chain_unbroken ≡ false)
-    pub chained : p.next_is_chained ≡ true → (p.missed ≡ true) ⊎ ((plan.setup < place_next commands p) × (is_chained (drop (place_next commands p) commands) ≡ true))
+    pub chained : p.next_is_chained ≡ true → WaitsForAnswer p
 
   -- no cycle has begun yet, and nothing is unsent; or `Cycling` holds
   abbrev pub Begun : List Act → Progress → Type 0
@@ -73,110 +77,85 @@ module _ (plan : Plan) (commands : List Task) (scope : Scope) (some : 0 < plan.e
   pub late_more : (acts more : List Act) (n : ℕ) (m : Moment) (late : ℕ) → BeginsLate plan commands scope acts n m late → BeginsLate plan commands scope (acts ++ more) n m late
   late_more acts more n m late b = record { first = b.first; first_begins = at_more acts more 0 b.first b.first_begins; begins = at_more acts more n m b.begins; grid = b.grid }
 
-  -- `Begun` is preserved by an act that stays in its cycle (`Stays`) and reads moments as `Ticks` says, if the clock doesn't go
-  -- back
-  pub begun_stays : (acts : List Act) (act : Act) (p q : Progress) → Stays p q → Ticks p act q → ClockRises p.moment.elapsed (act ∷ []) → Begun acts p → Begun (acts ++ act ∷ []) q
-  begun_stays acts act p q k t rises (inl none) = inl (k.left ∙ none.0, k.unsent ∙ none.1)
-  begun_stays acts act p q k t rises (inr c) =
-      let tick = ticked p q act t rises c.past in
+  -- `Cycling` is preserved by an act that stays in its cycle, and reads moments as `Ticks` says, if the clock doesn't go back, and
+  -- the fields on missed cycles and chains go on to mean what they do
+  cycling_on : (acts : List Act) (act : Act) (p q : Progress) (left : q.left ≡ p.left) (missed : q.missed ≡ p.missed) (due : q.due ≡ p.due) (ticks : Ticks p act q)
+      (rises : ClockRises p.moment.elapsed (act ∷ [])) (held : p.missed ≡ true → (q.next_is_chained ≡ true) × (q.chain_unbroken ≡ false)) (chained : q.next_is_chained ≡ true → WaitsForAnswer q)
+      → Cycling acts p → Cycling (acts ++ act ∷ []) q
+  cycling_on acts act p q left missed due ticks rises held chained c =
+      let tick = ticked p q act ticks rises c.past in
       let same = tick.0 in
       let before = c.began in
       let few = c.fewer in
-      let left = k.left in
-      let place_is : place_next commands q ≡ place_next commands p = ap (λ (x : ℕ). length commands - x) k.unsent in
-      inr (record {
+      record {
         earlier = c.earlier;
         moment = c.moment;
         late = c.late;
         begins = late_more acts (act ∷ []) c.earlier c.moment c.late c.begins;
-        count = ap (λ (x : ℕ). plan.cycles - x) k.left ∙ c.count;
+        count = ap (λ (x : ℕ). plan.cycles - x) left ∙ c.count;
         fewer = omega (arith, few, left);
         began = omega (arith, same, before);
         past = tick.1;
-        missed = k.missed ∙ c.missed;
-        due = k.due ∙ c.due;
-        held = λ e. let h = c.held (sym k.missed ∙ e) in (k.next_is_chained ∙ h.0, broken p.chain_unbroken q.chain_unbroken k.chain_unbroken h.1);
-        chained = λ e. by_chain (c.chained (sym k.next_is_chained ∙ e)) place_is k.missed;
-      }) where
+        missed = missed ∙ c.missed;
+        due = due ∙ c.due;
+        held = λ e. held (sym missed ∙ e);
+        chained = chained;
+      }
+
+  -- `Begun` is preserved by an act that stays in its cycle (`Stays`) and reads moments as `Ticks` says, if the clock doesn't go
+  -- back
+  pub begun_stays : (acts : List Act) (act : Act) (p q : Progress) → Stays p q → Ticks p act q → ClockRises p.moment.elapsed (act ∷ []) → Begun acts p → Begun (acts ++ act ∷ []) q
+  begun_stays acts act p q k t rises (inl none) = inl (k.still.left ∙ none.0, k.still.unsent ∙ none.1)
+  begun_stays acts act p q k t rises (inr c) =
+      let place_is : place_next commands q ≡ place_next commands p = ap (λ (x : ℕ). length commands - x) k.still.unsent in
+      inr (cycling_on acts act p q k.still.left k.still.missed k.due t rises
+      (λ was. let h = c.held was in (k.still.next_is_chained ∙ h.0, false_from_ne_true q.chain_unbroken (λ e. both_ways p.chain_unbroken h.1 (k.still.chain_unbroken e))))
+      (λ e. by_chain (c.chained (sym k.still.next_is_chained ∙ e)) place_is k.still.missed) c) where
         -- what makes the next command wait, still does: its cycle is missed, or the text chains it
-        by_chain : ((p.missed ≡ true) ⊎ ((plan.setup < place_next commands p) × (is_chained (drop (place_next commands p) commands) ≡ true)))
-            → place_next commands q ≡ place_next commands p → q.missed ≡ p.missed
-            → (q.missed ≡ true) ⊎ ((plan.setup < place_next commands q) × (is_chained (drop (place_next commands q) commands) ≡ true))
+        by_chain : WaitsForAnswer p → place_next commands q ≡ place_next commands p → q.missed ≡ p.missed → WaitsForAnswer q
         by_chain (inl missed) at same = inl (same ∙ missed)
         by_chain (inr (above, is)) at same = inr (subst (λ (x : ℕ). plan.setup < x) (sym at) above, ap (λ (x : ℕ). is_chained (drop x commands)) at ∙ is)
 
   -- `Begun` is preserved by an act that sends or leaves out the next command, if the command after that waits for its answer as
   -- `is_chained_after_next` says
-  pub begun_next : (acts : List Act) (act : Act) (p q : Progress) → q.left ≡ p.left → q.unsent ≡ p.unsent - 1 → q.missed ≡ p.missed → q.due ≡ p.due
-      → q.next_is_chained ≡ is_chained_after_next commands p
-      → (p.missed ≡ true → q.chain_unbroken ≡ false) → Ticks p act q → ClockRises p.moment.elapsed (act ∷ []) → 0 < p.unsent → p.unsent ≤ cycle_length plan commands → Begun acts p
-      → Begun (acts ++ act ∷ []) q
+  pub begun_next : (acts : List Act) (act : Act) (p q : Progress) (left : q.left ≡ p.left) (unsent : q.unsent ≡ p.unsent - 1) (missed : q.missed ≡ p.missed) (due : q.due ≡ p.due)
+      (next_is_chained : q.next_is_chained ≡ is_chained_after_next commands p) (chain_unbroken : p.missed ≡ true → q.chain_unbroken ≡ false) (ticks : Ticks p act q)
+      (rises : ClockRises p.moment.elapsed (act ∷ [])) (here : 0 < p.unsent) (within : p.unsent ≤ cycle_length plan commands) → Begun acts p → Begun (acts ++ act ∷ []) q
   begun_next acts act p q left unsent missed due next_is_chained chain_unbroken t rises here within (inl none) = let nothing = none.1 in absurd (omega (arith, nothing, here))
   begun_next acts act p q left unsent missed due next_is_chained chain_unbroken t rises here within (inr c) =
-      let tick = ticked p q act t rises c.past in
-      let same = tick.0 in
-      let before = c.began in
-      let few = c.fewer in
       let at : place_next commands q ≡ place_next commands p + 1 = omega (arith, unsent, here, within) in
-      inr (record {
-        earlier = c.earlier;
-        moment = c.moment;
-        late = c.late;
-        begins = late_more acts (act ∷ []) c.earlier c.moment c.late c.begins;
-        count = ap (λ (x : ℕ). plan.cycles - x) left ∙ c.count;
-        fewer = omega (arith, few, left);
-        began = omega (arith, same, before);
-        past = tick.1;
-        missed = missed ∙ c.missed;
-        due = due ∙ c.due;
-        held = λ e. let was : p.missed ≡ true = sym missed ∙ e in (next_is_chained ∙ or_some p.missed (is_chained (drop (place_next commands p + 1) commands)) was, chain_unbroken was);
-        chained = λ e. by_missed p.missed refl (sym next_is_chained ∙ e) at (omega (arith, here, within));
-      }) where
+      inr (cycling_on acts act p q left missed due t rises
+      (λ was. (next_is_chained ∙ or_left p.missed (is_chained (drop (place_next commands p + 1) commands)) was, chain_unbroken was))
+      (λ e. by_missed p.missed refl (sym next_is_chained ∙ e) at (omega (arith, here, within))) c) where
         -- what makes the new next command wait: its cycle is missed (`true`), or the text chains it
-        by_missed : (b : Bool) → p.missed ≡ b → is_chained_after_next commands p ≡ true → place_next commands q ≡ place_next commands p + 1 → plan.setup ≤ place_next commands p
-            → (q.missed ≡ true) ⊎ ((plan.setup < place_next commands q) × (is_chained (drop (place_next commands q) commands) ≡ true))
+        by_missed : (b : Bool) → p.missed ≡ b → is_chained_after_next commands p ≡ true → place_next commands q ≡ place_next commands p + 1 → plan.setup ≤ place_next commands p → WaitsForAnswer q
         by_missed true is e at low = inl (missed ∙ is)
         by_missed false is e at low =
             inr (omega (arith, at, low), ap (λ (x : ℕ). is_chained (drop x commands)) at ∙ or_second p.missed (is_chained (drop (place_next commands p + 1) commands)) e is)
 
   -- `Begun` is preserved by an act that leaves out the further attempts of a chain
-  pub begun_past : (acts : List Act) (act : Act) (p q : Progress) → q.left ≡ p.left → q.unsent ≡ p.unsent - p.next_others → q.missed ≡ p.missed → q.due ≡ p.due
-      → q.next_is_chained ≡ is_chained_after p.next_others commands p
-      → 0 < p.next_others → (p.missed ≡ true → q.chain_unbroken ≡ false) → Ticks p act q → ClockRises p.moment.elapsed (act ∷ []) → 0 < p.unsent
-      → p.unsent ≤ length commands - plan.setup → Begun acts p → Begun (acts ++ act ∷ []) q
+  pub begun_past : (acts : List Act) (act : Act) (p q : Progress) (left : q.left ≡ p.left) (unsent : q.unsent ≡ p.unsent - p.next_others) (missed : q.missed ≡ p.missed) (due : q.due ≡ p.due)
+      (next_is_chained : q.next_is_chained ≡ is_chained_after p.next_others commands p) (more : 0 < p.next_others) (chain_unbroken : p.missed ≡ true → q.chain_unbroken ≡ false)
+      (ticks : Ticks p act q) (rises : ClockRises p.moment.elapsed (act ∷ [])) (here : 0 < p.unsent) (within : p.unsent ≤ cycle_length plan commands) → Begun acts p
+      → Begun (acts ++ act ∷ []) q
   begun_past acts act p q left unsent missed due next_is_chained more chain_unbroken t rises here within (inl none) = let nothing = none.1 in absurd (omega (arith, nothing, here))
   begun_past acts act p q left unsent missed due next_is_chained more chain_unbroken t rises here within (inr c) =
-      let tick = ticked p q act t rises c.past in
-      let same = tick.0 in
-      let before = c.began in
-      let few = c.fewer in
       let above : plan.setup < place_next commands q = omega (arith, unsent, here, within, more) in
       let at : drop (place_next commands p + p.next_others) commands ≡ drop (place_next commands q) commands =
       drop_past commands p.unsent p.next_others (omega (arith, within)) ∙ ap (λ (x : ℕ). drop (length commands - x) commands) (sym unsent) in
-      inr (record {
-        earlier = c.earlier;
-        moment = c.moment;
-        late = c.late;
-        begins = late_more acts (act ∷ []) c.earlier c.moment c.late c.begins;
-        count = ap (λ (x : ℕ). plan.cycles - x) left ∙ c.count;
-        fewer = omega (arith, few, left);
-        began = omega (arith, same, before);
-        past = tick.1;
-        missed = missed ∙ c.missed;
-        due = due ∙ c.due;
-        held = λ e. let was : p.missed ≡ true = sym missed ∙ e in (next_is_chained ∙ or_some p.missed (is_chained (drop (place_next commands p + p.next_others) commands)) was, chain_unbroken was);
-        chained = λ e. by_missed p.missed refl (sym next_is_chained ∙ e) above at;
-      }) where
+      inr (cycling_on acts act p q left missed due t rises
+      (λ was. (next_is_chained ∙ or_left p.missed (is_chained (drop (place_next commands p + p.next_others) commands)) was, chain_unbroken was))
+      (λ e. by_missed p.missed refl (sym next_is_chained ∙ e) above at) c) where
         -- what makes the new next command wait: its cycle is missed (`true`), or the text chains it
         by_missed : (b : Bool) → p.missed ≡ b → is_chained_after p.next_others commands p ≡ true → plan.setup < place_next commands q
-            → drop (place_next commands p + p.next_others) commands ≡ drop (place_next commands q) commands
-            → (q.missed ≡ true) ⊎ ((plan.setup < place_next commands q) × (is_chained (drop (place_next commands q) commands) ≡ true))
+            → drop (place_next commands p + p.next_others) commands ≡ drop (place_next commands q) commands → WaitsForAnswer q
         by_missed true is e above at = inl (missed ∙ is)
         by_missed false is e above at =
             inr (above, ap is_chained (sym at) ∙ or_second p.missed (is_chained (drop (place_next commands p + p.next_others) commands)) e is)
 
   -- `Cycling` holds after the act that begins a cycle at the moment m, if the cycle counts as begun at b and b is its due moment
-  pub begins_cycle : (acts : List Act) (m : Moment) (p : Progress) (n : ℕ) (b : ℕ) → cycle_start plan m p ≡ b → b ≤ m.elapsed → cycles_begun plan p ≡ n → 0 < p.left → p.left ≤ plan.cycles
+  pub begins_cycle : (acts : List Act) (m : Moment) (p : Progress) (n : ℕ) (b : ℕ) → (is_start : cycle_start plan m p ≡ b) → (past : b ≤ m.elapsed) → (number : cycles_begun plan p ≡ n)
+      → (unbegun : 0 < p.left) → (within : p.left ≤ plan.cycles)
       → BeginsLate plan commands scope (acts ++ Told m ∷ []) n m (m.elapsed - b) → Cycling (acts ++ Told m ∷ []) (cycle_begun plan (cycle_length plan commands) m p)
   begins_cycle acts m p n b is past number left within late = record {
     earlier = n;
@@ -218,16 +197,16 @@ module _ (plan : Plan) (commands : List Task) (scope : Scope) (some : 0 < plan.e
       record {
         earlier = 0;
         start = m.elapsed;
-        is = picks (nat_eq p.left plan.cycles || nat_eq plan.every 0) _ _ (or_some (nat_eq p.left plan.cycles) (nat_eq plan.every 0) (eq-eqb p.left plan.cycles all));
+        is = cond-true (nat_eq p.left plan.cycles || nat_eq plan.every 0) _ _ (or_left (nat_eq p.left plan.cycles) (nat_eq plan.every 0) (eq-eqb p.left plan.cycles all));
         past = omega arith;
         number = none;
         late = record { first = m; first_begins = here; begins = here; grid = omega arith };
       }
 
   -- a later cycle has a `Start`: it is due `every` milliseconds after the one before it was due, and begins then or later
-  pub start_more : (acts : List Act) (m : Moment) (p : Progress) → action_at plan (state_after plan commands scope acts) ≡ actions.Begin
-      → cycles_begun plan (state_after plan commands scope acts).progress ≡ cycles_begun plan p
-      → is_due plan p ≡ true → ClockRises p.moment.elapsed (Told m ∷ []) → Cycling acts p → Start acts m p
+  pub start_more : (acts : List Act) (m : Moment) (p : Progress) → (begins : action_at plan (state_after plan commands scope acts) ≡ actions.Begin)
+      → (same : cycles_begun plan (state_after plan commands scope acts).progress ≡ cycles_begun plan p)
+      → (due : is_due plan p ≡ true) → (rises : ClockRises p.moment.elapsed (Told m ∷ [])) → Cycling acts p → Start acts m p
   start_more acts m p is same due rises c =
       let few = c.fewer in
       let past = c.past in
@@ -235,8 +214,8 @@ module _ (plan : Plan) (commands : List Task) (scope : Scope) (some : 0 < plan.e
       let grid = c.begins.grid in
       let apart : nat_eq p.left plan.cycles ≡ false = ne_eqb p.left plan.cycles (λ e. omega (arith, e, few)) in
       let never : nat_eq plan.every 0 ≡ false = ne_eqb plan.every 0 (λ e. omega (arith, e, some)) in
-      let long : plan.every ≤ p.moment.elapsed - p.began = le_of plan.every (p.moment.elapsed - p.began)
-      (due_since (nat_eq p.left plan.cycles) (nat_le plan.every (p.moment.elapsed - p.began)) apart due) in
+      let long : plan.every ≤ p.moment.elapsed - p.began = leb-true plan.every (p.moment.elapsed - p.began)
+      (sym (cond-false (nat_eq p.left plan.cycles) true (nat_le plan.every (p.moment.elapsed - p.began)) apart) ∙ due) in
       let now = rises.0 in
       let most = rises.1 in
       let here = begins_here acts m (suc c.earlier) is (same ∙ c.count) in
@@ -244,23 +223,23 @@ module _ (plan : Plan) (commands : List Task) (scope : Scope) (some : 0 < plan.e
       record {
         earlier = suc c.earlier;
         start = p.began + plan.every;
-        is = picks_other (nat_eq p.left plan.cycles || nat_eq plan.every 0) _ _ (or_none (nat_eq p.left plan.cycles) (nat_eq plan.every 0) apart never) ∙ omega (arith, long, past, now, most);
+        is = cond-false (nat_eq p.left plan.cycles || nat_eq plan.every 0) _ _ (or_from (nat_eq p.left plan.cycles) (nat_eq plan.every 0) apart never) ∙ omega (arith, long, past, now, most);
         past = omega (arith, long, past, now);
         number = c.count;
         late = record { first = c.begins.first; first_begins = at_more acts (Told m ∷ []) 0 c.begins.first c.begins.first_begins; begins = here; grid = omega (arith, last, long, past, now) };
       }
 
   -- a cycle that begins, the first or a further one, has a `Start`
-  pub starts : (acts : List Act) (m : Moment) (p : Progress) → action_at plan (state_after plan commands scope acts) ≡ actions.Begin
-      → cycles_begun plan (state_after plan commands scope acts).progress ≡ cycles_begun plan p
-      → is_due plan p ≡ true → ClockRises p.moment.elapsed (Told m ∷ []) → Begun acts p → Start acts m p
+  pub starts : (acts : List Act) (m : Moment) (p : Progress) → (begins : action_at plan (state_after plan commands scope acts) ≡ actions.Begin)
+      → (same : cycles_begun plan (state_after plan commands scope acts).progress ≡ cycles_begun plan p)
+      → (due : is_due plan p ≡ true) → (rises : ClockRises p.moment.elapsed (Told m ∷ [])) → Begun acts p → Start acts m p
   starts acts m p is same due rises (inl none) = start_first acts m p is same none.0
   starts acts m p is same due rises (inr c) = start_more acts m p is same due rises c
 
   -- `Begun` holds after the act that begins a cycle
-  pub begun_begins : (acts : List Act) (m : Moment) (p : Progress) → action_at plan (state_after plan commands scope acts) ≡ actions.Begin
-      → cycles_begun plan (state_after plan commands scope acts).progress ≡ cycles_begun plan p
-      → is_due plan p ≡ true → 0 < p.left → p.left ≤ plan.cycles → ClockRises p.moment.elapsed (Told m ∷ []) → Begun acts p
+  pub begun_begins : (acts : List Act) (m : Moment) (p : Progress) → (begins : action_at plan (state_after plan commands scope acts) ≡ actions.Begin)
+      → (same : cycles_begun plan (state_after plan commands scope acts).progress ≡ cycles_begun plan p)
+      → (due : is_due plan p ≡ true) → (unbegun : 0 < p.left) → (within : p.left ≤ plan.cycles) → (rises : ClockRises p.moment.elapsed (Told m ∷ [])) → Begun acts p
       → Cycling (acts ++ Told m ∷ []) (cycle_begun plan (cycle_length plan commands) m p)
   begun_begins acts m p is same due left within rises h =
       let x = starts acts m p is same due rises h in
@@ -330,13 +309,14 @@ module _ (plan : Plan) (commands : List Task) (scope : Scope) (some : 0 < plan.e
     -- the lemma above, whether the cycle is missed (`true`) or not
     by_test : (b : Bool) → p.missed ≡ b → MayGo p w → p.missed ≡ false
     by_test false e m = e
-    by_test true e (inl free) = absurd (not_both p.next_is_chained (c.held e).0 free)
-    by_test true e (inr going) = absurd (not_both p.chain_unbroken going.2 (c.held e).1)
+    by_test true e (inl free) = absurd (both_ways p.next_is_chained free (c.held e).0)
+    by_test true e (inr going) = absurd (both_ways p.chain_unbroken (c.held e).1 going.2)
 
   -- an act of each action does to the moment read last, and to `Begun`, what `KeepsBegunOf` says
-  pub on_moved : (acts : List Act) (next : Action) (act : Act) → action_at plan (state_after plan commands scope acts) ≡ next
-      → Performs commands (state_after plan commands scope acts) next act → Invariant plan commands (state_after plan commands scope acts)
-      → HoldsBefore plan (state_after plan commands scope acts).progress (waiting_of (state_after plan commands scope acts)) next → Begun acts (turned (state_after plan commands scope acts).progress)
+  pub on_moved : (acts : List Act) (next : Action) (act : Act) → (is_next : action_at plan (state_after plan commands scope acts) ≡ next)
+      → (performs : Performs commands (state_after plan commands scope acts) next act) → Invariant plan commands (state_after plan commands scope acts)
+      → (needs : HoldsBefore plan (state_after plan commands scope acts).progress (waiting_of (state_after plan commands scope acts)) next)
+      → Begun acts (turned (state_after plan commands scope acts).progress)
       → KeepsBegunOf acts (turned (state_after plan commands scope acts).progress) act (moved plan commands next (with_progress turned (state_after plan commands scope acts)) act)
   on_moved acts actions.ReadClock act is o fine needs h =
       let s = with_progress turned (state_after plan commands scope acts) in
@@ -367,8 +347,8 @@ module _ (plan : Plan) (commands : List Task) (scope : Scope) (some : 0 < plan.e
       let s = with_progress turned (state_after plan commands scope acts) in
       let free = not_missed acts s.progress (waiting_of (state_after plan commands scope acts)) needs.2 needs.4 h in
       walk plan commands (KeepsBegunOf acts s.progress) actions.Send s act o (
-        λ m. (refl, λ rises. begun_next acts _ s.progress _ refl refl refl refl refl (λ e. absurd (not_both s.progress.missed e free)) (refl, refl) rises needs.2 fine.unsent h),
-        λ n. (refl, λ rises. begun_next acts _ s.progress _ refl refl refl refl refl (λ e. absurd (not_both s.progress.missed e free)) (refl, refl) rises needs.2 fine.unsent h),
+        λ m. (refl, λ rises. begun_next acts _ s.progress _ refl refl refl refl refl (λ e. absurd (both_ways s.progress.missed free e)) (refl, refl) rises needs.2 fine.unsent h),
+        λ n. (refl, λ rises. begun_next acts _ s.progress _ refl refl refl refl refl (λ e. absurd (both_ways s.progress.missed free e)) (refl, refl) rises needs.2 fine.unsent h),
       )
   on_moved acts actions.Prepare act is o fine needs h =
       let s = with_progress turned (state_after plan commands scope acts) in
@@ -464,7 +444,7 @@ module _ (plan : Plan) (commands : List Task) (scope : Scope) (some : 0 < plan.e
       → (last : LastBegan plan commands scope acts) × (last.late < plan.every)
   last_began acts p is c free = (
     record { n = c.earlier; moment = c.moment; late = c.late; begins = c.begins; number = sym (ap (λ (q : Progress). cycles_begun plan q) is) ∙ c.count },
-    lt_of plan.every c.late (sym c.missed ∙ free),
+    leb-false plan.every c.late (sym c.missed ∙ free),
   )
 
   -- if a command is sent, its cycle began before the next one was due

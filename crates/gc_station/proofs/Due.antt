@@ -1,8 +1,9 @@
 -- A cycle begins only if it is due. `p` is how far the station is, and `w` what is outstanding; each `action_...` is the next
 -- action under some conditions. `BeginsDue` says of an action: if it begins a cycle, the cycle is due.
 use Rattle.std.proofs.Common.{◌≡◌, ◌&&◌, Bool, true, false, nat_lt, nat_le, nat_eq, if◌then◌else◌, not}
+use Rattle.std.proofs.lemmas.Bool.{cond_both}
 use Rattle.gc_client.specs.declared.window.TheConstants.{WINDOW}
-use Rattle.gc_station.specs.Deciding.{is_up, is_idle, is_finished, has_begun, is_dead, is_due, has_room, action_of, action_in, action_on, action_of_phase, may_go, waits_for_all, action_again, action_ready, action_begun, action_beginning, action_sent, action_settled, action_done, action_next, action_room, action_waiting, action_without_turns, is_stale, is_stopping, is_held_back, action_cycle, action_turn, action_preparing, is_preparing}
+use Rattle.gc_station.specs.Deciding.{is_up, is_idle, is_finished, has_begun, is_dead, is_due, has_room, action_of, action_in, action_on, action_of_phase, may_go, waits_for_all, action_again, action_ready, action_begun, action_beginning, action_sent, action_settled, action_done, action_next, action_room, action_waiting, action_without_turns, is_stale, is_stopping, is_held_back, action_cycle, action_next_of_setup, action_preparing, is_preparing}
 use Rattle.gc_station.specs.declared.cause.Cause.TheVariants as cause
 use Rattle.gc_station.specs.declared.plan.Plan.{Plan}
 use Rattle.gc_station.specs.declared.progress.Action.{Action}
@@ -12,7 +13,6 @@ use Rattle.gc_station.specs.declared.progress.Phase.TheVariants as phase
 use Rattle.gc_station.specs.declared.progress.Progress.{Progress}
 use Rattle.gc_station.specs.declared.progress.Until.TheVariants.{Limit, Due}
 use Rattle.gc_station.specs.declared.progress.Waiting.{Waiting}
-use Rattle.gc_station.proofs.Facts.{either}
 
 -- if this action, which is next, begins a cycle, the cycle is due
 abbrev pub BeginsDue : Plan → Progress → Action → Type 0
@@ -22,83 +22,83 @@ module _ (plan : Plan) (p : Progress) (w : Waiting) where
   -- no cycle begins if a station waits
   pub waits_not : BeginsDue plan p (action_waiting plan p w)
   waits_not =
-      either (BeginsDue plan p) (actions.Close cause.Dead) (if nat_eq w.current 0 then actions.Renew else actions.Read Limit) (is_dead plan p w) (λ d b. cc)
-      (λ d. either (BeginsDue plan p) actions.Renew (actions.Read Limit) (nat_eq w.current 0) (λ e b. cc) (λ e b. cc))
+      cond_both (is_dead plan p w) (actions.Close cause.Dead) (if nat_eq w.current 0 then actions.Renew else actions.Read Limit) (BeginsDue plan p) (λ d b. cc)
+      (λ d. cond_both (nat_eq w.current 0) actions.Renew (actions.Read Limit) (BeginsDue plan p) (λ e b. cc) (λ e b. cc))
 
   -- `action_room` is the action `next` if there is room for a request, and another one if there is none. It begins a cycle only
   -- when one is due, if `next` does
   pub room_not : (next : Action) → BeginsDue plan p next → BeginsDue plan p (action_room plan p w next)
-  room_not next not = either (BeginsDue plan p) next (action_waiting plan p w) (has_room plan w) (λ e. not) (λ e. waits_not)
+  room_not next not = cond_both (has_room plan w) next (action_waiting plan p w) (BeginsDue plan p) (λ e. not) (λ e. waits_not)
 
   -- no cycle begins if the next command may be sent
   pub next_not : BeginsDue plan p (action_next plan p w actions.Send)
   next_not =
-      either (BeginsDue plan p) (action_room plan p w actions.Send) _ (nat_lt p.behind WINDOW) (λ e. room_not actions.Send (λ b. cc))
-      (λ e. either (BeginsDue plan p) (action_room plan p w actions.Flush) (action_waiting plan p w) (nat_eq w.current 0) (λ d. room_not actions.Flush (λ b. cc)) (λ d. waits_not))
+      cond_both (nat_lt p.behind WINDOW) (action_room plan p w actions.Send) _ (BeginsDue plan p) (λ e. room_not actions.Send (λ b. cc))
+      (λ e. cond_both (nat_eq w.current 0) (action_room plan p w actions.Flush) (action_waiting plan p w) (BeginsDue plan p) (λ d. room_not actions.Flush (λ b. cc)) (λ d. waits_not))
 
   -- if each command of the cycle is settled, the next cycle begins only when it is due
   pub done_due : BeginsDue plan p (action_done plan p)
   done_due =
-      either (BeginsDue plan p) (actions.Close cause.Done) (if is_due plan p then actions.Begin else actions.Read Due) (nat_eq p.left 0) (λ e b. cc)
-      (λ e. either (BeginsDue plan p) actions.Begin (actions.Read Due) (is_due plan p) (λ d b. d) (λ d b. cc))
+      cond_both (nat_eq p.left 0) (actions.Close cause.Done) (if is_due plan p then actions.Begin else actions.Read Due) (BeginsDue plan p) (λ e b. cc)
+      (λ e. cond_both (is_due plan p) actions.Begin (actions.Read Due) (BeginsDue plan p) (λ d b. d) (λ d b. cc))
 
   -- if each command that was sent is settled, the next cycle begins only when it is due
   pub settled_due : BeginsDue plan p (action_settled plan p w)
   settled_due =
-      either (BeginsDue plan p) (action_done plan p) _ (nat_eq p.unsent 0) (λ e. done_due)
-      (λ e. either (BeginsDue plan p) (action_again plan p w) (if may_go p w then action_next plan p w actions.Send else actions.Skip) (nat_lt 0 p.next_others)
-      (λ more. either (BeginsDue plan p) (action_next plan p w actions.Send) actions.Pass (w.listed && not p.next_is_chained) (λ d. next_not) (λ d b. cc))
-      (λ none. either (BeginsDue plan p) (action_next plan p w actions.Send) actions.Skip (may_go p w) (λ d. next_not) (λ d b. cc)))
+      cond_both (nat_eq p.unsent 0) (action_done plan p) _ (BeginsDue plan p) (λ e. done_due)
+      (λ e. cond_both (nat_lt 0 p.next_others) (action_again plan p w) (if may_go p w then action_next plan p w actions.Send else actions.Skip) (BeginsDue plan p)
+      (λ more. cond_both (w.listed && not p.next_is_chained) (action_next plan p w actions.Send) actions.Pass (BeginsDue plan p) (λ d. next_not) (λ d b. cc))
+      (λ none. cond_both (may_go p w) (action_next plan p w actions.Send) actions.Skip (BeginsDue plan p) (λ d. next_not) (λ d b. cc)))
 
   -- if no command may be sent, the next cycle begins only when it is due
   pub sent_due : BeginsDue plan p (action_sent plan p w)
   sent_due =
-      either (BeginsDue plan p) (action_settled plan p w) (if nat_eq w.current 0 then action_room plan p w actions.Flush else action_waiting plan p w) (nat_eq w.commands 0) (λ e. settled_due)
-      (λ e. either (BeginsDue plan p) (action_room plan p w actions.Flush) (action_waiting plan p w) (nat_eq w.current 0) (λ d. room_not actions.Flush (λ b. cc)) (λ d. waits_not))
+      cond_both (nat_eq w.commands 0) (action_settled plan p w) (if nat_eq w.current 0 then action_room plan p w actions.Flush else action_waiting plan p w) (BeginsDue plan p) (λ e. settled_due)
+      (λ e. cond_both (nat_eq w.current 0) (action_room plan p w actions.Flush) (action_waiting plan p w) (BeginsDue plan p) (λ d. room_not actions.Flush (λ b. cc)) (λ d. waits_not))
 
   -- no cycle begins if it is the turn of a command of the setup
-  pub turn_not : BeginsDue plan p (action_turn plan p w)
+  pub turn_not : BeginsDue plan p (action_next_of_setup plan p w)
   turn_not =
-      either (BeginsDue plan p) (action_next plan p w actions.Prepare) (actions.Read Limit) (nat_lt p.prepared plan.setup)
-      (λ n. either (BeginsDue plan p) (action_room plan p w actions.Prepare) _ (nat_lt p.behind WINDOW) (λ e. room_not actions.Prepare (λ b. cc))
-      (λ e. either (BeginsDue plan p) (action_room plan p w actions.Flush) (action_waiting plan p w) (nat_eq w.current 0) (λ d. room_not actions.Flush (λ b. cc)) (λ d. waits_not)))
+      cond_both (nat_lt p.prepared plan.setup) (action_next plan p w actions.Prepare) (actions.Read Limit) (BeginsDue plan p)
+      (λ n. cond_both (nat_lt p.behind WINDOW) (action_room plan p w actions.Prepare) _ (BeginsDue plan p) (λ e. room_not actions.Prepare (λ b. cc))
+      (λ e. cond_both (nat_eq w.current 0) (action_room plan p w actions.Flush) (action_waiting plan p w) (BeginsDue plan p) (λ d. room_not actions.Flush (λ b. cc)) (λ d. waits_not)))
       (λ n b. cc)
 
   -- no cycle begins while the setup isn't done
   pub preparing_not : BeginsDue plan p (action_preparing plan p w)
   preparing_not =
       let B = BeginsDue plan p in
-      either B (actions.Close cause.Done) _ (is_finished w.commands p) (λ e b. cc)
-      (λ e. either B (actions.Read Due) _ (is_idle plan p) (λ d b. cc)
-      (λ d. either B _ _ (nat_eq p.prepared 0) (λ f. turn_not)
-      (λ f. either B _ _ (nat_eq w.commands 0) (λ g. either B _ (actions.Close cause.SetUp) w.well (λ h. turn_not) (λ h b. cc))
-      (λ g. either B (action_room plan p w actions.Flush) (action_waiting plan p w) (nat_eq w.current 0) (λ h. room_not actions.Flush (λ b. cc)) (λ h. waits_not)))))
+      cond_both (is_finished w.commands p) (actions.Close cause.Done) _ B (λ e b. cc)
+      (λ e. cond_both (is_idle plan p) (actions.Read Due) _ B (λ d b. cc)
+      (λ d. cond_both (nat_eq p.prepared 0) _ _ B (λ f. turn_not)
+      (λ f. cond_both (nat_eq w.commands 0) _ _ B (λ g. cond_both w.well _ (actions.Close cause.SetUp) B (λ h. turn_not) (λ h b. cc))
+      (λ g. cond_both (nat_eq w.current 0) (action_room plan p w actions.Flush) (action_waiting plan p w) B (λ h. room_not actions.Flush (λ b. cc)) (λ h. waits_not)))))
 
   -- once the setup is done, a cycle begins only when it is due
   pub cycle_due : BeginsDue plan p (action_cycle plan p w)
   cycle_due =
-      either (BeginsDue plan p) (action_next plan p w actions.Send) (action_sent plan p w) (nat_lt 0 p.unsent && not (waits_for_all p)) (λ d. next_not) (λ d. sent_due)
+      cond_both (nat_lt 0 p.unsent && not (waits_for_all p)) (action_next plan p w actions.Send) (action_sent plan p w) (BeginsDue plan p) (λ d. next_not) (λ d. sent_due)
 
   -- once the station has synchronized, a cycle begins only when it is due
   pub begun_due : BeginsDue plan p (action_begun plan p w)
   begun_due =
-      either (BeginsDue plan p) (action_waiting plan p w) _ (is_held_back p w) (λ h. waits_not)
-      (λ h. either (BeginsDue plan p) (action_preparing plan p w) (action_cycle plan p w) (is_preparing plan p w) (λ on. preparing_not) (λ done. cycle_due))
+      cond_both (is_held_back p w) (action_waiting plan p w) _ (BeginsDue plan p) (λ h. waits_not)
+      (λ h. cond_both (is_preparing plan p w) (action_preparing plan p w) (action_cycle plan p w) (BeginsDue plan p) (λ on. preparing_not) (λ done. cycle_due))
 
   -- no cycle begins if a null procedure is sent or is waited for
   pub asks_not : BeginsDue plan p (if nat_le p.again p.moment.elapsed then actions.Ask else actions.Read Limit)
-  asks_not = either (BeginsDue plan p) actions.Ask (actions.Read Limit) (nat_le p.again p.moment.elapsed) (λ e b. cc) (λ e b. cc)
+  asks_not = cond_both (nat_le p.again p.moment.elapsed) actions.Ask (actions.Read Limit) (BeginsDue plan p) (λ e b. cc) (λ e b. cc)
 
   -- no cycle begins while the station synchronizes
   pub beginning_due : BeginsDue plan p (action_beginning plan p w)
   beginning_due =
-      either (BeginsDue plan p) (actions.Close cause.Done) _ (is_finished w.commands p) (λ e b. cc)
-      (λ more. either (BeginsDue plan p) (actions.Read Due) _ (is_idle plan p) (λ e b. cc)
-      (λ e. either (BeginsDue plan p) (actions.Close cause.Dead) _ (is_dead plan p w) (λ d b. cc) (λ d. asks_not)))
+      cond_both (is_finished w.commands p) (actions.Close cause.Done) _ (BeginsDue plan p) (λ e b. cc)
+      (λ more. cond_both (is_idle plan p) (actions.Read Due) _ (BeginsDue plan p) (λ e b. cc)
+      (λ e. cond_both (is_dead plan p w) (actions.Close cause.Dead) _ (BeginsDue plan p) (λ d b. cc) (λ d. asks_not)))
 
   -- in the phase `Ready` a cycle begins only when it is due
   pub ready_due : BeginsDue plan p (action_ready plan p w)
-  ready_due = either (BeginsDue plan p) (action_begun plan p w) (action_beginning plan p w) (has_begun p) (λ e. begun_due) (λ e. beginning_due)
+  ready_due = cond_both (has_begun p) (action_begun plan p w) (action_beginning plan p w) (BeginsDue plan p) (λ e. begun_due) (λ e. beginning_due)
 
   -- in each phase a cycle begins only when it is due, where turns are left and the moment was read
   pub told_due : (at : Phase) → BeginsDue plan p (action_of_phase plan at p w)
@@ -118,10 +118,10 @@ module _ (plan : Plan) (p : Progress) (w : Waiting) where
   -- a cycle begins only when it is due, if the end isn't decided yet
   pub on_due : BeginsDue plan p (action_on plan p w)
   on_due =
-      either (BeginsDue plan p) (action_without_turns (is_up p.phase)) _ (nat_eq p.turns 0) (λ e. up_due (is_up p.phase))
-      (λ e. either (BeginsDue plan p) (actions.Close cause.Stale) _ (is_stale plan p w) (λ d b. cc)
-      (λ d. either (BeginsDue plan p) (actions.Close cause.Stopped) _ (is_stopping p w) (λ f b. cc)
-      (λ f. either (BeginsDue plan p) actions.ReadClock (action_of_phase plan p.phase p w) p.clock_due (λ g b. cc) (λ g. told_due p.phase))))
+      cond_both (nat_eq p.turns 0) (action_without_turns (is_up p.phase)) _ (BeginsDue plan p) (λ e. up_due (is_up p.phase))
+      (λ e. cond_both (is_stale plan p w) (actions.Close cause.Stale) _ (BeginsDue plan p) (λ d b. cc)
+      (λ d. cond_both (is_stopping p w) (actions.Close cause.Stopped) _ (BeginsDue plan p) (λ f b. cc)
+      (λ f. cond_both p.clock_due actions.ReadClock (action_of_phase plan p.phase p w) (BeginsDue plan p) (λ g b. cc) (λ g. told_due p.phase))))
 
   -- in each phase a cycle begins only when it is due
   pub in_due : (at : Phase) → BeginsDue plan p (action_in at plan p w)

@@ -2,7 +2,7 @@
 -- stands for these commands, whether they were sent or were left out.) A mark says which command an outstanding request is of,
 -- or `None` of a null procedure.
 use Rattle.std.proofs.Common.{◌≡◌, ℕ, zero, suc, ◌+◌, ◌-◌, ◌<◌, ◌≤◌, Bool, true, false, nat_eq, List, [], ◌∷◌, ◌++◌, length, take, drop, map, Option, Some, None, refl, sym, ap, ◌∙◌, arith, append_assoc, append-nil}
-use Rattle.std.proofs.lemmas.List.{length-map, length-drop, map-append, take_all}
+use Rattle.std.proofs.lemmas.List.{length-map, length-drop, map-append, take_all, drop-append-le}
 use Rattle.gc_catalogue.specs.declared.answer.Reading.{Reading}
 use Rattle.gc_catalogue.specs.declared.asked.Asked.{Asked}
 use Rattle.gc_client.specs.declared.pending.Pending.{Pending}
@@ -12,13 +12,13 @@ use Rattle.gc_client.proofs.OneForOne.{expired_parts}
 use Rattle.gc_texts.specs.declared.near.Expected.{Expected}
 use Rattle.gc_texts.specs.declared.tasks.Task.{Task}
 use Rattle.gc_station.specs.declared.mark.Mark.{Mark}
-use Rattle.gc_station.specs.EachOnce.{Request, requests, of_task, all_cycles, commands_reached, of_record, of_waiting, still_waiting, cycle_with, of_cycles, of_text, in_text}
+use Rattle.gc_station.specs.Lists.{with_unless}
+use Rattle.gc_station.specs.EachOnce.{Request, requests, of_task, all_cycles, commands_reached, of_record, of_waiting, still_waiting, of_cycles, of_text, in_text}
 use Rattle.gc_station.specs.Requests.{asked_at, of_command}
 use Rattle.gc_station.proofs.Timing.{asked_text, unsent_text}
 use Rattle.gc_station.proofs.Ticking.{not_none}
 use Rattle.gc_station.specs.Marks.{commands_in, record_of, records_of}
 use Rattle.gc_station.specs.Records.{Record}
-use Rattle.gc_station.proofs.Lists.{drop_append}
 
 -- the requests of one cycle for two lists of commands are those of the first list, and after them those of the second, from the
 -- next place on
@@ -80,7 +80,7 @@ pub cycles_append : (xs ys : List Request) → of_cycles (xs ++ ys) ≡ of_cycle
 cycles_append [] ys = refl
 cycles_append (x ∷ xs) ys = by_cycle (nat_eq x.cycle 0) (cycles_append xs ys) where
   -- the lemma above, whether the first request is of the setup (`true`) or of a cycle
-  by_cycle : (b : Bool) → of_cycles (xs ++ ys) ≡ of_cycles xs ++ of_cycles ys → cycle_with b x (of_cycles (xs ++ ys)) ≡ cycle_with b x (of_cycles xs) ++ of_cycles ys
+  by_cycle : (b : Bool) → of_cycles (xs ++ ys) ≡ of_cycles xs ++ of_cycles ys → with_unless b x (of_cycles (xs ++ ys)) ≡ with_unless b x (of_cycles xs) ++ of_cycles ys
   by_cycle true others = others
   by_cycle false others = ap (λ zs. x ∷ zs) others
 
@@ -93,7 +93,7 @@ cycles_all : (cycle place : ℕ) (asks : List (Wanted Asked)) → 0 < cycle → 
 cycles_all cycle place [] some = refl
 cycles_all cycle place (a ∷ others) some =
     let one : Request = record { cycle = cycle; place = place; asked = a } in
-    ap (λ b. cycle_with b one (of_cycles (requests cycle (place + 1) others))) (not_none cycle some) ∙ ap (λ xs. one ∷ xs) (cycles_all cycle (place + 1) others some)
+    ap (λ b. with_unless b one (of_cycles (requests cycle (place + 1) others))) (not_none cycle some) ∙ ap (λ xs. one ∷ xs) (cycles_all cycle (place + 1) others some)
 
 -- the requests of the records, followed by those of the outstanding commands (by the marks and the outstanding requests), are,
 -- as far as they are of a cycle, and as the text has them, the requests given last
@@ -194,7 +194,7 @@ each_prepared commands mark ms ws p rs sent none paired h =
     let one : Request = record { cycle = mark.cycle; place = mark.place; asked = of_pending p } in
     ap (of_text commands) (ap (λ xs. front ++ xs) (more_waiting ms ws (Some mark) p paired) ∙ sym (append_assoc front waits (one ∷ [])))
     ∙ listed_append commands (front ++ waits) (one ∷ [])
-    ∙ ap (λ n. of_text commands (front ++ waits) ++ map (in_text commands) (cycle_with (nat_eq n 0) one [])) none
+    ∙ ap (λ n. of_text commands (front ++ waits) ++ map (in_text commands) (with_unless (nat_eq n 0) one [])) none
     ∙ append-nil (of_text commands (front ++ waits)) ∙ h
 
 -- the first `place` commands have none after the first `setup`, if `place` is at most `setup`
@@ -218,7 +218,7 @@ sent_next setup commands (suc n) place task others at within some =
     let taken_len : length taken ≡ length (take place commands) - setup = length-map front of_task ∙ length-drop setup (take place commands) in
     let taken_at : setup + length taken ≡ place = omega (arith, taken_len, size, within) in
     let more : drop setup (take (place + 1) commands) ≡ front ++ task ∷ [] =
-    ap (drop setup) (take_next commands place task others at) ∙ drop_append setup (take place commands) (task ∷ []) (omega (arith, size, within)) in
+    ap (drop setup) (take_next commands place task others at) ∙ drop-append-le setup (take place commands) (task ∷ []) (omega (arith, size, within)) in
     append_assoc cycles (requests (suc n) setup taken) (requests (suc n) place one)
     ∙ ap (λ b. cycles ++ (requests (suc n) setup taken ++ requests (suc n) b one)) (sym taken_at)
     ∙ ap (λ xs. cycles ++ xs) (sym (requests-append (suc n) setup taken one))
@@ -227,7 +227,7 @@ sent_next setup commands (suc n) place task others at within some =
 -- a command that is sent preserves `EachIs`
 pub each_sent : (commands : List Task) (begun place utc : ℕ) (expected : Expected) (ms : List (Option Mark)) (ws : List (Pending Asked)) (p : Pending Asked) (rs : List Record)
     (task : Task) (others : List Task)
-    → length ms ≡ length ws → drop place commands ≡ task ∷ others → of_pending p ≡ asked_at utc task → 0 < begun
+    → (paired : length ms ≡ length ws) → (there : drop place commands ≡ task ∷ others) → (asks : of_pending p ≡ asked_at utc task) → (above : 0 < begun)
     → (kept : List Request) → EachIs commands ms ws rs kept
     → EachIs commands (ms ++ Some (record { cycle = begun; place = place; sent = utc; expected = expected }) ∷ []) (ws ++ p ∷ []) rs (kept ++ requests begun place (of_task task ∷ []))
 each_sent commands begun place utc expected ms ws p rs task others paired at is some kept h =
@@ -244,7 +244,7 @@ each_sent commands begun place utc expected ms ws p rs task others paired at is 
 
 -- a command that isn't sent preserves `EachIs`: its record is added after the others, and no command is outstanding then
 pub each_skipped : (commands : List Task) (begun place : ℕ) (ms : List (Option Mark)) (ws : List (Pending Asked)) (rs : List Record) (r : Record) (task : Task) (others : List Task)
-    → commands_in ms ≡ 0 → drop place commands ≡ task ∷ others → of_record r ∷ [] ≡ requests begun place (of_command task.command ∷ []) → 0 < begun
+    → (none : commands_in ms ≡ 0) → (there : drop place commands ≡ task ∷ others) → (own : of_record r ∷ [] ≡ requests begun place (of_command task.command ∷ [])) → (above : 0 < begun)
     → (kept : List Request) → EachIs commands ms ws rs kept → EachIs commands ms ws (rs ++ r ∷ []) (kept ++ requests begun place (of_task task ∷ []))
 each_skipped commands begun place ms ws rs r task others none at is some kept h =
     let one = requests begun place (of_command task.command ∷ []) in

@@ -4,6 +4,7 @@
 -- or `None` of a null procedure.
 use Rattle.std.proofs.Common.{◌≡◌, ℕ, ◌++◌, ◌-◌, ◌<◌, ◌⊎◌, inl, inr, ◌||◌, ◌&&◌, Bool, true, false, not, List, [], ◌∷◌, length, drop, map, nat_eq, Option, refl, sym, ap, ◌∙◌, subst, arith, append-nil, if◌then◌else◌}
 use Rattle.std.proofs.lemmas.List.{length-drop}
+use Rattle.std.proofs.lemmas.Bool.{both_ways}
 use Rattle.gc_catalogue.specs.declared.asked.Asked.TheVariants.{Table}
 use Rattle.gc_catalogue.specs.declared.call.Call.TheVariants.{NullProc}
 use Rattle.gc_texts.specs.declared.tasks.Task.{Task}
@@ -20,15 +21,15 @@ use Rattle.gc_station.specs.declared.progress.Progress.{Progress}
 use Rattle.gc_station.specs.declared.progress.Waiting.{Waiting}
 use Rattle.gc_links.specs.Acts.{Act, Told}
 use Rattle.gc_station.specs.Deciding.{later, has_begun, is_up}
-use Rattle.gc_station.specs.EachOnce.{EachOnce, Parted, Request, still_waiting, commands_reached, of_record, all_cycles, of_text}
+use Rattle.gc_station.specs.EachOnce.{EachOnce, Interleave, Request, still_waiting, commands_reached, of_record, all_cycles, of_text}
 use Rattle.gc_station.specs.Marks.{commands_in}
-use Rattle.gc_station.specs.Progressing.{turned, moment_noted, skipped_at, reckoned_early, cycle_begun, skipped, attempts_left_out, cleared, request_noted, null_sent, renewed, sent, is_over, is_over_in, setup_sent}
+use Rattle.gc_station.specs.Progressing.{turned, moment_noted, skipped_at, early_noted, cycle_begun, skipped, attempts_left_out, cleared, request_noted, null_sent, renewed, sent, is_over, is_over_in, setup_sent}
 use Rattle.gc_station.specs.Reasons.{HoldsBefore}
 use Rattle.gc_station.specs.Records.{Record}
 use Rattle.gc_station.specs.Runs.{state_after}
 use Rattle.gc_station.specs.Tasked.{EachRecordIsOfItsTask}
 use Rattle.gc_texts.specs.Endings.{Skipped, Missed}
-use Rattle.gc_station.specs.Model.{Model, opening, action_at, waiting_of, place_next, expected_first, mark_next, with_progress, asks_null, asks_first, asks_next, is_chained_after_next, others_after_next, is_chained_after, others_after, passes_next, with_passes, with_listed, skip_listed, after_pass, with_records, skips, skips_first, after_clock, moved, after, after_all, cycle_length, mark_setup, asks_or_null, asks_setup}
+use Rattle.gc_station.specs.Model.{Model, opening, action_at, waiting_of, place_next, expected_first, mark_next, with_progress, asks_null, asks_first, asks_next, is_chained_after_next, others_after_next, is_chained_after, others_after, next_left_out, with_passes, with_listed, listed_after_skip, after_pass, with_records, unsent_record, first_unsent_record, after_clock, moved, after, after_all, cycle_length, mark_setup, asks_or_null, asks_setup}
 use Rattle.gc_station.proofs.Acting.{mid_fail, mid_moment, mid_clock, mid_put, mid_open, mid_close, mid_read}
 use Rattle.gc_station.proofs.Each.{each_empty, sent_whole}
 use Rattle.gc_station.proofs.Facts.{action_for}
@@ -36,7 +37,6 @@ use Rattle.gc_station.proofs.Invariant.{Invariant, is_bare, says_done}
 use Rattle.gc_station.proofs.Midway.{Placed, Mid, mid_of, sound_null, sound_sent, sound_skipped, sound_passed, sound_begun, invariant_ended, sound_prepared}
 use Rattle.gc_station.proofs.Tasked.{at_place, unsent_end}
 use Rattle.gc_station.specs.Scopes.{Scope}
-use Rattle.gc_station.proofs.Ticking.{not_both}
 
 -- no records after the others preserve `Mid`
 mid_nothing : (plan : Plan) (commands : List Task) (s : Model) → Mid plan commands s → Mid plan commands (with_records [] s)
@@ -44,10 +44,11 @@ mid_nothing plan commands s mid = subst (λ (rs : List Record). Mid plan command
 
 -- the phase `Ready` is `Placed`: it says nothing of the counts, the kept bytes and the marks
 going_placed : (phase : Phase) (left unsent : ℕ) (rest : List ℕ) (marks : List (Option Mark)) → phase ≡ Ready → Placed phase left unsent rest marks
-going_placed phase left unsent rest marks is = record { empty = λ e. absurd (not_both (is_bare phase) e (ap is_bare is)); finished = λ e. absurd (not_both (says_done phase) e (ap says_done is)) }
+going_placed phase left unsent rest marks is = record { empty = λ e. absurd (both_ways (is_bare phase) (ap is_bare is) e); finished = λ e. absurd (both_ways (says_done phase) (ap says_done is) e) }
 
 -- the beginning of a cycle preserves `Mid`
-mid_begun : (plan : Plan) (commands : List Task) (s : Model) (m : Moment) → s.progress.phase ≡ Ready → s.progress.unsent ≡ 0 → commands_in s.marks ≡ 0 → 0 < s.progress.left → Mid plan commands s
+mid_begun : (plan : Plan) (commands : List Task) (s : Model) (m : Moment) → (is_ready : s.progress.phase ≡ Ready) → (none_unsent : s.progress.unsent ≡ 0) → (settled : commands_in s.marks ≡ 0)
+    → (some : 0 < s.progress.left) → Mid plan commands s
     → Mid plan commands (with_progress (cycle_begun plan (cycle_length plan commands) m) s)
 mid_begun plan commands s m is none settled some mid =
     let p = s.progress in (
@@ -73,8 +74,8 @@ mid_flushed plan commands s is room mid =
     )
 
 -- the first of these commands, if it is sent as the next one, preserves `Mid`
-mid_first : (plan : Plan) (commands : List Task) (next_is_chained : Bool) (behind : ℕ) (s : Model) (left : List Task) → drop (place_next commands s.progress) commands ≡ left
-    → s.progress.phase ≡ Ready → 0 < s.progress.unsent → length s.client.waiting < 7 → Mid plan commands s
+mid_first : (plan : Plan) (commands : List Task) (next_is_chained : Bool) (behind : ℕ) (s : Model) (left : List Task) → (there : drop (place_next commands s.progress) commands ≡ left)
+    → (is_ready : s.progress.phase ≡ Ready) → (some : 0 < s.progress.unsent) → (room : length s.client.waiting < 7) → Mid plan commands s
     → Mid plan commands (with_progress (sent next_is_chained behind) (asks_first (mark_next plan commands s.progress) left s))
 mid_first plan commands next_is_chained behind s [] at is some room mid =
     let sound = mid.0 in
@@ -111,10 +112,10 @@ mid_prepares plan commands s (task ∷ others) at is room mid =
     )
 
 -- the first of these commands, if it is left out as the next one, preserves `Mid`
-mid_skips : (plan : Plan) (commands : List Task) (next_is_chained : Bool) (behind : ℕ) (s : Model) (m : Moment) (left : List Task) → drop (place_next commands s.progress) commands ≡ left
-    → s.progress.phase ≡ Ready → 0 < s.progress.unsent → commands_in s.marks ≡ 0 → Mid plan commands s
-    → Mid plan commands (with_progress (λ p. reckoned_early plan (commands_in s.marks) (skipped next_is_chained behind m p))
-    (with_records (skips_first s.progress m (mark_next plan commands s.progress) left) s))
+mid_skips : (plan : Plan) (commands : List Task) (next_is_chained : Bool) (behind : ℕ) (s : Model) (m : Moment) (left : List Task) → (there : drop (place_next commands s.progress) commands ≡ left)
+    → (is_ready : s.progress.phase ≡ Ready) → (some : 0 < s.progress.unsent) → (settled : commands_in s.marks ≡ 0) → Mid plan commands s
+    → Mid plan commands (with_progress (λ p. early_noted plan (commands_in s.marks) (skipped next_is_chained behind m p))
+    (with_records (first_unsent_record s.progress m (mark_next plan commands s.progress) left) s))
 mid_skips plan commands next_is_chained behind s m [] at is some none mid =
     let sound = mid.0 in
     let n : length commands - place_next commands s.progress ≡ 0 = sym (length-drop (place_next commands s.progress) commands) ∙ ap length at in
@@ -129,11 +130,11 @@ mid_skips plan commands next_is_chained behind s m (task ∷ others) at is some 
 -- the next command, if it isn't sent, preserves `Mid`
 mid_skip : (plan : Plan) (commands : List Task) (next_is_chained : Bool) (behind : ℕ) (s : Model) (act : Act) → s.progress.phase ≡ Ready → 0 < s.progress.unsent
     → commands_in s.marks ≡ 0 → Mid plan commands s
-    → Mid plan commands (after_clock (λ m p. reckoned_early plan (commands_in s.marks) (skipped next_is_chained behind m p))
-    (with_listed (skip_listed plan commands s act) (with_records (skips plan commands s.progress act) s)) act)
+    → Mid plan commands (after_clock (λ m p. early_noted plan (commands_in s.marks) (skipped next_is_chained behind m p))
+    (with_listed (listed_after_skip plan commands s act) (with_records (unsent_record plan commands s.progress act) s)) act)
 mid_skip plan commands next_is_chained behind s (Told m) is some none mid =
-    mid_moment plan commands (with_progress (λ p. reckoned_early plan (commands_in s.marks) (skipped next_is_chained behind m p))
-    (with_listed (skip_listed plan commands s (Told m)) (with_records (skips plan commands s.progress (Told m)) s))) m
+    mid_moment plan commands (with_progress (λ p. early_noted plan (commands_in s.marks) (skipped next_is_chained behind m p))
+    (with_listed (listed_after_skip plan commands s (Told m)) (with_records (unsent_record plan commands s.progress (Told m)) s))) m
     (mid_skips plan commands next_is_chained behind s m (drop (place_next commands s.progress) commands) refl is some none mid)
 mid_skip plan commands next_is_chained behind s act is some none mid = mid_fail plan commands (with_records [] s) cause.Clock refl (mid_nothing plan commands s mid)
 
@@ -142,8 +143,8 @@ mid_pass : (plan : Plan) (commands : List Task) (s : Model) (act : Act) → s.pr
 mid_pass plan commands s (Told m) is some mid =
     let p = s.progress in
     let n = p.next_others in
-    mid_moment plan commands (with_progress (λ q. reckoned_early plan (commands_in s.marks) (attempts_left_out (is_chained_after n commands p) (others_after n commands p) m q))
-    (with_passes (passes_next plan commands p) s)) m (
+    mid_moment plan commands (with_progress (λ q. early_noted plan (commands_in s.marks) (attempts_left_out (is_chained_after n commands p) (others_after n commands p) m q))
+    (with_passes (next_left_out plan commands p) s)) m (
       sound_passed plan commands p.left p.unsent n s.client s.marks s.records s.passes some mid.0,
       going_placed p.phase p.left (p.unsent - n) s.rest s.marks is,
     )
@@ -160,10 +161,10 @@ close_done plan commands s w why fine for_it is = cc
 pub mid_moved : (plan : Plan) (commands : List Task) (s : Model) (action : Action) (act : Act) → Invariant plan commands s → HoldsBefore plan s.progress (waiting_of s) action
     → Mid plan commands (moved plan commands action (with_progress turned s) act)
 mid_moved plan commands s action.ReadClock act fine is =
-    let t = with_progress turned s in mid_clock plan commands (λ m p. reckoned_early plan (commands_in t.marks) (moment_noted m p)) t act (mid_of plan commands s fine)
+    let t = with_progress turned s in mid_clock plan commands (λ m p. early_noted plan (commands_in t.marks) (moment_noted m p)) t act (mid_of plan commands s fine)
     (λ m. mid_of plan commands s fine)
 mid_moved plan commands s action.Renew act fine is =
-    let t = with_progress turned s in mid_clock plan commands (λ m p. reckoned_early plan 0 (renewed plan m p)) t act (mid_of plan commands s fine) (λ m. mid_of plan commands s fine)
+    let t = with_progress turned s in mid_clock plan commands (λ m p. early_noted plan 0 (renewed plan m p)) t act (mid_of plan commands s fine) (λ m. mid_of plan commands s fine)
 mid_moved plan commands s action.Begin act fine is =
     let t = with_progress turned s in
     let mid = mid_of plan commands s fine in
@@ -204,7 +205,7 @@ pub invariant_all : (plan : Plan) (commands : List Task) (s : Model) (acts : Lis
 invariant_all plan commands s [] fine = fine
 invariant_all plan commands s (act ∷ acts) fine = invariant_all plan commands (after plan commands s act) acts (invariant_after plan commands s act fine)
 
--- a station that has done nothing has what every run keeps
+-- the invariant of every run holds at the start
 pub invariant_opening : (plan : Plan) (commands : List Task) (scope : Scope) → Invariant plan commands (opening plan scope)
 invariant_opening plan commands scope =
     let none : plan.cycles - plan.cycles ≡ 0 = omega arith in
@@ -219,12 +220,12 @@ invariant_opening plan commands scope =
       rest = λ e. refl;
       over = λ e. refl;
       finished = λ e. cc;
-      each = subst (λ (xs : List Request). Parted [] [] xs) (sym (ap (λ n. commands_reached plan.setup commands n (length commands - 0)) none)) (refl, refl);
+      each = subst (λ (xs : List Request). Interleave [] [] xs) (sym (ap (λ n. commands_reached plan.setup commands n (length commands - 0)) none)) (refl, refl);
       own = tt;
       tasked = tt;
     }
 
--- what every run keeps holds after all acts
+-- the invariant of every run holds after any acts
 pub invariant_holds : (plan : Plan) (commands : List Task) (scope : Scope) (acts : List Act) → Invariant plan commands (state_after plan commands scope acts)
 invariant_holds plan commands scope acts = invariant_all plan commands (opening plan scope) acts (invariant_opening plan commands scope)
 
@@ -239,10 +240,10 @@ stop_over plan p w why (down, inr turns) = either_way (is_over_in p.phase) (is_u
   either_way false false false d n = cc
   either_way false true none d n = cc
 
--- if a run stops nothing is outstanding, and the records are of the commands that had their turn, in order; if it stops as
--- done, no cycle and no command is left
+-- if a run stops nothing is outstanding, and the records, with the attempts that were left out (`passes`) between them, are of the
+-- commands that had their turn, in order; if it stops as done, no cycle and no command is left
 pub stopped : (plan : Plan) (commands : List Task) (s : Model) (why : Cause) → Invariant plan commands s → action_at plan s ≡ action.Stop why
-    → (s.client.waiting ≡ []) × Parted (of_text commands (map of_record s.records)) s.passes (commands_reached plan.setup commands (plan.cycles - s.progress.left) (place_next commands s.progress))
+    → (s.client.waiting ≡ []) × Interleave (of_text commands (map of_record s.records)) s.passes (commands_reached plan.setup commands (plan.cycles - s.progress.left) (place_next commands s.progress))
     × (why ≡ cause.Done → (s.progress.left ≡ 0) × (s.progress.unsent ≡ 0))
 stopped plan commands s why fine stop =
     let p = s.progress in
@@ -250,7 +251,7 @@ stopped plan commands s why fine stop =
     let is : HoldsBefore plan p w (action.Stop why) = subst (λ (o : Action). HoldsBefore plan p w o) stop (action_for plan p w) in
     let nothing = fine.over (stop_over plan p w why is) in (
       nothing,
-      subst (λ (xs : List Request). Parted xs s.passes (commands_reached plan.setup commands (plan.cycles - p.left) (place_next commands p)))
+      subst (λ (xs : List Request). Interleave xs s.passes (commands_reached plan.setup commands (plan.cycles - p.left) (place_next commands p)))
           (sym (each_empty commands s.marks s.client.waiting s.records (of_text commands (map of_record s.records ++ still_waiting s.marks s.client.waiting)) nothing refl)) fine.each,
       by_reason is.1,
     ) where
@@ -272,7 +273,7 @@ each_once plan commands scope acts =
           let none = it.2 refl in
           let cycles : plan.cycles - s.progress.left ≡ plan.cycles = omega (arith, none.0) in
           let place : place_next commands s.progress ≡ length commands = omega (arith, none.1) in
-          subst (λ (xs : List Request). Parted (of_text commands (map of_record s.records)) s.passes xs)
+          subst (λ (xs : List Request). Interleave (of_text commands (map of_record s.records)) s.passes xs)
           (sent_whole plan.setup commands (plan.cycles - s.progress.left) (place_next commands s.progress) place ∙ ap (all_cycles plan.setup commands) cycles) it.1;
     }
 

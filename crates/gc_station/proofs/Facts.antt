@@ -1,7 +1,7 @@
 -- What holds if an action is next: its conditions (`HoldsBefore`), whether the moment was read (`Timely`, `Wakes`), and that a
 -- request has room. `Holds` has all of these, and is shown once for each function that decides.
-use Rattle.std.proofs.Common.{◌≡◌, ℕ, ◌<◌, ◌≤◌, ◌⊎◌, ◌&&◌, ◌||◌, Bool, true, false, not, if◌then◌else◌, nat_lt, nat_le, nat_eq, refl, sym, ap, ◌∙◌, inl, inr, arith}
-use Rattle.std.proofs.lemmas.Bool.{ltb-true, ltb-false, leb-true, eqb-true}
+use Rattle.std.proofs.Common.{◌≡◌, ℕ, ◌<◌, ◌≤◌, ◌⊎◌, ◌&&◌, ◌||◌, Bool, true, false, not, nat_lt, nat_le, nat_eq, refl, sym, ap, ◌∙◌, inl, inr, arith}
+use Rattle.std.proofs.lemmas.Bool.{ltb-true, ltb-false, leb-true, eqb-true, not-true, and_parts, and_cases, not-false, false_from_ne_true, cond_both}
 use Rattle.std.proofs.lemmas.Bool.Decides.{nat_tests}
 use Rattle.gc_client.specs.declared.window.TheConstants.{WINDOW}
 use Rattle.gc_station.specs.declared.plan.Plan.{Plan}
@@ -15,30 +15,13 @@ use Rattle.gc_station.specs.declared.progress.Progress.{Progress}
 use Rattle.gc_station.specs.declared.progress.Until.TheVariants.{Limit, Due}
 use Rattle.gc_station.specs.declared.progress.Waiting.{Waiting}
 use Rattle.gc_station.specs.Reasons.{HoldsBefore, IsHeld, HasRoom, MayGo, MayRetry, NothingMayGo, IsResting, StaysInItsChain, HasConnectionFor, MayPrepare}
-use Rattle.gc_station.specs.Deciding.{width_of, has_begun, is_up, is_dead, is_due, is_idle, is_finished, has_room, action_of, action_in, action_on, action_of_phase, may_go, waits_for_all, action_again, action_ready, action_begun, action_beginning, action_sent, action_settled, action_done, action_next, action_room, action_waiting, action_without_turns, is_stale, is_between, is_resting, is_stopping, is_held_back, action_cycle, action_turn, action_preparing, is_preparing}
+use Rattle.gc_station.specs.Deciding.{width_of, has_begun, is_up, is_dead, is_due, is_idle, is_finished, has_room, action_of, action_in, action_on, action_of_phase, may_go, waits_for_all, action_again, action_ready, action_begun, action_beginning, action_sent, action_settled, action_done, action_next, action_room, action_waiting, action_without_turns, is_stale, is_between, is_resting, is_stopping, is_held_back, action_cycle, action_next_of_setup, action_preparing, is_preparing}
 use Rattle.gc_station.specs.Stations.{IsFitting}
-use Rattle.gc_station.proofs.Ticking.{not_true}
-
--- what holds of x if a test holds, and of y if it doesn't, holds of the one that the test chooses
-pub either : {A : Type 0} (P : A → Type 0) (x y : A) (t : Bool) → (t ≡ true → P x) → (t ≡ false → P y) → P (if t then x else y)
-either P x y true p q = p refl
-either P x y false p q = q refl
-
--- where both of two tests hold, each does
-pub both_true : (a b : Bool) → (a && b) ≡ true → (a ≡ true) × (b ≡ true)
-both_true true true e = (refl, refl)
-both_true true false e = cc
-both_true false b e = cc
 
 -- if one of two tests holds, and the second doesn't, the first does
-pub either_true : (a b : Bool) → (a || b) ≡ true → b ≡ false → a ≡ true
-either_true true b e none = refl
-either_true false b e none = cc
-
--- one of two tests holds, if the second does
-pub or_true : (a : Bool) → (a || true) ≡ true
-or_true true = refl
-or_true false = refl
+pub or_first : (a b : Bool) → (a || b) ≡ true → b ≡ false → a ≡ true
+or_first true b e none = refl
+or_first false b e none = cc
 
 -- a number that isn't above 0 is 0
 pub none_left : (n : ℕ) → nat_lt 0 n ≡ false → n ≡ 0
@@ -50,18 +33,7 @@ some_left n e = grind (arith, nat_tests, e)
 
 -- where `has_room` says so, there is room
 room_there : (plan : Plan) (w : Waiting) → has_room plan w ≡ true → HasRoom plan w
-room_there plan w e = let it = both_true (nat_lt w.current (width_of plan)) (nat_lt w.all WINDOW) e in (ltb-true w.current (width_of plan) it.0, ltb-true w.all WINDOW it.1)
-
--- if not both of two tests hold, one of them doesn't
-one_false : (a b : Bool) → (a && b) ≡ false → (a ≡ false) ⊎ (b ≡ false)
-one_false true true e = cc
-one_false true false e = inr refl
-one_false false b e = inl refl
-
--- if the negation of a test doesn't hold, the test does
-negated : (b : Bool) → not b ≡ false → b ≡ true
-negated true e = refl
-negated false e = cc
+room_there plan w e = let it = and_parts (nat_lt w.current (width_of plan)) (nat_lt w.all WINDOW) e in (ltb-true w.current (width_of plan) it.0, ltb-true w.all WINDOW it.1)
 
 -- if there is no room, no command may be sent
 no_room : (plan : Plan) (p : Progress) (w : Waiting) → (nat_lt w.current (width_of plan) ≡ false) ⊎ (nat_lt w.all WINDOW ≡ false) → NothingMayGo plan p w
@@ -116,13 +88,14 @@ awake_reads p (now, is) = (now, λ c. let other : Ready ≡ Clearing = sym is �
 abbrev SevenIfAllTimedOut : Waiting → Type 0
 SevenIfAllTimedOut w = w.current ≡ 0 → WINDOW ≤ w.all
 
--- `Holds` is true if a station waits
+-- for a station that is `Awake` and has synchronized `Holds` is true of `action_waiting`, if nothing may be sent (`NothingMayGo`), and
+-- seven requests are outstanding if all have timed out
 waits : (plan : Plan) (p : Progress) (w : Waiting) → Awake p → has_begun p ≡ true → NothingMayGo plan p w → SevenIfAllTimedOut w → Holds plan p w (action_waiting plan p w)
 waits plan p w awake begun nothing full =
     let P = Holds plan p w in
     let up = awake_up p awake in
-    either P (action.Close cause.Dead) _ (is_dead plan p w) (λ d. ((up, inr (nothing, d)), tt, inr awake))
-    (λ d. either P action.Renew (action.Read Limit) (nat_eq w.current 0)
+    cond_both (is_dead plan p w) (action.Close cause.Dead) _ P (λ d. ((up, inr (nothing, d)), tt, inr awake))
+    (λ d. cond_both (nat_eq w.current 0) action.Renew (action.Read Limit) P
     (λ e. let none = eqb-true w.current 0 e in ((awake.1, begun, none, full none), tt, awake)) (λ e. (tt, awake_reads p awake, tt)))
 
 -- at least one request may be in flight
@@ -138,17 +111,19 @@ no_room_full plan w (inr e) none = ltb-false w.all WINDOW e
 -- `Holds` is true of it, if it is true of o if there is room
 room_for : (plan : Plan) (p : Progress) (w : Waiting) (o : Action) → Awake p → has_begun p ≡ true → (HasRoom plan w → Holds plan p w o) → Holds plan p w (action_room plan p w o)
 room_for plan p w o awake begun step =
-    either (Holds plan p w) o _ (has_room plan w) (λ e. step (room_there plan w e))
-    (λ e. let none = one_false (nat_lt w.current (width_of plan)) (nat_lt w.all WINDOW) e in waits plan p w awake begun (no_room plan p w none) (no_room_full plan w none))
+    cond_both (has_room plan w) o _ (Holds plan p w) (λ e. step (room_there plan w e))
+    (λ e. let none = and_cases (nat_lt w.current (width_of plan)) (nat_lt w.all WINDOW) e in waits plan p w awake begun (no_room plan p w none) (no_room_full plan w none))
 
--- `Holds` is true if the next command may be sent
-next_for : (plan : Plan) (p : Progress) (w : Waiting) → Awake p → has_begun p ≡ true → 0 < p.unsent → MayGo p w → MayRetry p w → StaysInItsChain p → is_preparing plan p w ≡ false
+-- for a station that is `Awake` and has synchronized `Holds` is true of `action_next` with `Send`, if a command is unsent that may be sent
+-- (`MayGo`, `MayRetry`), it goes on with its chain if the end of the run was asked for, and the station isn't preparing
+next_for : (plan : Plan) (p : Progress) (w : Waiting) → (awake : Awake p) → (begun : has_begun p ≡ true) → (some : 0 < p.unsent) → (may : MayGo p w) → (retry : MayRetry p w)
+    → (stays : StaysInItsChain p) → (set_up : is_preparing plan p w ≡ false)
     → Holds plan p w (action_next plan p w action.Send)
 next_for plan p w awake begun some may retry stays ready =
     let P = Holds plan p w in
-    either P _ _ (nat_lt p.behind WINDOW)
+    cond_both (nat_lt p.behind WINDOW) _ _ P
     (λ near. room_for plan p w action.Send awake begun (λ room. ((awake.1, begun, some, room, may, ltb-true p.behind WINDOW near, retry, stays, ready), tt, awake)))
-    (λ far. let many = ltb-false p.behind WINDOW far in either P _ _ (nat_eq w.current 0)
+    (λ far. let many = ltb-false p.behind WINDOW far in cond_both (nat_eq w.current 0) _ _ P
     (λ given. room_for plan p w action.Flush awake begun (λ room. ((awake.1, begun, inr (inl (some, may), many), eqb-true w.current 0 given, room), tt, awake)))
     (λ current. let under = some_left w.current current in
     waits plan p w awake begun (inr (inr (inr (inr (inl (many, under)))))) (λ none. absurd (omega (arith, none, under)))))
@@ -159,19 +134,14 @@ next_for plan p w awake begun some may retry stays ready =
 abbrev IsInChainIfStopping : Progress → Type 0
 IsInChainIfStopping p = p.stops ≡ true → (0 < p.unsent) × (p.next_is_chained ≡ true) × (p.preparing ≡ false)
 
--- what isn't true is false
-pub never_true : (b : Bool) → (b ≡ true → ⊥) → b ≡ false
-never_true true never = absurd (never refl)
-never_true false never = refl
-
 -- if no command is left, the end of the run wasn't asked for
 none_asked : (p : Progress) → IsInChainIfStopping p → p.unsent ≡ 0 → p.stops ≡ false
-none_asked p only none = never_true p.stops (λ stops. let some = (only stops).0 in absurd (omega (arith, none, some)))
+none_asked p only none = false_from_ne_true p.stops (λ stops. let some = (only stops).0 in absurd (omega (arith, none, some)))
 
 -- if there is a connection, the station has synchronized, the end of the run was asked for, and neither does the run end nor is
 -- a further chain held back, the station isn't between two chains
-not_between : (stops up begun none between some : Bool) → up ≡ true → begun ≡ true → (stops && ((not up || not begun) || (none && between))) ≡ false
-    → ((stops && between) && some) ≡ false → (none ≡ false → some ≡ true) → stops ≡ true → between ≡ false
+not_between : (stops up begun none between some : Bool) → (connected : up ≡ true) → (synchronized : begun ≡ true) → (goes_on : (stops && ((not up || not begun) || (none && between))) ≡ false)
+    → (not_held : ((stops && between) && some) ≡ false) → (in_flight : none ≡ false → some ≡ true) → (asked : stops ≡ true) → between ≡ false
 not_between stops up begun none false some u b e f g is = refl
 not_between true true true true true some u b e f g is = cc
 not_between true true true false true true u b e f g is = cc
@@ -214,7 +184,7 @@ between_so n chained prepares e = by_test (nat_eq n 0) chained prepares refl e w
 resting_so : (p : Progress) (w : Waiting) → is_resting p w ≡ true → IsResting p w
 resting_so p w e = by_tests (is_up p.phase) (has_begun p) (nat_eq w.current 0) (is_between p) refl refl refl refl e where
   -- the lemma above, by each of its four tests
-  by_tests : (up begun none between : Bool) → is_up p.phase ≡ up → has_begun p ≡ begun → nat_eq w.current 0 ≡ none → is_between p ≡ between
+  by_tests : (up begun none between : Bool) → (up_is : is_up p.phase ≡ up) → (begun_is : has_begun p ≡ begun) → (none_is : nat_eq w.current 0 ≡ none) → (between_is : is_between p ≡ between)
       → ((not up || not begun) || (none && between)) ≡ true → IsResting p w
   by_tests false begun none between u b n t f = inl u
   by_tests true false none between u b n t f = inr (inl b)
@@ -228,21 +198,23 @@ has_one cause.Stale p up = tt
 has_one cause.Stopped p up = tt
 has_one why p up = up
 
--- `Holds` is true if a further chain is held back
+-- for a station that is `Awake` and has synchronized `Holds` is true of `action_waiting`, if a further chain is held back
 held_back_for : (plan : Plan) (p : Progress) (w : Waiting) → Awake p → has_begun p ≡ true → is_held_back p w ≡ true → Holds plan p w (action_waiting plan p w)
 held_back_for plan p w awake begun held =
-    let it = both_true (p.stops && is_between p) (nat_lt 0 w.current) held in
-    let asked = both_true p.stops (is_between p) it.0 in
+    let it = and_parts (p.stops && is_between p) (nat_lt 0 w.current) held in
+    let asked = and_parts p.stops (is_between p) it.0 in
     let under : 0 < w.current = ltb-true 0 w.current it.1 in
     waits plan p w awake begun (inr (inr (inr (inr (inr (asked.0, between_so p.unsent p.next_is_chained p.preparing asked.1, under)))))) (λ none. absurd (omega (arith, none, under)))
 
--- `Holds` is true if each command of the cycle is settled
-done_for : (plan : Plan) (p : Progress) (w : Waiting) → Awake p → has_begun p ≡ true → p.unsent ≡ 0 → w.commands ≡ 0 → p.stops ≡ false → is_preparing plan p w ≡ false
+-- for a station that is `Awake` and has synchronized `Holds` is true of `action_done`, if each command of the cycle is settled, the end of
+-- the run wasn't asked for, and it isn't preparing
+done_for : (plan : Plan) (p : Progress) (w : Waiting) → (awake : Awake p) → (begun : has_begun p ≡ true) → (none_unsent : p.unsent ≡ 0) → (settled : w.commands ≡ 0) → (unasked : p.stops ≡ false)
+    → (set_up : is_preparing plan p w ≡ false)
     → Holds plan p w (action_done plan p)
 done_for plan p w awake begun sent settled unasked ready =
     let P = Holds plan p w in
-    either P (action.Close cause.Done) _ (nat_eq p.left 0) (λ e. ((awake_up p awake, inr (eqb-true p.left 0 e, sent, settled)), tt, tt))
-    (λ e. either P action.Begin (action.Read Due) (is_due plan p) (λ d. ((awake.1, begun, sent, settled, some_left p.left e, unasked, ready), tt, tt)) (λ d. (tt, awake_reads p awake, tt)))
+    cond_both (nat_eq p.left 0) (action.Close cause.Done) _ P (λ e. ((awake_up p awake, inr (eqb-true p.left 0 e, sent, settled)), tt, tt))
+    (λ e. cond_both (is_due plan p) action.Begin (action.Read Due) P (λ d. ((awake.1, begun, sent, settled, some_left p.left e, unasked, ready), tt, tt)) (λ d. (tt, awake_reads p awake, tt)))
 
 -- if no command may be sent before those that are outstanding are settled (`IsHeld`), one is unsent, and it begins no further
 -- attempt, that one is chained
@@ -251,42 +223,48 @@ chained p (inl none) e first = let some : 0 < p.unsent = some_left p.unsent e in
 chained p (inr (inl next_is_chained)) e first = next_is_chained
 chained p (inr (inr more)) e first = absurd (omega (arith, more, first))
 
--- `Holds` is true if the next command begins a further attempt, and each command that was sent is settled
-again_for : (plan : Plan) (p : Progress) (w : Waiting) → Awake p → has_begun p ≡ true → 0 < p.unsent → w.commands ≡ 0 → 0 < p.next_others → StaysInItsChain p
-    → is_preparing plan p w ≡ false → Holds plan p w (action_again plan p w)
+-- for a station that is `Awake` and has synchronized `Holds` is true of `action_again`, if the next command begins a further attempt, each
+-- command that was sent is settled, the next one goes on with its chain if the end of the run was asked for, and it isn't preparing
+again_for : (plan : Plan) (p : Progress) (w : Waiting) → (awake : Awake p) → (begun : has_begun p ≡ true) → (some : 0 < p.unsent) → (settled : w.commands ≡ 0) → (more : 0 < p.next_others)
+    → (stays : StaysInItsChain p)
+    → (set_up : is_preparing plan p w ≡ false) → Holds plan p w (action_again plan p w)
 again_for plan p w awake begun some settled more stays ready =
-    either (Holds plan p w) _ action.Pass (w.listed && not p.next_is_chained)
-    (λ e. let it = both_true w.listed (not p.next_is_chained) e in
-    next_for plan p w awake begun some (inl (not_true p.next_is_chained it.1)) (inr (settled, it.0)) stays ready)
-    (λ e. ((awake.1, begun, some, settled, more, by_test (one_false w.listed (not p.next_is_chained) e), ready), tt, tt)) where
+    cond_both (w.listed && not p.next_is_chained) _ action.Pass (Holds plan p w)
+    (λ e. let it = and_parts w.listed (not p.next_is_chained) e in
+    next_for plan p w awake begun some (inl (not-true p.next_is_chained it.1)) (inr (settled, it.0)) stays ready)
+    (λ e. ((awake.1, begun, some, settled, more, by_test (and_cases w.listed (not p.next_is_chained) e), ready), tt, tt)) where
       -- why the attempt is left out, by which of the two tests fails
       by_test : ((w.listed ≡ false) ⊎ (not p.next_is_chained ≡ false)) → (w.listed ≡ false) ⊎ (p.next_is_chained ≡ true)
       by_test (inl none) = inl none
-      by_test (inr bound) = inr (negated p.next_is_chained bound)
+      by_test (inr bound) = inr (not-false p.next_is_chained bound)
 
--- `Holds` is true if each command that was sent is settled
-settled_for : (plan : Plan) (p : Progress) (w : Waiting) → Awake p → has_begun p ≡ true → IsHeld p → w.commands ≡ 0 → IsInChainIfStopping p → is_preparing plan p w ≡ false
+-- for a station that is `Awake` and has synchronized `Holds` is true of `action_settled`, if the next command waits for those before it
+-- (`IsHeld`), each command that was sent is settled, a chain goes on if the end of the run was asked for, and it isn't preparing
+settled_for : (plan : Plan) (p : Progress) (w : Waiting) → (awake : Awake p) → (begun : has_begun p ≡ true) → (held : IsHeld p) → (settled : w.commands ≡ 0) → (only : IsInChainIfStopping p)
+    → (set_up : is_preparing plan p w ≡ false)
     → Holds plan p w (action_settled plan p w)
 settled_for plan p w awake begun held settled only ready =
     let P = Holds plan p w in
-    either P _ _ (nat_eq p.unsent 0) (λ e. done_for plan p w awake begun (eqb-true p.unsent 0 e) settled (none_asked p only (eqb-true p.unsent 0 e)) ready)
-    (λ e. either P _ _ (nat_lt 0 p.next_others) (λ more. again_for plan p w awake begun (some_left p.unsent e) settled (ltb-true 0 p.next_others more) (λ stops. (only stops).1) ready)
-    (λ first. let none = none_left p.next_others first in either P _ action.Skip (may_go p w)
-    (λ well. let it = both_true w.well p.chain_unbroken well in next_for plan p w awake begun (some_left p.unsent e) (inr (settled, it.0, it.1)) (inl none) (λ stops. (only stops).1) ready)
+    cond_both (nat_eq p.unsent 0) _ _ P (λ e. done_for plan p w awake begun (eqb-true p.unsent 0 e) settled (none_asked p only (eqb-true p.unsent 0 e)) ready)
+    (λ e. cond_both (nat_lt 0 p.next_others) _ _ P (λ more. again_for plan p w awake begun (some_left p.unsent e) settled (ltb-true 0 p.next_others more) (λ stops. (only stops).1) ready)
+    (λ first. let none = none_left p.next_others first in cond_both (may_go p w) _ action.Skip P
+    (λ well. let it = and_parts w.well p.chain_unbroken well in next_for plan p w awake begun (some_left p.unsent e) (inr (settled, it.0, it.1)) (inl none) (λ stops. (only stops).1) ready)
     (λ broken. ((awake.1, begun, some_left p.unsent e, settled, chained p held e none, broken, ready), tt, tt))))
 
--- `Holds` is true if no command may be sent before those that are outstanding are settled
-sent_for : (plan : Plan) (p : Progress) (w : Waiting) → Awake p → has_begun p ≡ true → IsHeld p → IsInChainIfStopping p → is_preparing plan p w ≡ false → Holds plan p w (action_sent plan p w)
+-- for a station that is `Awake` and has synchronized `Holds` is true of `action_sent`, if the next command waits for those before it
+-- (`IsHeld`), a chain goes on if the end of the run was asked for, and it isn't preparing
+sent_for : (plan : Plan) (p : Progress) (w : Waiting) → (awake : Awake p) → (begun : has_begun p ≡ true) → (held : IsHeld p) → (only : IsInChainIfStopping p)
+    → (set_up : is_preparing plan p w ≡ false) → Holds plan p w (action_sent plan p w)
 sent_for plan p w awake begun held only ready =
     let P = Holds plan p w in
-    either P _ _ (nat_eq w.commands 0) (λ e. settled_for plan p w awake begun held (eqb-true w.commands 0 e) only ready)
-    (λ e. either P _ _ (nat_eq w.current 0)
+    cond_both (nat_eq w.commands 0) _ _ P (λ e. settled_for plan p w awake begun held (eqb-true w.commands 0 e) only ready)
+    (λ e. cond_both (nat_eq w.current 0) _ _ P
     (λ given. room_for plan p w action.Flush awake begun (λ room. ((awake.1, begun, inl (inl held, some_left w.commands e), eqb-true w.current 0 given, room), tt, awake)))
     (λ some. let many = some_left w.current some in waits plan p w awake begun (inr (inr (inr (inl (inl held, some_left w.commands e, many))))) (λ none. absurd (omega (arith, none, many)))))
 
 -- a command that may not be sent at once waits for those before it (`IsHeld`)
 held_so : (p : Progress) → (nat_lt 0 p.unsent && not (waits_for_all p)) ≡ false → IsHeld p
-held_so p e = by_half (one_false (nat_lt 0 p.unsent) (not (waits_for_all p)) e) where
+held_so p e = by_half (and_cases (nat_lt 0 p.unsent) (not (waits_for_all p)) e) where
   -- the lemma above for a command to wait for all, by which of the two tests holds: that it is chained, or that it begins a
   -- further attempt
   by_test : (b c : Bool) → p.next_is_chained ≡ b → nat_lt 0 p.next_others ≡ c → (b || c) ≡ true → IsHeld p
@@ -297,7 +275,7 @@ held_so p e = by_half (one_false (nat_lt 0 p.unsent) (not (waits_for_all p)) e) 
   -- the lemma above, by which of the two tests fails: that a command is unsent, or that it needn't wait
   by_half : ((nat_lt 0 p.unsent ≡ false) ⊎ (not (waits_for_all p) ≡ false)) → IsHeld p
   by_half (inl none) = inl (none_left p.unsent none)
-  by_half (inr waits) = by_test p.next_is_chained (nat_lt 0 p.next_others) refl refl (negated (waits_for_all p) waits)
+  by_half (inr waits) = by_test p.next_is_chained (nat_lt 0 p.next_others) refl refl (not-false (waits_for_all p) waits)
 
 -- a command that needn't wait for all isn't chained, and begins no further attempt
 free_both : (p : Progress) → not (waits_for_all p) ≡ true → (p.next_is_chained ≡ false) × (p.next_others ≡ 0)
@@ -308,11 +286,12 @@ free_both p e = by_test p.next_is_chained (nat_lt 0 p.next_others) refl refl e w
   by_test false true bound more e = cc
   by_test false false bound more e = (bound, none_left p.next_others more)
 
--- `Holds` is true once the station has synchronized and its setup is done
+-- `Holds` is true once the station has synchronized and its setup is done, if the end of the run wasn't asked for or the next
+-- command continues a chain that has begun (`IsInChainIfStopping`)
 cycle_for : (plan : Plan) (p : Progress) (w : Waiting) → Awake p → has_begun p ≡ true → IsInChainIfStopping p → is_preparing plan p w ≡ false → Holds plan p w (action_cycle plan p w)
 cycle_for plan p w awake begun only ready =
-    either (Holds plan p w) _ _ (nat_lt 0 p.unsent && not (waits_for_all p))
-    (λ some. let it = both_true (nat_lt 0 p.unsent) (not (waits_for_all p)) some in
+    cond_both (nat_lt 0 p.unsent && not (waits_for_all p)) _ _ (Holds plan p w)
+    (λ some. let it = and_parts (nat_lt 0 p.unsent) (not (waits_for_all p)) some in
     let free = free_both p it.1 in
     next_for plan p w awake begun (ltb-true 0 p.unsent it.0) (inl free.0) (inl free.1) (λ stops. (only stops).1) ready)
     (λ none. sent_for plan p w awake begun (held_so p none) only ready)
@@ -320,73 +299,77 @@ cycle_for plan p w awake begun only ready =
 -- what `is_finished` says: no cycle and no command is left, and none is outstanding
 pub finished_so : (commands : ℕ) (p : Progress) → is_finished commands p ≡ true → (p.left ≡ 0) × (p.unsent ≡ 0) × (commands ≡ 0)
 finished_so commands p e =
-    let it = both_true (nat_eq p.left 0 && nat_eq p.unsent 0) (nat_eq commands 0) e in
-    let sent = both_true (nat_eq p.left 0) (nat_eq p.unsent 0) it.0 in
+    let it = and_parts (nat_eq p.left 0 && nat_eq p.unsent 0) (nat_eq commands 0) e in
+    let sent = and_parts (nat_eq p.left 0) (nat_eq p.unsent 0) it.0 in
     (eqb-true p.left 0 sent.0, eqb-true p.unsent 0 sent.1, eqb-true commands 0 it.1)
 
--- `Holds` is true if the next command of the setup may be sent
+-- for a station that is `Awake` and has synchronized `Holds` is true of `action_next` with `Prepare`, if the next command of the setup may
+-- be sent (`MayPrepare`), and the end of the run wasn't asked for
 prepare_for : (plan : Plan) (p : Progress) (w : Waiting) → Awake p → has_begun p ≡ true → p.stops ≡ false → MayPrepare plan p w → Holds plan p w (action_next plan p w action.Prepare)
 prepare_for plan p w awake begun unasked may =
     let P = Holds plan p w in
-    either P _ _ (nat_lt p.behind WINDOW)
+    cond_both (nat_lt p.behind WINDOW) _ _ P
     (λ near. room_for plan p w action.Prepare awake begun (λ room. ((awake.1, begun, may, room, ltb-true p.behind WINDOW near, unasked), tt, awake)))
-    (λ far. let many = ltb-false p.behind WINDOW far in either P _ _ (nat_eq w.current 0)
+    (λ far. let many = ltb-false p.behind WINDOW far in cond_both (nat_eq w.current 0) _ _ P
     (λ given. room_for plan p w action.Flush awake begun (λ room. ((awake.1, begun, inr (inr may, many), eqb-true w.current 0 given, room), tt, awake)))
     (λ current. let under = some_left w.current current in
     waits plan p w awake begun (inr (inr (inr (inr (inl (many, under)))))) (λ none. absurd (omega (arith, none, under)))))
 
--- `Holds` is true if it is the turn of the next command of the setup
-turn_for : (plan : Plan) (p : Progress) (w : Waiting) → Awake p → has_begun p ≡ true → p.stops ≡ false → is_preparing plan p w ≡ true → (p.prepared ≡ 0) ⊎ ((w.commands ≡ 0) × (w.well ≡ true))
-    → Holds plan p w (action_turn plan p w)
+-- for a station that is `Awake` and has synchronized `Holds` is true of `action_next_of_setup`, if it is preparing, the next command of the
+-- setup is the first or those before it are settled and answered well, and the end of the run wasn't asked for
+turn_for : (plan : Plan) (p : Progress) (w : Waiting) → (awake : Awake p) → (begun : has_begun p ≡ true) → (unasked : p.stops ≡ false) → (preparing : is_preparing plan p w ≡ true)
+    → (turn : (p.prepared ≡ 0) ⊎ ((w.commands ≡ 0) × (w.well ≡ true)))
+    → Holds plan p w (action_next_of_setup plan p w)
 turn_for plan p w awake begun unasked on first =
-    either (Holds plan p w) _ (action.Read Limit) (nat_lt p.prepared plan.setup) (λ e. prepare_for plan p w awake begun unasked (on, ltb-true p.prepared plan.setup e, first))
+    cond_both (nat_lt p.prepared plan.setup) _ (action.Read Limit) (Holds plan p w) (λ e. prepare_for plan p w awake begun unasked (on, ltb-true p.prepared plan.setup e, first))
     (λ e. (tt, awake_reads p awake, tt))
 
--- `Holds` is true while the setup isn't done
+-- for a station that is `Awake` and has synchronized `Holds` is true of `action_preparing`, if it is preparing, and the end of the run
+-- wasn't asked for
 preparing_for : (plan : Plan) (p : Progress) (w : Waiting) → Awake p → has_begun p ≡ true → p.stops ≡ false → is_preparing plan p w ≡ true → Holds plan p w (action_preparing plan p w)
 preparing_for plan p w awake begun unasked on =
     let P = Holds plan p w in
-    either P (action.Close cause.Done) _ (is_finished w.commands p) (λ none. ((awake_up p awake, inr (finished_so w.commands p none)), tt, tt))
-    (λ more. either P (action.Read Due) _ (is_idle plan p) (λ idle. (tt, awake_reads p awake, tt))
-    (λ busy. either P _ _ (nat_eq p.prepared 0) (λ e. turn_for plan p w awake begun unasked on (inl (eqb-true p.prepared 0 e)))
-    (λ sent. either P _ _ (nat_eq w.commands 0) (λ e. either P _ (action.Close cause.SetUp) w.well (λ well. turn_for plan p w awake begun unasked on (inr (eqb-true w.commands 0 e, well)))
+    cond_both (is_finished w.commands p) (action.Close cause.Done) _ P (λ none. ((awake_up p awake, inr (finished_so w.commands p none)), tt, tt))
+    (λ more. cond_both (is_idle plan p) (action.Read Due) _ P (λ idle. (tt, awake_reads p awake, tt))
+    (λ busy. cond_both (nat_eq p.prepared 0) _ _ P (λ e. turn_for plan p w awake begun unasked on (inl (eqb-true p.prepared 0 e)))
+    (λ sent. cond_both (nat_eq w.commands 0) _ _ P (λ e. cond_both w.well _ (action.Close cause.SetUp) P (λ well. turn_for plan p w awake begun unasked on (inr (eqb-true w.commands 0 e, well)))
     (λ ill. ((awake_up p awake, inr (on, some_left p.prepared sent, eqb-true w.commands 0 e, ill)), tt, tt)))
-    (λ waiting. either P _ _ (nat_eq w.current 0)
+    (λ waiting. cond_both (nat_eq w.current 0) _ _ P
     (λ given. room_for plan p w action.Flush awake begun (λ room.
     ((awake.1, begun, inl (inr (on, some_left p.prepared sent), some_left w.commands waiting), eqb-true w.current 0 given, room), tt, awake)))
     (λ some. let many = some_left w.current some in
     waits plan p w awake begun (inr (inr (inr (inl (inr (on, some_left p.prepared sent), some_left w.commands waiting, many))))) (λ none. absurd (omega (arith, none, many))))))))
 
--- `Holds` is true once the station has synchronized
+-- `Holds` is true once the station has synchronized, unless the run ends because that was asked for (`is_stopping`)
 begun_for : (plan : Plan) (p : Progress) (w : Waiting) → Awake p → has_begun p ≡ true → is_stopping p w ≡ false → Holds plan p w (action_begun plan p w)
 begun_for plan p w awake begun goes =
-    either (Holds plan p w) (action_waiting plan p w) _ (is_held_back p w) (λ held. held_back_for plan p w awake begun held)
-    (λ free. let only = goes_only p w (awake_up p awake) begun goes free in either (Holds plan p w) _ _ (is_preparing plan p w)
-    (λ on. preparing_for plan p w awake begun (unasked only (both_true p.preparing _ on).0) on) (λ done. cycle_for plan p w awake begun only done)) where
+    cond_both (is_held_back p w) (action_waiting plan p w) _ (Holds plan p w) (λ held. held_back_for plan p w awake begun held)
+    (λ free. let only = goes_only p w (awake_up p awake) begun goes free in cond_both (is_preparing plan p w) _ _ (Holds plan p w)
+    (λ on. preparing_for plan p w awake begun (unasked only (and_parts p.preparing _ on).0) on) (λ done. cycle_for plan p w awake begun only done)) where
       -- while the setup isn't done, the end of the run wasn't asked for
       unasked : IsInChainIfStopping p → p.preparing ≡ true → p.stops ≡ false
-      unasked only on = never_true p.stops (λ stops. let ready = (only stops).2 in let both : true ≡ false = sym on ∙ ready in cc)
+      unasked only on = false_from_ne_true p.stops (λ stops. let ready = (only stops).2 in let both : true ≡ false = sym on ∙ ready in cc)
 
 -- `Holds` is true while the station synchronizes
 beginning_for : (plan : Plan) (p : Progress) (w : Waiting) → Awake p → has_begun p ≡ false → Holds plan p w (action_beginning plan p w)
 beginning_for plan p w awake begun =
     let P = Holds plan p w in
-    either P (action.Close cause.Done) _ (is_finished w.commands p) (λ none. ((awake_up p awake, inr (finished_so w.commands p none)), tt, tt))
-    (λ more. either P (action.Read Due) _ (is_idle plan p) (λ idle. (tt, awake_reads p awake, tt))
-    (λ busy. either P (action.Close cause.Dead) _ (is_dead plan p w) (λ d. ((awake_up p awake, inr (inl begun, d)), tt, inr awake))
-    (λ d. either P action.Ask (action.Read Limit) (nat_le p.again p.moment.elapsed)
+    cond_both (is_finished w.commands p) (action.Close cause.Done) _ P (λ none. ((awake_up p awake, inr (finished_so w.commands p none)), tt, tt))
+    (λ more. cond_both (is_idle plan p) (action.Read Due) _ P (λ idle. (tt, awake_reads p awake, tt))
+    (λ busy. cond_both (is_dead plan p w) (action.Close cause.Dead) _ P (λ d. ((awake_up p awake, inr (inl begun, d)), tt, inr awake))
+    (λ d. cond_both (nat_le p.again p.moment.elapsed) action.Ask (action.Read Limit) P
     (λ e. ((awake.1, begun, leb-true p.again p.moment.elapsed e, busy), tt, awake)) (λ e. (tt, awake_reads p awake, tt)))))
 
--- `Holds` is true in the phase `Ready`
+-- `Holds` is true in the phase `Ready`, unless the run ends because that was asked for (`is_stopping`)
 ready : (plan : Plan) (p : Progress) (w : Waiting) → Awake p → is_stopping p w ≡ false → Holds plan p w (action_ready plan p w)
-ready plan p w awake goes = either (Holds plan p w) _ _ (has_begun p) (λ begun. begun_for plan p w awake begun goes) (λ begun. beginning_for plan p w awake begun)
+ready plan p w awake goes = cond_both (has_begun p) _ _ (Holds plan p w) (λ begun. begun_for plan p w awake begun goes) (λ begun. beginning_for plan p w awake begun)
 
 -- a close for which the phase is set already is as `Wakes` says
 closing_wakes : (p : Progress) (why : Cause) → p.phase ≡ Closing why → Wakes p (action.Close why)
 closing_wakes p cause.Dead is = inl is
 closing_wakes p why is = tt
 
--- `Holds` is true in each phase, where turns are left and the moment was read
+-- `Holds` is true in each phase, if the moment was read, unless the run ends because that was asked for (`is_stopping`)
 told_for : (plan : Plan) (phase : Phase) (p : Progress) (w : Waiting) → p.phase ≡ phase → p.clock_due ≡ false → is_stopping p w ≡ false → Holds plan p w (action_of_phase plan phase p w)
 told_for plan Down p w is now goes = (is, now, tt)
 told_for plan Pausing p w is now goes = (tt, (now, λ c. let other : Pausing ≡ Clearing = sym is ∙ c in cc), tt)
@@ -396,20 +379,20 @@ told_for plan Ready p w is now goes = ready plan p w (now, is) goes
 told_for plan (Closing why) p w is now goes = ((has_one why p (ap is_up is), inl is), tt, closing_wakes p why is)
 told_for plan (Over why) p w is now goes = ((ap is_up is, inl is), tt, tt)
 
--- `Holds` is true if all turns are used up
+-- `Holds` is true of `action_without_turns` if all turns are used up
 up_for : (plan : Plan) (p : Progress) (w : Waiting) (up : Bool) → is_up p.phase ≡ up → p.turns ≡ 0 → Holds plan p w (action_without_turns up)
 up_for plan p w true is none = ((is, inr none), tt, tt)
 up_for plan p w false is none = ((is, inr (refl, none)), tt, tt)
 
--- `Holds` is true if the end isn't decided yet
+-- `Holds` is true of `action_on`
 on_for : (plan : Plan) (p : Progress) (w : Waiting) → Holds plan p w (action_on plan p w)
 on_for plan p w =
     let P = Holds plan p w in
-    either P _ _ (nat_eq p.turns 0) (λ e. up_for plan p w (is_up p.phase) refl (eqb-true p.turns 0 e))
-    (λ e. either P (action.Close cause.Stale) _ (is_stale plan p w) (λ old. ((tt, inr old), tt, tt))
-    (λ some. either P (action.Close cause.Stopped) _ (is_stopping p w)
-    (λ asked. let it = both_true p.stops (is_resting p w) asked in ((tt, inr (it.0, resting_so p w it.1)), tt, tt))
-    (λ goes. either P action.ReadClock _ p.clock_due (λ old. (tt, old, tt)) (λ now. told_for plan p.phase p w refl now goes))))
+    cond_both (nat_eq p.turns 0) _ _ P (λ e. up_for plan p w (is_up p.phase) refl (eqb-true p.turns 0 e))
+    (λ e. cond_both (is_stale plan p w) (action.Close cause.Stale) _ P (λ old. ((tt, inr old), tt, tt))
+    (λ some. cond_both (is_stopping p w) (action.Close cause.Stopped) _ P
+    (λ asked. let it = and_parts p.stops (is_resting p w) asked in ((tt, inr (it.0, resting_so p w it.1)), tt, tt))
+    (λ goes. cond_both p.clock_due action.ReadClock _ P (λ old. (tt, old, tt)) (λ now. told_for plan p.phase p w refl now goes))))
 
 -- `Holds` is true in each phase
 in_for : (plan : Plan) (phase : Phase) (p : Progress) (w : Waiting) → p.phase ≡ phase → Holds plan p w (action_in phase plan p w)

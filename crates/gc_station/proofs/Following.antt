@@ -13,7 +13,7 @@ use Rattle.gc_station.specs.declared.plan.Plan.{Plan}
 use Rattle.gc_links.specs.Acts.{Act}
 use Rattle.gc_station.specs.Deciding.{has_begun}
 use Rattle.gc_station.specs.Marks.{records_of}
-use Rattle.gc_station.specs.Parts.{Turn, Part, nothing, joined, acting, in_front, parts_of, sent_of}
+use Rattle.gc_station.specs.Parts.{Turn, Part, nothing, joined, part_of_act, in_front, parts_of, sent_of}
 use Rattle.gc_station.specs.Progressing.{turned, loses_all}
 use Rattle.gc_station.specs.Records.{Record}
 use Rattle.gc_station.specs.Model.{Model, action_at, waiting_of, with_progress, moved, losing, after, after_all, Runs}
@@ -23,7 +23,7 @@ use Rattle.gc_station.proofs.EachRun.{invariant_after, mid_moved}
 use Rattle.gc_station.proofs.Facts.{action_for}
 use Rattle.gc_station.proofs.Invariant.{Invariant}
 use Rattle.gc_station.proofs.Parting.{Leads, leads, keeps_action}
-use Rattle.gc_station.proofs.Readings.{moved_reads, ended_reads}
+use Rattle.gc_station.proofs.Readings.{moved_reads, losing_reads}
 use Rattle.gc_station.proofs.Records.{records-none}
 
 -- the steps of these parts, from this client, these marks and these records on, lead to the model `end`: after each part but
@@ -41,13 +41,13 @@ joined_assoc p q r =
     ∙ ap (λ (steps : List (Step Asked)). record { turns = p.turns ++ (q.turns ++ r.turns); steps = steps; marks = (p.marks ++ q.marks) ++ r.marks }) (append_assoc p.steps q.steps r.steps)
     ∙ ap (λ (marks : List (Option Mark)). record { turns = p.turns ++ (q.turns ++ r.turns); steps = p.steps ++ (q.steps ++ r.steps); marks = marks }) (append_assoc p.marks q.marks r.marks)
 
--- `BooksInParts` with one more part before it, after which the client restarts
+-- `BooksInParts` is preserved by one more part before the others, after which the client restarts
 follows_cut : (reads : Asked → List ℕ → Reading) (commands : List Task) (c : ById Asked) (ms : List (Option Mark)) (rs mid : List Record) (p : Part) (ps : List Part) (end : Model)
     → Books reads commands c ms rs (joined p restarting) fresh [] mid → BooksInParts reads commands fresh [] mid ps end → BooksInParts reads commands c ms rs (p ∷ ps) end
 follows_cut reads commands c ms rs mid p [] end h g = absurd g
 follows_cut reads commands c ms rs mid p (q ∷ ps) end h g = (mid, h, g)
 
--- `BooksInParts` with a part before it that is joined to the first of them
+-- `BooksInParts` is preserved by a part that is joined to the front of the first one
 follows_on : (reads : Asked → List ℕ → Reading) (commands : List Task) (c c1 : ById Asked) (ms ms1 : List (Option Mark)) (rs rs1 : List Record) (p : Part) (ps : List Part) (end : Model)
     → Books reads commands c ms rs p c1 ms1 rs1 → BooksInParts reads commands c1 ms1 rs1 ps end → BooksInParts reads commands c ms rs (in_front p false ps) end
 follows_on reads commands c c1 ms ms1 rs rs1 p [] end h g = absurd g
@@ -116,9 +116,10 @@ module _ (plan : Plan) (commands : List Task) (reads : Asked → List ℕ → Re
   -- an act leads from the model s to t by its part p, and the parts `ps` of later acts lead from the model after the act to
   -- `end`: then p and `ps` lead from s to `end` (`BooksInParts`). p is a part of its own if the station had synchronized and
   -- all that is outstanding is lost, and else the front of the first part of `ps`
-  one_more : (s : Model) (p : Part) (t : Model) (ps : List Part) (end : Model) (begun lost_all : Bool) → t.reads ≡ reads → has_begun s.progress ≡ begun → loses_all t.progress ≡ lost_all
-      → Invariant plan commands s → Invariant plan commands (losing (loses_all t.progress) t) → length t.marks ≡ length t.client.waiting
-      → LeadsBy reads commands s p t → (has_begun s.progress ≡ false → LeadsBy reads commands s p (losing (loses_all t.progress) t))
+  one_more : (s : Model) (p : Part) (t : Model) (ps : List Part) (end : Model) (begun lost_all : Bool) → (same_reads : t.reads ≡ reads) → (is_begun : has_begun s.progress ≡ begun)
+      → (is_lost : loses_all t.progress ≡ lost_all)
+      → (fine : Invariant plan commands s) → (fine_after : Invariant plan commands (losing (loses_all t.progress) t)) → (paired : length t.marks ≡ length t.client.waiting)
+      → (led : LeadsBy reads commands s p t) → (led_idle : has_begun s.progress ≡ false → LeadsBy reads commands s p (losing (loses_all t.progress) t))
       → (let u = losing (loses_all t.progress) t in BooksInParts reads commands u.client u.marks (sent_of u.records) ps end)
       → BooksInParts reads commands s.client s.marks (sent_of s.records) (in_front p (begun && lost_all) ps) end
   one_more s p t ps end false lost_all same w l fine later paired h k others =
@@ -147,7 +148,7 @@ module _ (plan : Plan) (commands : List Task) (reads : Asked → List ℕ → Re
   follows s (act ∷ acts) is_so fine runs =
       let o = action_at plan s in
       let is = action_for plan s.progress (waiting_of s) in
-      let p = acting plan commands s o act in
+      let p = part_of_act plan commands s o act in
       let t = moved plan commands o (with_progress turned s) act in
       let u = after plan commands s act in
       let ps = parts_of plan commands u acts in
@@ -158,4 +159,4 @@ module _ (plan : Plan) (commands : List Task) (reads : Asked → List ℕ → Re
       subst (λ b. BooksInParts reads commands s.client s.marks (sent_of s.records) (in_front p (has_begun s.progress && b) ps) end) (sym (ap loses_all (losing_progress (loses_all t.progress) t)))
       (one_more s p t ps end (has_begun s.progress) (loses_all t.progress) same refl refl fine later (mid_moved plan commands s o act fine is).0.paired h
       (λ w. leads_idly s p t same (keeps_action plan commands s o act is runs.0 w (fine.begins w)).0 h)
-      (follows u acts (ended_reads (loses_all t.progress) t ∙ same) later runs.1))
+      (follows u acts (losing_reads (loses_all t.progress) t ∙ same) later runs.1))

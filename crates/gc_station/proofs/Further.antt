@@ -14,7 +14,7 @@ use Rattle.gc_station.specs.Reasons.{HoldsBefore}
 use Rattle.gc_station.specs.Runs.{state_after}
 use Rattle.gc_station.specs.Model.{Model, cycle_length, opening, action_at, waiting_of, with_progress, moved, after, after_all}
 use Rattle.gc_station.proofs.Going.{after_all-append}
-use Rattle.gc_station.proofs.Counts.{Kept, Counts, moved_counts, ended_progress}
+use Rattle.gc_station.proofs.Counts.{KeepsCounts, Counts, moved_counts, ended_progress}
 use Rattle.gc_station.proofs.EachRun.{invariant_holds}
 use Rattle.gc_station.proofs.Facts.{action_for}
 use Rattle.gc_station.proofs.Invariant.{Invariant}
@@ -25,7 +25,7 @@ abbrev NotBack : Progress → Progress → Type 0
 NotBack p q = (q.left < p.left) ⊎ ((q.left ≡ p.left) × (q.unsent ≤ p.unsent))
 
 -- if the counts are kept, the progress doesn't go back
-not_back_if_kept : (p t q : Progress) → t.left ≡ p.left → t.unsent ≡ p.unsent → Kept t q → NotBack p q
+not_back_if_kept : (p t q : Progress) → t.left ≡ p.left → t.unsent ≡ p.unsent → KeepsCounts t q → NotBack p q
 not_back_if_kept p t q left unsent k = inr (k.left ∙ left, omega (arith, k.unsent, unsent))
 
 -- an act that changes the counts as `Counts` says doesn't go back, from before its turn is taken on
@@ -62,8 +62,8 @@ not_back_all plan commands s (act ∷ acts) = not_back_twice s.progress (after p
 
 -- after an act that makes one command less unsent (q), and further acts that don't go back (t), a station is further than before
 -- (s)
-further : (plan : Plan) (commands : List Task) (s t : Model) (q : Progress) → Invariant plan commands s → Invariant plan commands t → 0 < s.progress.unsent
-    → q.left ≡ s.progress.left → q.unsent ≡ s.progress.unsent - 1 → NotBack q t.progress → IsFurther plan commands s t
+further : (plan : Plan) (commands : List Task) (s t : Model) (q : Progress) → Invariant plan commands s → Invariant plan commands t → (some : 0 < s.progress.unsent)
+    → (left : q.left ≡ s.progress.left) → (unsent : q.unsent ≡ s.progress.unsent - 1) → NotBack q t.progress → IsFurther plan commands s t
 further plan commands s t q fine there some left unsent (inl less) = inl (omega (arith, less, left, fine.left, there.left))
 further plan commands s t q fine there some left unsent (inr same) =
     inr (ap (λ (n : ℕ). plan.cycles - n) (sym (same.0 ∙ left)), omega (arith, same.1, unsent, some, fine.unsent, there.unsent))

@@ -6,6 +6,7 @@ use Rattle.std.proofs.Common.{◌≡◌, ◌⊎◌, inl, inr, ℕ, ◌+◌, ◌-
 use Rattle.std.specs.Prelude.{slice_get}
 use Rattle.std.specs.List.{AllByRecursion}
 use Rattle.std.proofs.lemmas.List.{length-append}
+use Rattle.std.proofs.lemmas.Bool.{both_ways}
 use Rattle.gc_lines.specs.Frames.{rest_behind}
 use Rattle.gc_catalogue.specs.declared.asked.Asked.{Asked}
 use Rattle.gc_client.specs.OneForOne.{Step, Send, Hear, Expire, begun}
@@ -20,11 +21,11 @@ use Rattle.gc_station.specs.declared.progress.Action.TheVariants as action
 use Rattle.gc_station.specs.declared.progress.Progress.{Progress}
 use Rattle.gc_station.specs.Behind.{IsNearTheTable, CommandsAreSentNearTheTable}
 use Rattle.gc_station.specs.Deciding.{has_begun, is_none_left}
-use Rattle.gc_station.specs.Parts.{Part, joined, putting, asking_first, hearing, doing, beginning, acting, in_front, parts_of, asking_or_null}
+use Rattle.gc_station.specs.Parts.{Part, joined, put_part, first_request_part, heard_steps, client_part, sync_part, part_of_act, in_front, parts_of, request_or_null_part}
 use Rattle.gc_station.specs.Progressing.{one_more_in_window, turned, moment_noted, time_passed, loses_all}
 use Rattle.gc_station.specs.Reasons.{HoldsBefore}
 use Rattle.gc_station.specs.Model.{Model, opening, action_at, waiting_of, place_next, mark_next, is_heard, with_progress, with_moment, with_rest, line_came, lines_came, lines_completed, after_piece, moved, losing, after, Performs, Runs, mark_setup}
-use Rattle.gc_station.proofs.Behind.{behind_by, Counts, counts_steps, near_so, reached, course_append}
+use Rattle.gc_station.proofs.Behind.{behind_by, CountsBehind, counts_steps, near_so, reached, course_append}
 use Rattle.gc_station.proofs.Booking.{client_after, sent_by, course_sent, course_client, sent_append, of_length}
 use Rattle.gc_station.proofs.Counts.{losing_progress}
 use Rattle.gc_station.proofs.EachRun.{invariant_after, invariant_opening}
@@ -32,7 +33,6 @@ use Rattle.gc_station.proofs.Facts.{action_for}
 use Rattle.gc_station.proofs.Invariant.{Invariant}
 use Rattle.gc_station.proofs.Parting.{Leads, leads, keeps_action}
 use Rattle.gc_station.proofs.Walk.{quieted_along, closed_along, walk}
-use Rattle.gc_station.proofs.Ticking.{not_both}
 use Rattle.gc_station.proofs.Lists.{all_at, get_behind}
 use Rattle.gc_station.proofs.Asked.{steps_none, goes_begun}
 
@@ -44,33 +44,35 @@ lines_counted s [] = refl
 lines_counted s (line ∷ others) = lines_counted (line_came s line) others
 
 -- a piece changes the count as the steps that hear its lines do
-came_counted : (h : Bool) (word piece : List ℕ) (s : Model) → is_none_left word ≡ true → (after_piece h word piece s).progress.behind ≡ behind_by s.client s.progress.behind (hearing h s.rest piece)
+came_counted : (h : Bool) (word piece : List ℕ) (s : Model) → is_none_left word ≡ true
+    → (after_piece h word piece s).progress.behind ≡ behind_by s.client s.progress.behind (heard_steps h s.rest piece)
 came_counted true (asked ∷ others) piece s begun = cc
 came_counted true [] piece s begun = lines_counted (with_rest (rest_behind s.rest piece) s) (lines_completed s.rest piece)
 came_counted false word piece s begun = refl
 
 -- the step that sends the first of some commands counts one request more
-first_counted : (c : ById Asked) (b now : ℕ) (mark : Mark) (left : List Task) → 0 < length left → one_more_in_window b ≡ behind_by c b (asking_first now mark left).steps
+first_counted : (c : ById Asked) (b now : ℕ) (mark : Mark) (left : List Task) → 0 < length left → one_more_in_window b ≡ behind_by c b (first_request_part now mark left).steps
 first_counted c b now mark [] some = absurd (omega (arith, some))
 first_counted c b now mark (task ∷ others) some = refl
 
 -- the step that sends the first of some commands of the setup, or a null procedure if there is none, counts one request more
-setup_counted : (plan : Plan) (c : ById Asked) (b now : ℕ) (mark : Mark) (left : List Task) → one_more_in_window b ≡ behind_by c b (asking_or_null plan now mark left).steps
+setup_counted : (plan : Plan) (c : ById Asked) (b now : ℕ) (mark : Mark) (left : List Task) → one_more_in_window b ≡ behind_by c b (request_or_null_part plan now mark left).steps
 setup_counted plan c b now mark [] = refl
 setup_counted plan c b now mark (task ∷ others) = refl
 
 module _ (plan : Plan) (commands : List Task) where
   -- from s to t an act changes the count as the steps of its part do
   abbrev IsCounted : Action → Model → Act → Model → Type 0
-  IsCounted o s act t = t.progress.behind ≡ behind_by s.client s.progress.behind (doing plan commands s o act).steps
+  IsCounted o s act t = t.progress.behind ≡ behind_by s.client s.progress.behind (client_part plan commands s o act).steps
 
   -- once the station has synchronized, each act changes the count as the steps of its part do, unless the station resynchronizes
-  pub counted : (s : Model) (o : Action) (act : Act) → Invariant plan commands s → HoldsBefore plan s.progress (waiting_of s) o → Performs commands s o act → has_begun s.progress ≡ true
-      → has_begun (moved plan commands o (with_progress turned s) act).progress ≡ true → IsCounted o s act (moved plan commands o (with_progress turned s) act)
+  pub counted : (s : Model) (o : Action) (act : Act) → Invariant plan commands s → (needs : HoldsBefore plan s.progress (waiting_of s) o) → (performs : Performs commands s o act)
+      → (begun : has_begun s.progress ≡ true)
+      → (still : has_begun (moved plan commands o (with_progress turned s) act).progress ≡ true) → IsCounted o s act (moved plan commands o (with_progress turned s) act)
   counted s action.Renew (Told m) fine is obeys begun still = cc
   counted s action.Renew Untold fine is obeys begun still = refl
   counted s action.Renew act fine is obeys begun still = absurd obeys
-  counted s action.Ask act fine is obeys begun still = absurd (not_both (has_begun s.progress) begun is.1)
+  counted s action.Ask act fine is obeys begun still = absurd (both_ways (has_begun s.progress) is.1 begun)
   counted s action.Prepare act fine is obeys begun still =
       let one = setup_counted plan s.client s.progress.behind s.progress.moment.elapsed (mark_setup commands s.progress) (drop s.progress.prepared commands) in
       walk plan commands (IsCounted action.Prepare s) action.Prepare (with_progress turned s) act obeys (λ m. one, λ n. one)
@@ -113,7 +115,7 @@ hears_nothing [] = tt
 hears_nothing (line ∷ others) = (tt, hears_nothing others)
 
 -- a piece that is heard, or discarded, sends nothing
-hearing_nothing : (h : Bool) (rest piece : List ℕ) → AllByRecursion SendsNothing (hearing h rest piece)
+hearing_nothing : (h : Bool) (rest piece : List ℕ) → AllByRecursion SendsNothing (heard_steps h rest piece)
 hearing_nothing true rest piece = hears_nothing (lines_completed rest piece)
 hearing_nothing false rest piece = tt
 
@@ -129,12 +131,12 @@ module _ (plan : Plan) (commands : List Task) (s : Model) (k : ById Asked) (more
   GoesOut p = (p.steps ≡ front ++ Send target call deadline ∷ later) × (slice_get (p.marks ++ more) (length (sent_by k front)) ≡ Some (Some mark))
 
   -- if one of some commands is sent, it is the first
-  first_so : (now : ℕ) (its : Mark) (left : List Task) → GoesOut (asking_first now its left) → front ≡ []
+  first_so : (now : ℕ) (its : Mark) (left : List Task) → GoesOut (first_request_part now its left) → front ≡ []
   first_so now its [] h = absurd (no_send [] front later target call deadline tt h.0)
   first_so now its (task ∷ others) h = one_step _ front later target call deadline h.0
 
   -- if one of some commands of the setup is sent, or a null procedure for it, it is the first
-  setup_so : (now : ℕ) (its : Mark) (left : List Task) → GoesOut (asking_or_null plan now its left) → front ≡ []
+  setup_so : (now : ℕ) (its : Mark) (left : List Task) → GoesOut (request_or_null_part plan now its left) → front ≡ []
   setup_so now its [] h = one_step _ front later target call deadline h.0
   setup_so now its (task ∷ others) h = one_step _ front later target call deadline h.0
 
@@ -147,24 +149,24 @@ module _ (plan : Plan) (commands : List Task) (s : Model) (k : ById Asked) (more
   null_not e at = let first : ◌≡◌ {A = Option (Option Mark)} (Some None) (Some (Some mark)) = ap (λ l. slice_get ((None ∷ []) ++ more) (length (sent_by k l))) (sym e) ∙ at in cc
 
   -- an act that puts bytes, and with them a command, sends the next command
-  put_so : (o : Action) → GoesOut (putting plan commands s o) → (front ≡ []) × Sends o
+  put_so : (o : Action) → GoesOut (put_part plan commands s o) → (front ≡ []) × Sends o
   put_so action.Flush h = absurd (null_not (one_step _ front later target call deadline h.0) h.1)
   put_so action.Send h = (first_so s.progress.moment.elapsed (mark_next plan commands s.progress) (drop (place_next commands s.progress) commands) h, inl refl)
   put_so action.Prepare h = (setup_so s.progress.moment.elapsed (mark_setup commands s.progress) (drop s.progress.prepared commands) h, inr refl)
   put_so o h = absurd (no_send [] front later target call deadline tt h.0)
 
   -- an act at which a command is sent, once the station has synchronized, sends the next command
-  do_so : (o : Action) (act : Act) → GoesOut (doing plan commands s o act) → (front ≡ []) × Sends o
+  do_so : (o : Action) (act : Act) → GoesOut (client_part plan commands s o act) → (front ≡ []) × Sends o
   do_so o (Told m) h = absurd (no_send (Expire m.elapsed ∷ []) front later target call deadline (tt, tt) h.0)
   do_so o (Silent m) h = absurd (no_send (Expire m.elapsed ∷ []) front later target call deadline (tt, tt) h.0)
   do_so o (Gave piece m) h =
-      absurd (no_send (Expire m.elapsed ∷ hearing (is_heard s.progress.phase) s.rest piece) front later target call deadline (tt, hearing_nothing (is_heard s.progress.phase) s.rest piece) h.0)
+      absurd (no_send (Expire m.elapsed ∷ heard_steps (is_heard s.progress.phase) s.rest piece) front later target call deadline (tt, hearing_nothing (is_heard s.progress.phase) s.rest piece) h.0)
   do_so o (Put bytes) h = put_so o h
   do_so o (Cut bytes count) h = put_so o h
   do_so o act h = absurd (no_send [] front later target call deadline tt h.0)
 
   -- no command is sent while the station synchronizes
-  begin_not : (o : Action) (act : Act) → GoesOut (beginning s o act) → ⊥
+  begin_not : (o : Action) (act : Act) → GoesOut (sync_part s o act) → ⊥
   begin_not action.Ask (Put bytes) h = no_send [] front later target call deadline tt h.0
   begin_not action.Ask (Cut bytes count) h = no_send [] front later target call deadline tt h.0
   begin_not action.Ask act h = no_send [] front later target call deadline tt h.0
@@ -173,7 +175,7 @@ module _ (plan : Plan) (commands : List Task) (s : Model) (k : ById Asked) (more
   begin_not o act h = no_send [] front later target call deadline tt h.0
 
   -- an act at which a command is sent sends the next command
-  act_so : (o : Action) (act : Act) (b : Bool) → GoesOut (if b then doing plan commands s o act else beginning s o act) → (front ≡ []) × Sends o
+  act_so : (o : Action) (act : Act) (b : Bool) → GoesOut (if b then client_part plan commands s o act else sync_part s o act) → (front ≡ []) × Sends o
   act_so o act true h = do_so o act h
   act_so o act false h = absurd (begin_not o act h)
 
@@ -216,10 +218,10 @@ near_all (p ∷ ps) h = h
 
 module _ (plan : Plan) (commands : List Task) (s : Model) (o : Action) (act : Act) (done : List (Step Asked)) (fine : Invariant plan commands s)
     (is : HoldsBefore plan s.progress (waiting_of s) o) (obeys : Performs commands s o act) (client : s.client ≡ (reached done).client)
-    (counts : Counts (reached done) s.progress.behind) where
+    (counts : CountsBehind (reached done) s.progress.behind) where
   -- the client's part of the act
   abbrev p : Part
-  p = acting plan commands s o act
+  p = part_of_act plan commands s o act
 
   -- the act leads from its model to the next by its part
   led : Leads commands s p (moved plan commands o (with_progress turned s) act)
@@ -238,11 +240,11 @@ module _ (plan : Plan) (commands : List Task) (s : Model) (o : Action) (act : Ac
         by_action (inl sends) = (subst (λ (x : Action). HoldsBefore plan s.progress (waiting_of s) x) sends is).5
         by_action (inr prepares) = (subst (λ (x : Action). HoldsBefore plan s.progress (waiting_of s) x) prepares is).4
 
-  -- the marks of the act's requests are as many as these
+  -- the part of the act has as many marks as its steps send requests
   as_many : length p.marks ≡ length (sent_by (reached done).client p.steps)
   as_many = of_length commands p.marks (sent_by s.client p.steps) led.wrote.sent ∙ ap (λ (c : ById Asked). length (sent_by c p.steps)) client
 
-  -- the steps of the act, and then those of more
+  -- `IsNear` holds of the act's part joined with a part q, if it holds of q after the steps of the act
   joined_near : (q : Part) → IsNear (done ++ p.steps) q → IsNear done (joined p q)
   joined_near q h front later target call deadline mark e at = by_case (split p.steps q.steps front (Send target call deadline) later e) where
     -- the lemma above, whether the command is sent at the act or after it
@@ -270,8 +272,8 @@ module _ (plan : Plan) (commands : List Task) (s : Model) (o : Action) (act : Ac
   front_near [] h = (alone_near, tt)
   front_near (q ∷ ps) h = (joined_near q h.0, h.1)
 
--- a new client has sent nothing, so `Counts` holds of it with any count
-none_sent : (b : ℕ) → Counts (reached []) b
+-- a new client has sent nothing, so `CountsBehind` holds of it with any count
+none_sent : (b : ℕ) → CountsBehind (reached []) b
 none_sent b low = inl (omega arith)
 
 -- a client that is new stays new, whether what is outstanding is lost or not
@@ -279,10 +281,10 @@ new_client : (t : Model) (b : Bool) → t.client ≡ fresh → (losing b t).clie
 new_client t true e = refl
 new_client t false e = e
 
--- one act, and those after it, of which `next` is known
+-- one act more, before the parts `ps` of the acts after it
 module _ (plan : Plan) (commands : List Task) (s : Model) (act : Act) (done : List (Step Asked)) (fine : Invariant plan commands s)
     (obeys : Performs commands s (action_at plan s) act) (client : s.client ≡ (reached done).client) (new : has_begun s.progress ≡ false → done ≡ [])
-    (counts : Counts (reached done) s.progress.behind) (ps : List Part) where
+    (counts : CountsBehind (reached done) s.progress.behind) (ps : List Part) where
   -- the action that the act performs
   abbrev o : Action
   o = action_at plan s
@@ -293,7 +295,7 @@ module _ (plan : Plan) (commands : List Task) (s : Model) (act : Act) (done : Li
 
   -- the client's part of the act
   abbrev part : Part
-  part = acting plan commands s o act
+  part = part_of_act plan commands s o act
 
   -- the model after it, before what is outstanding is lost
   abbrev t : Model
@@ -303,9 +305,9 @@ module _ (plan : Plan) (commands : List Task) (s : Model) (act : Act) (done : Li
   abbrev u : Model
   u = losing (loses_all t.progress) t
 
-  -- the steps of the act's part, once the station has synchronized
-  part_is : (b : Bool) → has_begun s.progress ≡ b → part.steps ≡ (if b then doing plan commands s o act else beginning s o act).steps
-  part_is b w = ap (λ (x : Bool). (if x then doing plan commands s o act else beginning s o act).steps) w
+  -- the steps of the act's part, by whether the station has synchronized (b)
+  part_is : (b : Bool) → has_begun s.progress ≡ b → part.steps ≡ (if b then client_part plan commands s o act else sync_part s o act).steps
+  part_is b w = ap (λ (x : Bool). (if x then client_part plan commands s o act else sync_part s o act).steps) w
 
   -- the act changes the count as the steps of its part do
   part_counted : has_begun s.progress ≡ true → has_begun t.progress ≡ true → t.progress.behind ≡ behind_by (reached done).client s.progress.behind part.steps
@@ -320,7 +322,7 @@ module _ (plan : Plan) (commands : List Task) (s : Model) (act : Act) (done : Li
 
   -- if `AreNear` holds of the parts after the act, it holds with the act's part before them
   by_case : (started all : Bool) → has_begun s.progress ≡ started → loses_all t.progress ≡ all
-      → ((later : List (Step Asked)) → u.client ≡ (reached later).client → (has_begun u.progress ≡ false → later ≡ []) → Counts (reached later) u.progress.behind → AreNear later ps)
+      → ((later : List (Step Asked)) → u.client ≡ (reached later).client → (has_begun u.progress ≡ false → later ≡ []) → CountsBehind (reached later) u.progress.behind → AreNear later ps)
       → AreNear done (in_front part (started && all) ps)
   by_case true true w l next =
       (alone_near plan commands s o act done fine its obeys client counts, near_all ps (next [] (ap (λ b. (losing b t).client) l) (λ e. refl) (none_sent u.progress.behind)))
@@ -329,9 +331,9 @@ module _ (plan : Plan) (commands : List Task) (s : Model) (act : Act) (done : Li
       let still = goes_begun plan commands t l in
       front_near plan commands s o act done fine its obeys client counts ps
       (next (done ++ part.steps) (ap (λ (x : Model). x.client) same ∙ sym part_client)
-      (λ e. absurd (not_both (has_begun t.progress) still (ap (λ (x : Model). has_begun x.progress) (sym same) ∙ e)))
-      (subst (λ (x : Model). Counts (reached (done ++ part.steps)) x.progress.behind) (sym same)
-      (subst (λ (n : ℕ). Counts (reached (done ++ part.steps)) n) (sym (part_counted w still)) (counts_steps done part.steps s.progress.behind counts))))
+      (λ e. absurd (both_ways (has_begun t.progress) (ap (λ (x : Model). has_begun x.progress) (sym same) ∙ e) still))
+      (subst (λ (x : Model). CountsBehind (reached (done ++ part.steps)) x.progress.behind) (sym same)
+      (subst (λ (n : ℕ). CountsBehind (reached (done ++ part.steps)) n) (sym (part_counted w still)) (counts_steps done part.steps s.progress.behind counts))))
   by_case false all w l next =
       let kept = keeps_action plan commands s o act its obeys w (fine.begins w) in
       let steps : part.steps ≡ [] = part_is false w ∙ steps_none plan commands s o act in
@@ -342,13 +344,13 @@ module _ (plan : Plan) (commands : List Task) (s : Model) (act : Act) (done : Li
 
 module _ (plan : Plan) (commands : List Task) where
   -- wherever a command is sent, a call of the table is near that a reply ended
-  near_from : (s : Model) (acts : List Act) (done : List (Step Asked)) → Invariant plan commands s → Runs plan commands s acts → s.client ≡ (reached done).client
-      → (has_begun s.progress ≡ false → done ≡ []) → Counts (reached done) s.progress.behind → AreNear done (parts_of plan commands s acts)
+  near_from : (s : Model) (acts : List Act) (done : List (Step Asked)) → Invariant plan commands s → (runs : Runs plan commands s acts) → (same : s.client ≡ (reached done).client)
+      → (none_done : has_begun s.progress ≡ false → done ≡ []) → CountsBehind (reached done) s.progress.behind → AreNear done (parts_of plan commands s acts)
   near_from s [] done fine runs client new counts = ((λ front later target call deadline mark e at. absurd (no_send [] front later target call deadline tt e)), tt)
   near_from s (act ∷ acts) done fine runs client new counts =
       let t = moved plan commands (action_at plan s) (with_progress turned s) act in
       let ps = parts_of plan commands (after plan commands s act) acts in
-      subst (λ b. AreNear done (in_front (acting plan commands s (action_at plan s) act) (has_begun s.progress && b) ps)) (sym (ap loses_all (losing_progress (loses_all t.progress) t)))
+      subst (λ b. AreNear done (in_front (part_of_act plan commands s (action_at plan s) act) (has_begun s.progress && b) ps)) (sym (ap loses_all (losing_progress (loses_all t.progress) t)))
       (by_case plan commands s act done fine runs.0 client new counts ps (has_begun s.progress) (loses_all t.progress) refl refl
       (λ later. near_from (after plan commands s act) acts later (invariant_after plan commands s act fine) runs.1))
 

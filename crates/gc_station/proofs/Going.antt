@@ -22,7 +22,8 @@ use Rattle.gc_station.specs.Deciding.{action_of}
 use Rattle.gc_station.proofs.Counts.{unsent_within, ended_progress}
 use Rattle.gc_station.proofs.Growing.{losing_records, moved_grew}
 use Rattle.gc_station.proofs.Hearing.{tells_more}
-use Rattle.gc_station.proofs.Readings.{moved_reads, ended_reads, reads_as_in_scope, are_same}
+use Rattle.gc_station.proofs.Making.{refines_with}
+use Rattle.gc_station.proofs.Readings.{moved_reads, losing_reads, reads_as_in_scope, are_same}
 use Rattle.gc_station.proofs.Records.{part_grew, part_grows}
 use Rattle.gc_station.proofs.Turns.{left_to_do, less_stepped}
 use Rattle.gc_station.specs.Scopes.{Scope, AreReadings}
@@ -44,21 +45,6 @@ pub on_then : (action : Action) (claim other : Type 0) → (claim → other) →
 on_then (Stop cause) claim other step on = tt
 on_then action claim other step on = step on
 
--- a station that took a turn is as the model that took one
-pub refines_turned : (station : Station) (p : Progress) (s : Model) → p ≡ turned station.progress → Refines station s → Refines (record station { progress = p }) (with_progress turned s)
-refines_turned station p s e stands = record {
-  progress = e ∙ ap turned stands.progress;
-  ids = stands.ids;
-  width = stands.width;
-  marks = stands.marks;
-  paired = stands.paired;
-  assembles = stands.assembles;
-  tally = stands.tally;
-  well = stands.well;
-  listed = stands.listed;
-  fresh = stands.fresh;
-}
-
 -- a turn is an act and then, if the station has to, the loss of what is outstanding. If the act was made (`Makes`), and the
 -- loss wrote its records or the book failed at one of them (`ComesTo`), the whole turn was made, or the book failed in it
 -- (`Made`)
@@ -71,7 +57,7 @@ makes_step plan commands action text told told' taken taken' taken'' station mid
   act = makes.act;
   tells = makes.tells;
   goes = λ s start stands so.
-      let one = makes.goes (with_progress turned s) start (refines_turned station p s e stands) so in
+      let one = makes.goes (with_progress turned s) start (refines_with station p turned s stands e) so in
       let end = ends (moved plan commands action (with_progress turned s) makes.act) start one.1 one.2 in
       (turn_obeys commands action s makes.act one.0, end.0, end.1);
 }
@@ -79,7 +65,7 @@ makes_step plan commands action text told told' taken taken' taken'' station mid
   act = makes.act;
   tells = makes.tells;
   goes = λ s start stands so.
-      let one = makes.goes (with_progress turned s) start (refines_turned station p s e stands) so in
+      let one = makes.goes (with_progress turned s) start (refines_with station p turned s stands e) so in
       let mid : Model = moved plan commands action (with_progress turned s) makes.act in
       let part = ends mid start one.1 one.2 in (
         turn_obeys commands action s makes.act one.0,
@@ -98,11 +84,11 @@ breaks_step plan commands action text told told' taken taken' station p e breaks
   tells = breaks.tells;
   goes = λ s start stands so.
       let mid : Model = moved plan commands action (with_progress turned s) breaks.act in
-      let one = breaks.goes (with_progress turned s) start (refines_turned station p s e stands) so in
+      let one = breaks.goes (with_progress turned s) start (refines_with station p turned s stands e) so in
       let more = losing_records (loses_all mid.progress) mid in (
         turn_obeys commands action s breaks.act one.0,
         λ are. part_grows text s.records mid.records (ended mid).records start taken' more
-            (one.1 (are_same mid.reads (ended mid).reads (sym (ended_reads (loses_all mid.progress) mid)) are)),
+            (one.1 (are_same mid.reads (ended mid).reads (sym (losing_reads (loses_all mid.progress) mid)) are)),
       );
 }
 
@@ -110,7 +96,7 @@ breaks_step plan commands action text told told' taken taken' station p e breaks
 pub stepped_reads : (plan : Plan) (commands : List Task) (action : Action) (s : Model) (act : Act) → (stepped plan commands action s act).reads ≡ s.reads
 stepped_reads plan commands action s act =
     let mid : Model = moved plan commands action (with_progress turned s) act in
-    ended_reads (loses_all mid.progress) mid ∙ moved_reads plan commands action (with_progress turned s) act
+    losing_reads (loses_all mid.progress) mid ∙ moved_reads plan commands action (with_progress turned s) act
 
 -- Many turns.
 

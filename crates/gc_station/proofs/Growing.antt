@@ -10,7 +10,7 @@ use Rattle.gc_station.specs.declared.progress.Action.TheVariants as actions
 use Rattle.gc_links.specs.Acts.{Act, Told, Gave}
 use Rattle.gc_station.specs.Marks.{records_of}
 use Rattle.gc_station.specs.Progressing.{moment_noted}
-use Rattle.gc_station.specs.Model.{Model, is_heard, with_progress, with_moment, with_rest, line_came, lines_came, lines_completed, after_piece, skips, moved, losing}
+use Rattle.gc_station.specs.Model.{Model, is_heard, with_progress, with_moment, with_rest, line_came, lines_came, lines_completed, after_piece, unsent_record, moved, losing}
 use Rattle.gc_station.proofs.Records.{Grew, grew_none}
 use Rattle.gc_station.proofs.Walk.{moved_changed}
 
@@ -35,7 +35,7 @@ came_grew false word piece s = grew_none s.records
 
 -- an act only adds records
 pub moved_grew : (plan : Plan) (commands : List Task) (action : Action) (s : Model) (act : Act) → Grew s.records (moved plan commands action s act).records
-moved_grew plan commands actions.Skip s (Told m) = (skips plan commands s.progress (Told m), refl)
+moved_grew plan commands actions.Skip s (Told m) = (unsent_record plan commands s.progress (Told m), refl)
 moved_grew plan commands actions.Skip s act = ([], refl)
 moved_grew plan commands (actions.Read until) s (Gave bytes m) = came_grew (is_heard s.progress.phase) s.progress.word bytes (with_moment m (with_progress (moment_noted m) s))
 moved_grew plan commands (actions.Read until) s act = grew_none s.records

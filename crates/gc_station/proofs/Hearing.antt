@@ -35,13 +35,14 @@ use Rattle.gc_station.specs.declared.station.Station.{Station}
 use Rattle.gc_station.specs.Attempts.{listed_by}
 use Rattle.gc_station.specs.Marks.{commands_in, records_of, last_well, fresh_after}
 use Rattle.gc_station.specs.Deciding.{is_none_left}
-use Rattle.gc_station.specs.Progressing.{caught_up, line_noted, bytes_noted, reckoned_early, after_failure, closed, lines_synchronizing, line_synchronizing}
+use Rattle.gc_station.specs.Progressing.{caught_up, line_noted, bytes_noted, early_noted, after_failure, closed, lines_synchronizing, line_synchronizing}
 use Rattle.gc_station.specs.Records.{Record, texts_of, WritesPart, WritesAll}
 use Rattle.gc_station.specs.Model.{Model, line_came, lines_came, lines_completed, with_rest, with_progress, with_moment, waiting_of, settles, piece_came, piece_synchronizing, after_piece}
 use Rattle.gc_station.specs.Stations.{waiting_in, Refines, Took, TookPart, ComesTo}
 use Rattle.gc_station.specs.Scopes.{AreReadings}
 use Rattle.gc_station.specs.Tallies.{nothing_yet, tallied}
 use Rattle.gc_station.proofs.Growing.{lines_records}
+use Rattle.gc_station.proofs.Making.{refines_with}
 use Rattle.gc_station.proofs.Readings.{lines_reads, are_same}
 use Rattle.gc_station.proofs.Records.{Grew, grew_then, part_grew, part_grows, tallied-append, last-append}
 
@@ -219,12 +220,18 @@ abbrev pub UpdatesFresh : Station → Station → List (Settlement Asked) → Ty
 UpdatesFresh mid new xs = (reads : Asked → List ℕ → Reading) → AreReadings reads
     → new.fresh ≡ fresh_after mid.progress.moment.elapsed mid.fresh (records_of reads mid.progress.moment.utc mid.marks.items xs)
 
+-- between these two stations the marks of `count` settlements were taken out; of the other fields, only those changed that records
+-- change
+abbrev pub TakesMarks : Station → Station → ℕ → Type 0
+TakesMarks mid new count =
+    new ≡ record mid { marks = record { items = drop count mid.marks.items }; tally = new.tally; well = new.well; listed = new.listed; fresh = new.fresh }
+
 -- if the records of settlements were written, the station is as the model after them
 pub settles_ok : (text : Record → List ℕ) (old mid new : Station) (s : Model) (x : Settled Asked (ById Asked)) (xs : List (Settlement Asked)) (n : ℕ) (start taken' : Option (List ℕ))
-    → Refines old s → Between old mid x.client → xs ≡ x.settlements → n ≡ length x.settlements → StayPaired s.marks x
-    → (AreReadings s.reads → Appends start taken' (texts_of text (s.records ++ records_of s.reads mid.progress.moment.utc mid.marks.items xs)))
-    → new ≡ record mid { marks = record { items = drop n mid.marks.items }; tally = new.tally; well = new.well; listed = new.listed; fresh = new.fresh }
-    → UpdatesTally mid new xs → UpdatesWell mid new xs → UpdatesListed mid new xs → UpdatesFresh mid new xs
+    → (stands : Refines old s) → (between : Between old mid x.client) → (same : xs ≡ x.settlements) → (many : n ≡ length x.settlements) → (paired : StayPaired s.marks x)
+    → (wrote : AreReadings s.reads → Appends start taken' (texts_of text (s.records ++ records_of s.reads mid.progress.moment.utc mid.marks.items xs)))
+    → (takes : TakesMarks mid new n)
+    → (counts : UpdatesTally mid new xs) → (minds : UpdatesWell mid new xs) → (lists : UpdatesListed mid new xs) → (freshens : UpdatesFresh mid new xs)
     → Refines new (settles x s) × Took text start taken' (settles x s)
 settles_ok text old mid new s x xs n start taken' stands between e many paired wrote is counts minds lists freshens =
     let added : List Record = records_of s.reads mid.progress.moment.utc mid.marks.items xs in
@@ -260,10 +267,11 @@ settles_part text old mid s x xs start taken' stands between e wrote are =
 -- if the records of settlements were written the station is as the model after them; or the book failed at one of them
 pub settles_either : {X E : Type 0} (text : Record → List ℕ) (old mid new : Station) (s : Model) (x : Settled Asked (ById Asked)) (xs : List (Settlement Asked)) (n : ℕ)
     (start taken' : Option (List ℕ)) (result : Result X E)
-    → Refines old s → Between old mid x.client → xs ≡ x.settlements → n ≡ length x.settlements → StayPaired s.marks x
-    → (AreReadings s.reads → WritesAll text s.records (s.records ++ records_of s.reads mid.progress.moment.utc mid.marks.items xs) start taken' result)
-    → OnOk result (new ≡ record mid { marks = record { items = drop n mid.marks.items }; tally = new.tally; well = new.well; listed = new.listed; fresh = new.fresh })
-    → OnOk result (UpdatesTally mid new xs) → OnOk result (UpdatesWell mid new xs) → OnOk result (UpdatesListed mid new xs) → OnOk result (UpdatesFresh mid new xs)
+    → (stands : Refines old s) → (between : Between old mid x.client) → (same : xs ≡ x.settlements) → (many : n ≡ length x.settlements) → (paired : StayPaired s.marks x)
+    → (wrote : AreReadings s.reads → WritesAll text s.records (s.records ++ records_of s.reads mid.progress.moment.utc mid.marks.items xs) start taken' result)
+    → (takes : OnOk result (TakesMarks mid new n))
+    → (counts : OnOk result (UpdatesTally mid new xs)) → (minds : OnOk result (UpdatesWell mid new xs))
+    → (lists : OnOk result (UpdatesListed mid new xs)) → (freshens : OnOk result (UpdatesFresh mid new xs))
     → ComesTo text s.records new start taken' (settles x s) result
 settles_either text old mid new s x xs n start taken' (Ok r) stands between e many paired wrote is counts minds lists freshens =
     settles_ok text old mid new s x xs n start taken' stands between e many paired wrote is counts minds lists freshens
@@ -279,34 +287,13 @@ tells_more (Some a) (Some b) (Some c) xs ys p q = q ∙ ap (λ zs. zs ++ ys) p �
 -- a station that noted whether a line was a reply is as the model that noted it
 pub with_noted : (mid : Station) (p : Progress) (b b' : Bool) (s : Model) → Refines mid s → b ≡ b' → p ≡ line_noted b mid.progress
     → Refines (record mid { progress = p }) (with_progress (line_noted b') s)
-with_noted mid p b b' s stands e is = record {
-  progress = is ∙ ap (λ t. line_noted t mid.progress) e ∙ ap (line_noted b') stands.progress;
-  ids = stands.ids;
-  width = stands.width;
-  marks = stands.marks;
-  paired = stands.paired;
-  assembles = stands.assembles;
-  tally = stands.tally;
-  well = stands.well;
-  listed = stands.listed;
-  fresh = stands.fresh;
-}
+with_noted mid p b b' s stands e is = refines_with mid p (line_noted b') s stands (is ∙ ap (λ t. line_noted t mid.progress) e)
 
 -- a station that noted what a line settled is as the model that noted it
 pub with_caught : (mid : Station) (p : Progress) (t t' : Bool) (n n' : ℕ) (s : Model) → Refines mid s → t ≡ t' → n ≡ n' → p ≡ caught_up t n mid.progress
     → Refines (record mid { progress = p }) (with_progress (caught_up t' n') s)
-with_caught mid p t t' n n' s stands e f is = record {
-  progress = is ∙ ap (λ b. caught_up b n mid.progress) e ∙ ap (λ m. caught_up t' m mid.progress) f ∙ ap (caught_up t' n') stands.progress;
-  ids = stands.ids;
-  width = stands.width;
-  marks = stands.marks;
-  paired = stands.paired;
-  assembles = stands.assembles;
-  tally = stands.tally;
-  well = stands.well;
-  listed = stands.listed;
-  fresh = stands.fresh;
-}
+with_caught mid p t t' n n' s stands e f is =
+    refines_with mid p (caught_up t' n') s stands (is ∙ ap (λ b. caught_up b n mid.progress) e ∙ ap (λ m. caught_up t' m mid.progress) f)
 
 -- a station whose requests timed out at a moment is as the model at that moment
 pub refines_expired : (station : Station) (p q : Progress) (client : Windowed Asked) (fresh : ℕ) (m : Moment) (s : Model) → Refines station s → p ≡ q
@@ -335,14 +322,14 @@ pub commands_same : (station : Station) (s : Model) → Refines station s → (w
 commands_same station s stands = ap commands_in stands.marks
 
 -- what a piece settled is counted alike from equal progresses, where as many requests and commands are outstanding
-pub reckoned_same : (plan : Plan) (until : Until) (b b' : ℕ) (w w' : Waiting) (p p' : Progress) → b ≡ b' → w.all ≡ w'.all → w.commands ≡ w'.commands → p ≡ p'
-    → reckoned_early plan w.commands (bytes_noted plan until b w p) ≡ reckoned_early plan w'.commands (bytes_noted plan until b' w' p')
-reckoned_same plan until b b' w w' p p' eb ea ec ep =
+pub early_noted_same : (plan : Plan) (until : Until) (b b' : ℕ) (w w' : Waiting) (p p' : Progress) → b ≡ b' → w.all ≡ w'.all → w.commands ≡ w'.commands → p ≡ p'
+    → early_noted plan w.commands (bytes_noted plan until b w p) ≡ early_noted plan w'.commands (bytes_noted plan until b' w' p')
+early_noted_same plan until b b' w w' p p' eb ea ec ep =
     ap (λ x. early x w.all w.commands p) eb ∙ ap (λ x. early b' x w.commands p) ea ∙ ap (λ x. early b' w'.all x p) ec ∙ ap (λ x. early b' w'.all w'.commands x) ep where
       -- the progress once what a piece settled was counted, by how many commands were outstanding before the piece, and how
       -- many requests and commands are outstanding after it
       early : ℕ → ℕ → ℕ → Progress → Progress
-      early before all commands p = reckoned_early plan commands (bytes_noted plan until before (record { all = all; current = 0; commands = commands; well = false; listed = false; fresh = 0 }) p)
+      early before all commands p = early_noted plan commands (bytes_noted plan until before (record { all = all; current = 0; commands = commands; well = false; listed = false; fresh = 0 }) p)
 
 -- a close makes equal progresses of equal ones, where as many commands are outstanding
 pub closed_same : (plan : Plan) (w w' : Waiting) (why : Cause) (p p' : Progress) → w.commands ≡ w'.commands → p ≡ p' → closed plan w why p ≡ closed plan w' why p'

@@ -1,10 +1,10 @@
 -- A text without raw commands is never held up: if each command is a call of the table, the requests sent after the last call of
 -- the table that a reply ended are as many as the outstanding ones. An act is one call on the link, with its result; steps of the
 -- client are to send, to hear a line, to read the clock and to restart.
-use Rattle.std.proofs.Common.{◌≡◌, ℕ, zero, suc, ◌+◌, ◌-◌, ◌<◌, ◌≤◌, ◌&&◌, Bool, true, false, List, [], ◌∷◌, length, map, drop, Option, Some, None, refl, sym, ap, ◌∙◌, subst, arith, if◌then◌else◌, nat_lt, nat_eq, length-drop}
+use Rattle.std.proofs.Common.{◌≡◌, ℕ, zero, suc, ◌+◌, ◌-◌, ◌<◌, ◌≤◌, Bool, true, false, List, [], ◌∷◌, length, map, drop, Option, Some, None, refl, sym, ap, ◌∙◌, subst, arith, if◌then◌else◌, nat_lt, nat_eq, length-drop}
 use Rattle.std.specs.Prelude.{slice_get}
 use Rattle.std.specs.List.{AllByRecursion}
-use Rattle.std.proofs.lemmas.Bool.{ltb-true, ltb-false, eqb-true}
+use Rattle.std.proofs.lemmas.Bool.{ltb-true, ltb-false, eqb-true, both_ways, and_right}
 use Rattle.std.proofs.lemmas.Bool.Decides.{nat_tests}
 use Rattle.std.proofs.lemmas.List.{length-map, length-append}
 use Rattle.gc_catalogue.specs.Asked.{is_of_table}
@@ -28,14 +28,14 @@ use Rattle.gc_station.specs.declared.progress.Progress.{Progress}
 use Rattle.gc_station.specs.declared.progress.Waiting.{Waiting}
 use Rattle.gc_station.specs.Behind.{AreOfTable, TheTableIsNeverHeldUp}
 use Rattle.gc_station.specs.Deciding.{has_begun, is_none_left, action_next, action_room, action_waiting, width_of}
-use Rattle.gc_station.specs.Parts.{putting, asking_first, hearing, doing, beginning, acting, asking_or_null}
+use Rattle.gc_station.specs.Parts.{put_part, first_request_part, heard_steps, client_part, sync_part, part_of_act, request_or_null_part}
 use Rattle.gc_station.specs.Progressing.{one_more_in_window, turned, moment_noted, time_passed, is_over, loses_all}
 use Rattle.gc_station.specs.Reasons.{HoldsBefore}
 use Rattle.gc_station.specs.Runs.{state_after}
 use Rattle.gc_station.specs.Model.{Model, opening, action_at, waiting_of, place_next, mark_next, is_some_of_table, ends_with_table, is_heard, with_progress, with_moment, with_rest, lines_completed, after_piece, moved, losing, after, Performs, mark_setup}
 use Rattle.gc_station.proofs.Always.{always}
 use Rattle.gc_station.proofs.Behind.{behind_by, behind_step}
-use Rattle.gc_station.proofs.Booking.{stepped, client_after}
+use Rattle.gc_station.proofs.Booking.{stepped, client_after, course_at}
 use Rattle.gc_station.proofs.Counts.{losing_progress}
 use Rattle.gc_station.proofs.EachRun.{invariant_holds}
 use Rattle.gc_station.proofs.Facts.{action_for}
@@ -46,7 +46,6 @@ use Rattle.gc_station.proofs.Parting.{leads, keeps_action}
 use Rattle.gc_station.proofs.Turns.{over_stays}
 use Rattle.gc_station.proofs.Walk.{asked_along, quieted_along, closed_along, walk}
 use Rattle.gc_station.proofs.Words.{renews_only}
-use Rattle.gc_station.proofs.Ticking.{not_both}
 use Rattle.gc_station.proofs.Losing.{loses_nothing}
 use Rattle.gc_station.proofs.Lists.{all_drop, all_append}
 
@@ -63,7 +62,8 @@ SendsTableCalls (Hear line) = Unit {0}
 SendsTableCalls (Expire now) = Unit {0}
 SendsTableCalls Restart = ⊥
 
--- only calls of the table wait at a client, seven at most, and as many as these
+-- only calls of the table wait at the client c, at most seven, and `b`, which counts the requests after the last call of the table
+-- that a reply ended, is how many wait
 record Level (c : ById Asked) (b : ℕ) : Type 0 where
   tables : AllByRecursion IsTableCall c.waiting
   few : length c.waiting ≤ 7
@@ -90,7 +90,7 @@ more_is n low = by_test (nat_lt n WINDOW) refl where
 
 -- a send to a window that isn't full preserves `Level`; one to a full window changes nothing
 level_sent : (c : ById Asked) (b target : ℕ) (call : Asked) (deadline : ℕ) → is_of_table call ≡ true → Level c b → (full : Bool) → nat_eq (length c.waiting) 7 ≡ full
-    → Level (sent_on (record { sent = []; settlements = []; client = c }) target call (id_send c target call deadline full)).client (one_more_in_window b)
+    → Level (sent_on (course_at c) target call (id_send c target call deadline full)).client (one_more_in_window b)
 level_sent c b target call deadline table h true e =
     let seven = eqb-true (length c.waiting) 7 e in
     let same : one_more_in_window b ≡ length c.waiting = ap one_more_in_window (h.same ∙ seven) ∙ sym seven in
@@ -151,7 +151,7 @@ hears_tables [] = tt
 hears_tables (line ∷ others) = (tt, hears_tables others)
 
 -- the steps for a piece, which is heard or discarded, send calls of the table alone, as they send nothing
-hearing_tables : (h : Bool) (rest piece : List ℕ) → AllByRecursion SendsTableCalls (hearing h rest piece)
+hearing_tables : (h : Bool) (rest piece : List ℕ) → AllByRecursion SendsTableCalls (heard_steps h rest piece)
 hearing_tables true rest piece = hears_tables (lines_completed rest piece)
 hearing_tables false rest piece = tt
 
@@ -164,18 +164,19 @@ table_at task utc is = by_clock task.now where
   by_clock false = is
 
 -- the step that sends the first of these commands sends a call of the table, if all of them are
-first_tables : (now : ℕ) (mark : Mark) (left : List Task) → AreOfTable left → AllByRecursion SendsTableCalls (asking_first now mark left).steps
+first_tables : (now : ℕ) (mark : Mark) (left : List Task) → AreOfTable left → AllByRecursion SendsTableCalls (first_request_part now mark left).steps
 first_tables now mark [] all = tt
 first_tables now mark (task ∷ others) all = (table_at task mark.sent all.0, tt)
 
--- the same for the first of these commands of the setup, or the null procedure that is sent if there is none
-setup_tables : (plan : Plan) (now : ℕ) (mark : Mark) (left : List Task) → AreOfTable left → AllByRecursion SendsTableCalls (asking_or_null plan now mark left).steps
+-- the step that sends the first of these commands of the setup, or a null procedure if there is none, sends a call of the table, if
+-- all of them are
+setup_tables : (plan : Plan) (now : ℕ) (mark : Mark) (left : List Task) → AreOfTable left → AllByRecursion SendsTableCalls (request_or_null_part plan now mark left).steps
 setup_tables plan now mark [] all = (refl, tt)
 setup_tables plan now mark (task ∷ others) all = (table_at task mark.sent all.0, tt)
 
 module _ (plan : Plan) (commands : List Task) (all : AreOfTable commands) where
   -- an act that puts bytes sends calls of the table alone
-  put_tables : (s : Model) (o : Action) → AllByRecursion SendsTableCalls (putting plan commands s o).steps
+  put_tables : (s : Model) (o : Action) → AllByRecursion SendsTableCalls (put_part plan commands s o).steps
   put_tables s action.Flush = (refl, tt)
   put_tables s action.Prepare =
       setup_tables plan s.progress.moment.elapsed (mark_setup commands s.progress) (drop s.progress.prepared commands)
@@ -186,7 +187,7 @@ module _ (plan : Plan) (commands : List Task) (all : AreOfTable commands) where
   put_tables s o = tt
 
   -- an act sends calls of the table alone
-  do_tables : (s : Model) (o : Action) (act : Act) → AllByRecursion SendsTableCalls (doing plan commands s o act).steps
+  do_tables : (s : Model) (o : Action) (act : Act) → AllByRecursion SendsTableCalls (client_part plan commands s o act).steps
   do_tables s o (Told m) = (tt, tt)
   do_tables s o (Silent m) = (tt, tt)
   do_tables s o (Gave piece m) = (tt, hearing_tables (is_heard s.progress.phase) s.rest piece)
@@ -196,7 +197,7 @@ module _ (plan : Plan) (commands : List Task) (all : AreOfTable commands) where
 
   -- what every run of calls of the table keeps. `behind` counts the requests after the last call of the table that a reply ended:
   -- while the station synchronizes it is 0; afterwards, until the run is over, it is the number of outstanding requests
-  record Free (s : Model) : Type 0 where
+  record CountsWaiting (s : Model) : Type 0 where
     begins : has_begun s.progress ≡ false → s.progress.behind ≡ 0
     level : has_begun s.progress ≡ true → is_over s.progress ≡ false → Level s.client s.progress.behind
 
@@ -213,12 +214,12 @@ module _ (plan : Plan) (commands : List Task) (all : AreOfTable commands) where
   -- while the station synchronizes, an act leaves the count at 0
   none_behind : (s : Model) (o : Action) (act : Act) → HoldsBefore plan s.progress (waiting_of s) o → Performs commands s o act → has_begun s.progress ≡ false → s.progress.behind ≡ 0
       → NoneBehind act (moved plan commands o (with_progress turned s) act)
-  none_behind s action.Renew act is obeys begins e = absurd (not_both (has_begun s.progress) is.1 begins)
-  none_behind s action.Begin act is obeys begins e = absurd (not_both (has_begun s.progress) is.1 begins)
-  none_behind s action.Prepare act is obeys begins e = absurd (not_both (has_begun s.progress) is.1 begins)
-  none_behind s action.Send act is obeys begins e = absurd (not_both (has_begun s.progress) is.1 begins)
-  none_behind s action.Skip act is obeys begins e = absurd (not_both (has_begun s.progress) is.1 begins)
-  none_behind s action.Flush act is obeys begins e = absurd (not_both (has_begun s.progress) is.1 begins)
+  none_behind s action.Renew act is obeys begins e = absurd (both_ways (has_begun s.progress) begins is.1)
+  none_behind s action.Begin act is obeys begins e = absurd (both_ways (has_begun s.progress) begins is.1)
+  none_behind s action.Prepare act is obeys begins e = absurd (both_ways (has_begun s.progress) begins is.1)
+  none_behind s action.Send act is obeys begins e = absurd (both_ways (has_begun s.progress) begins is.1)
+  none_behind s action.Skip act is obeys begins e = absurd (both_ways (has_begun s.progress) begins is.1)
+  none_behind s action.Flush act is obeys begins e = absurd (both_ways (has_begun s.progress) begins is.1)
   none_behind s action.Ask act is obeys begins e = walk plan commands NoneBehind action.Ask (with_progress turned s) act obeys (λ m. refl, λ n. refl)
   none_behind s (action.Read until) act is obeys begins e =
       walk plan commands NoneBehind (action.Read until) (with_progress turned s) act obeys (
@@ -244,7 +245,7 @@ module _ (plan : Plan) (commands : List Task) (all : AreOfTable commands) where
   kept_client : (t : Model) → has_begun t.progress ≡ true → is_over t.progress ≡ false → (losing (loses_all t.progress) t).client ≡ t.client
   kept_client t begun going = ap (λ (b : Bool). (losing b t).client) (loses_nothing (has_begun t.progress) (is_over t.progress) begun going)
 
-  module _ (s : Model) (act : Act) (fine : Invariant plan commands s) (obeys : Performs commands s (action_at plan s) act) (h : Free s) where
+  module _ (s : Model) (act : Act) (fine : Invariant plan commands s) (obeys : Performs commands s (action_at plan s) act) (h : CountsWaiting s) where
     -- the action that the act performs
     abbrev o : Action
     o = action_at plan s
@@ -265,12 +266,13 @@ module _ (plan : Plan) (commands : List Task) (all : AreOfTable commands) where
     same_progress : u.progress ≡ t.progress
     same_progress = losing_progress (loses_all t.progress) t
 
-    -- the act so far, at a synchronized station
+    -- `Level` holds after the act, before what is outstanding is lost, if the station has synchronized before it and after it, and
+    -- the run wasn't over before it
     moves : has_begun s.progress ≡ true → has_begun t.progress ≡ true → is_over s.progress ≡ false → Level t.client t.progress.behind
     moves begun still going =
-        let steps = (doing plan commands s o act).steps in
+        let steps = (client_part plan commands s o act).steps in
         let led = leads plan commands s o act fine its obeys in
-        let part : (acting plan commands s o act).steps ≡ steps = ap (λ (b : Bool). (if b then doing plan commands s o act else beginning s o act).steps) begun in
+        let part : (part_of_act plan commands s o act).steps ≡ steps = ap (λ (b : Bool). (if b then client_part plan commands s o act else sync_part s o act).steps) begun in
         let client : client_after s.client steps ≡ t.client = ap (client_after s.client) (sym part) ∙ led.client in
         subst (λ (c : ById Asked). Level c t.progress.behind) client
         (subst (λ (n : ℕ). Level (client_after s.client steps) n) (sym (counted plan commands s o act fine its obeys begun still))
@@ -281,9 +283,9 @@ module _ (plan : Plan) (commands : List Task) (all : AreOfTable commands) where
     wasnt_over true e = absurd (over_stays plan commands s act e obeys)
     wasnt_over false e = e
 
-    -- `Free` holds after the act, by whether the station had synchronized before
-    free_so : (b : Bool) → has_begun s.progress ≡ b → Free u
-    free_so true begun = record {
+    -- `CountsWaiting` holds after the act, by whether the station had synchronized before
+    counts_waiting_so : (b : Bool) → has_begun s.progress ≡ b → CountsWaiting u
+    counts_waiting_so true begun = record {
       begins = λ anew.
           let it = renews_only plan commands s o act obeys begun (sym (ap has_begun same_progress) ∙ anew) in
           ap (λ (p : Progress). p.behind) same_progress ∙ renewed_none s o act it.1 it.0 it.2;
@@ -293,7 +295,7 @@ module _ (plan : Plan) (commands : List Task) (all : AreOfTable commands) where
           subst (λ (c : ById Asked). Level c u.progress.behind) (sym (kept_client t now on))
           (subst (λ (p : Progress). Level t.client p.behind) (sym same_progress) (moves begun now (wasnt_over (is_over s.progress) refl)));
     }
-    free_so false begins =
+    counts_waiting_so false begins =
         let none = none_behind s o act its obeys begins (h.begins begins) in
         let kept = keeps_action plan commands s o act its obeys begins (fine.begins begins) in
         record {
@@ -306,17 +308,13 @@ module _ (plan : Plan) (commands : List Task) (all : AreOfTable commands) where
               (subst (λ (n : ℕ). Level fresh n) (sym (ap (λ (p : Progress). p.behind) same_progress ∙ none)) (record { tables = tt; few = omega arith; same = refl }));
         }
 
-  -- each act preserves `Free`
-  free_after : (s : Model) (act : Act) → Invariant plan commands s → Performs commands s (action_at plan s) act → Free s → Free (after plan commands s act)
-  free_after s act fine obeys h = free_so s act fine obeys h (has_begun s.progress) refl
+  -- each act preserves `CountsWaiting`
+  counts_waiting_after : (s : Model) (act : Act) → Invariant plan commands s → Performs commands s (action_at plan s) act → CountsWaiting s → CountsWaiting (after plan commands s act)
+  counts_waiting_after s act fine obeys h = counts_waiting_so s act fine obeys h (has_begun s.progress) refl
 
 -- if the window is full, no request is sent
 full_waits : (plan : Plan) (p : Progress) (w : Waiting) (o : Action) → nat_lt w.all WINDOW ≡ false → action_room plan p w o ≡ action_waiting plan p w
-full_waits plan p w o full = ap (λ (b : Bool). if b then o else action_waiting plan p w) (both_false (nat_lt w.current (width_of plan)) (nat_lt w.all WINDOW) full) where
-  -- if one of two tests fails, not both hold
-  both_false : (a b : Bool) → b ≡ false → (a && b) ≡ false
-  both_false true b e = e
-  both_false false b e = refl
+full_waits plan p w o full = ap (λ (b : Bool). if b then o else action_waiting plan p w) (and_right (nat_lt w.current (width_of plan)) (nat_lt w.all WINDOW) full)
 
 -- if as many requests were sent after the last call of the table that a reply ended (`behind`) as are outstanding, the command
 -- `o`, which may be sent, is sent as soon as there is room
@@ -338,8 +336,8 @@ sends_on plan p w o e = by_test (nat_lt p.behind WINDOW) refl where
 pub never_held_up : TheTableIsNeverHeldUp
 never_held_up plan commands scope acts runs all begun going =
     let s = state_after plan commands scope acts in
-    let free : Free plan commands all s = always plan commands (opening plan scope) (λ (done : List Act) (t : Model). Free plan commands all t)
-    (λ done act before obeys h. free_after plan commands all (state_after plan commands scope done) act (invariant_holds plan commands scope done) obeys h)
+    let free : CountsWaiting plan commands all s = always plan commands (opening plan scope) (λ (done : List Act) (t : Model). CountsWaiting plan commands all t)
+    (λ done act before obeys h. counts_waiting_after plan commands all (state_after plan commands scope done) act (invariant_holds plan commands scope done) obeys h)
     (record { begins = λ e. refl; level = λ e f. cc }) acts runs in
     let level = free.level begun going in
     (level.same, sends_on plan s.progress (waiting_of s) action.Send level.same, sends_on plan s.progress (waiting_of s) action.Prepare level.same)

@@ -9,10 +9,9 @@ mod Closings
 mod Connected
 mod Counts
 pub mod Each
-mod Parted
+mod Interleaving
 pub mod EachRun
 pub mod Facts
-mod Fieldless
 mod Faulty
 pub mod Invariant
 pub mod Following

@@ -5,6 +5,8 @@
 use Rattle.std.proofs.Common.{◌≡◌, ◌⊎◌, inl, inr, ℕ, zero, suc, ◌+◌, ◌-◌, ◌<◌, ◌≤◌, Bool, true, false, List, [], ◌∷◌, ◌++◌, length, drop, Option, Some, if◌then◌else◌, refl, sym, ◌∙◌, ap, subst, arith, append_assoc, append-nil}
 use Rattle.std.specs.Prelude.{slice_get, unwrap_or}
 use Rattle.std.proofs.lemmas.List.{length-drop, append_cancel_left}
+use Rattle.std.proofs.lemmas.Option.{none-some, same_Some}
+use Rattle.gc_lines.proofs.Lists.{get_push}
 use Rattle.gc_texts.specs.declared.tasks.Task.{Task}
 use Rattle.gc_station.specs.declared.mark.Mark.{Mark}
 use Rattle.gc_station.specs.declared.plan.Plan.{Plan}
@@ -15,12 +17,13 @@ use Rattle.gc_station.specs.Chains.{IsLinked}
 use Rattle.gc_station.specs.Deciding.{has_begun}
 use Rattle.gc_station.specs.EachOnce.{IsFurther}
 use Rattle.gc_station.specs.Links.{AreChained, IsBefore, IsAnsweredEarlier, ChainsStay, MarksGoOn, parts}
-use Rattle.gc_station.specs.Parts.{Part, joined, asking_first, doing, beginning, acting, ends_part, in_front, parts_of, mark_of}
+use Rattle.gc_station.specs.Parts.{Part, joined, first_request_part, client_part, sync_part, part_of_act, ends_part, in_front, parts_of, mark_of}
 use Rattle.gc_station.specs.Records.{Record}
 use Rattle.gc_station.specs.Runs.{state_after}
 use Rattle.gc_station.specs.Scopes.{Scope}
 use Rattle.gc_station.specs.Qualities.{IsOfQuality, accepted_at}
-use Rattle.gc_station.specs.Model.{Model, Puts, Runs, opening, action_at, place_next, cycles_begun, cycle_out, expected_first, mark_next, after, after_all}
+use Rattle.gc_station.specs.ActKinds.{Puts}
+use Rattle.gc_station.specs.Model.{Model, Runs, opening, action_at, place_next, cycles_begun, cycle_to_send, expected_first, mark_next, after, after_all}
 use Rattle.gc_texts.specs.Endings.{Answered}
 use Rattle.gc_texts.specs.Qualities.{is_good}
 use Rattle.gc_texts.specs.declared.quality.Quality.{Quality}
@@ -30,10 +33,9 @@ use Rattle.gc_station.proofs.EachRun.{invariant_holds}
 use Rattle.gc_station.proofs.Outs.{of_a_cycle, send_cycle, send_place, sends_of_cycle}
 use Rattle.gc_station.proofs.Further.{send_goes_on}
 use Rattle.gc_station.proofs.Going.{after_all-append, runs_behind}
-use Rattle.gc_station.proofs.SentAt.{none_is_not, records_stay, SentAt, sent_at}
-use Rattle.gc_texts.proofs.Cutting.{some_injective}
+use Rattle.gc_station.proofs.SentAt.{records_stay, SentAt, sent_at}
 use Rattle.gc_station.proofs.OnePart.{runs_front, puts_text, same_part}
-use Rattle.gc_station.proofs.PartFronts.{IsNoLonger, no_longer_parts, no_longer_last}
+use Rattle.gc_station.proofs.PartFronts.{IsFront, front_parts, front_no_longer}
 use Rattle.gc_station.proofs.Lists.{get_more, get_behind, cons_head, cons_tail, fronts}
 use Rattle.gc_station.proofs.Closings.{needs_of}
 
@@ -54,8 +56,8 @@ module _ (plan : Plan) (commands : List Task) (scope : Scope) where
   further_on xs ys (act ∷ more) sends e some =
       subst (λ l. IsFurther plan commands (state_after plan commands scope xs) (state_after plan commands scope l)) (sym e) (send_goes_on plan commands scope xs more act sends)
 
-  -- of two commands that were sent (x before y, in the order of parts and requests), the second one did so at least one act
-  -- later
+  -- of two commands that were sent (x before y, in the order of parts and requests), the second one was sent at least one
+  -- act later
   goes_before : (acts : List Act) (i j m n : ℕ) (a b : Mark) → IsBefore i m j n → (x : SentAt plan commands (opening plan scope) acts i m a)
       → (y : SentAt plan commands (opening plan scope) acts j n b) → (more : List Act) × (y.before ≡ x.before ++ more) × (more ≡ [] → ⊥)
   goes_before acts i j m n a b l x y =
@@ -67,9 +69,9 @@ module _ (plan : Plan) (commands : List Task) (scope : Scope) where
       -- the first command isn't sent after the second one
       behind : (more : List Act) → x.before ≡ y.before ++ more → ⊥
       behind more e =
-          let front = subst (λ l. IsNoLonger (parts_of plan commands (opening plan scope) y.before) (parts_of plan commands (opening plan scope) l)) (sym e)
-          (no_longer_parts plan commands (opening plan scope) y.before more) in
-          let there = no_longer_last (parts_of plan commands (opening plan scope) y.before)
+          let front = subst (λ l. IsFront (parts_of plan commands (opening plan scope) y.before) (parts_of plan commands (opening plan scope) l)) (sym e)
+          (front_parts plan commands (opening plan scope) y.before more) in
+          let there = front_no_longer (parts_of plan commands (opening plan scope) y.before)
           (parts_of plan commands (opening plan scope) x.before) j i y.first x.first front y.last x.last y.of_parts x.of_parts in
           let counts_x : length x.first.marks ≡ m = x.count in
           let counts_y : length y.first.marks ≡ n = y.count in
@@ -98,18 +100,18 @@ marks_go_on plan commands scope acts runs i j m n p q a b e f g h l above below 
 -- The mark of a request.
 
 -- the part of the first of these commands, if there is one, has its mark
-asked_mark : (now : ℕ) (mark : Mark) (left : List Task) → 0 < length left → slice_get (asking_first now mark left).marks 0 ≡ Some (Some mark)
+asked_mark : (now : ℕ) (mark : Mark) (left : List Task) → 0 < length left → slice_get (first_request_part now mark left).marks 0 ≡ Some (Some mark)
 asked_mark now mark [] some = absurd (omega (arith, some))
 asked_mark now mark (task ∷ others) some = refl
 
 -- the part of an act that puts bytes if a command is next has the mark of that command
 put_asks : (plan : Plan) (commands : List Task) (s : Model) (act : Act) (bytes : List ℕ) → Puts bytes act → has_begun s.progress ≡ true → 0 < length (drop (place_next commands s.progress) commands)
-    → slice_get (acting plan commands s Send act).marks 0 ≡ Some (Some (mark_next plan commands s.progress))
+    → slice_get (part_of_act plan commands s Send act).marks 0 ≡ Some (Some (mark_next plan commands s.progress))
 put_asks plan commands s act bytes puts begun some = subst (λ (b : Bool). slice_get
-    (if b then doing plan commands s Send act else beginning s Send act).marks 0 ≡ Some (Some (mark_next plan commands s.progress))) (sym begun)
+    (if b then client_part plan commands s Send act else sync_part s Send act).marks 0 ≡ Some (Some (mark_next plan commands s.progress))) (sym begun)
     (by_act act puts) where
       -- the lemma above, by how the act puts the bytes: whole or in part
-      by_act : (a : Act) → Puts bytes a → slice_get (doing plan commands s Send a).marks 0 ≡ Some (Some (mark_next plan commands s.progress))
+      by_act : (a : Act) → Puts bytes a → slice_get (client_part plan commands s Send a).marks 0 ≡ Some (Some (mark_next plan commands s.progress))
       by_act (Put out) puts = asked_mark s.progress.moment.elapsed (mark_next plan commands s.progress) (drop (place_next commands s.progress) commands) some
       by_act (Cut out count) puts = asked_mark s.progress.moment.elapsed (mark_next plan commands s.progress) (drop (place_next commands s.progress) commands) some
       by_act a puts = absurd puts
@@ -126,9 +128,9 @@ first_has p false (q ∷ ps) mark e = (joined p q, refl, 0, get_more p.marks q.m
 
 -- if part i has a request with a mark, it still has it once another part is joined to the front of the first one
 on_has : (p : Part) (qs : List Part) (i : ℕ) (mark : Mark) → HasMark qs i mark → HasMark (in_front p false qs) i mark
-on_has p [] i mark h = absurd (none_is_not h.0 h.1)
+on_has p [] i mark h = absurd (none-some h.0 h.1)
 on_has p (y ∷ qs) zero mark h =
-    let same : h.0 ≡ y = sym (some_injective y h.0 h.1) in
+    let same : h.0 ≡ y = sym (same_Some y h.0 h.1) in
     (joined p y, refl, length p.marks + h.2, get_behind p.marks y.marks (length p.marks + h.2) h.2 refl ∙ subst (λ (x : Part). slice_get x.marks h.2 ≡ Some (Some mark)) same h.3)
 on_has p (y ∷ qs) (suc i) mark h = h
 
@@ -150,20 +152,20 @@ front_some p false (q ∷ ps) = (length ps, refl)
 -- acts have at least one part
 parts_some : (plan : Plan) (commands : List Task) (s : Model) (acts : List Act) → (k : ℕ) × (length (parts_of plan commands s acts) ≡ suc k)
 parts_some plan commands s [] = (0, refl)
-parts_some plan commands s (act ∷ acts) = front_some (acting plan commands s (action_at plan s) act) (ends_part plan commands s act) (parts_of plan commands (after plan commands s act) acts)
+parts_some plan commands s (act ∷ acts) = front_some (part_of_act plan commands s (action_at plan s) act) (ends_part plan commands s act) (parts_of plan commands (after plan commands s act) acts)
 
 -- the mark of an act that sends is in the last part of the acts, after those of the acts before it
 mark_there : (plan : Plan) (commands : List Task) (s : Model) (start : List Act) (act : Act) (rest : List Act) (i : ℕ) → length (parts_of plan commands s start) ≡ suc i
-    → slice_get (acting plan commands (after_all plan commands s start) (action_at plan (after_all plan commands s start)) act).marks 0 ≡ Some
+    → slice_get (part_of_act plan commands (after_all plan commands s start) (action_at plan (after_all plan commands s start)) act).marks 0 ≡ Some
     (Some (mark_next plan commands (after_all plan commands s start).progress))
     → HasMark (parts_of plan commands s (start ++ act ∷ rest)) i (mark_next plan commands (after_all plan commands s start).progress)
 mark_there plan commands s [] act rest zero size e =
-    first_has (acting plan commands s (action_at plan s) act) (ends_part plan commands s act) (parts_of plan commands (after plan commands s act) rest) (mark_next plan commands s.progress) e
+    first_has (part_of_act plan commands s (action_at plan s) act) (ends_part plan commands s act) (parts_of plan commands (after plan commands s act) rest) (mark_next plan commands s.progress) e
 mark_there plan commands s [] act rest (suc i) size e = absurd (omega (arith, size))
 mark_there plan commands s (x ∷ start) act rest i size e =
     let u = after plan commands s x in
     let some = parts_some plan commands u start in
-    step_has (acting plan commands s (action_at plan s) x) (ends_part plan commands s x) (parts_of plan commands u start)
+    step_has (part_of_act plan commands s (action_at plan s) x) (ends_part plan commands s x) (parts_of plan commands u start)
     (parts_of plan commands u (start ++ act ∷ rest)) i some.0 (mark_next plan commands (after_all plan commands u start).progress) some.1 size
     (λ j many. mark_there plan commands u start act rest j many e)
 
@@ -180,8 +182,8 @@ module _ (plan : Plan) (commands : List Task) (scope : Scope) where
   at acts = state_after plan commands scope acts
 
   -- a command is sent once: two fronts of a run after which the same command is to be sent are the same
-  same_send : (acts xs us ys vs : List Act) → acts ≡ xs ++ us → acts ≡ ys ++ vs → action_at plan (at xs) ≡ Send → action_at plan (at ys) ≡ Send
-      → cycles_begun plan (at xs).progress ≡ cycles_begun plan (at ys).progress → place_next commands (at xs).progress ≡ place_next commands (at ys).progress → xs ≡ ys
+  same_send : (acts xs us ys vs : List Act) → (first : acts ≡ xs ++ us) → (second : acts ≡ ys ++ vs) → (sends : action_at plan (at xs) ≡ Send) → (sends_too : action_at plan (at ys) ≡ Send)
+      → (cycle : cycles_begun plan (at xs).progress ≡ cycles_begun plan (at ys).progress) → (place : place_next commands (at xs).progress ≡ place_next commands (at ys).progress) → xs ≡ ys
   same_send acts xs us ys vs e f go_x go_y cycle place =
       elim (fronts xs us ys vs (sym e ∙ f)) [
         | inl h ↦ sym (none_between h.0 xs ys h.1 go_x cycle place)
@@ -221,11 +223,6 @@ module _ (plan : Plan) (commands : List Task) (scope : Scope) where
     same : length (parts plan commands scope before) ≡ length (parts plan commands scope start)
     cycles : PreparesNothing plan commands (at start) (act ∷ rest)
 
-  -- the last element comes after all others
-  get_last : (xs : List Record) (x : Record) → slice_get (xs ++ x ∷ []) (length xs) ≡ Some x
-  get_last [] x = refl
-  get_last (y ∷ xs) x = get_last xs x
-
   -- the command before a chained one was sent in the same part
   same_link : (acts : List Act) → Runs plan commands (opening plan scope) acts → action_at plan (at acts) ≡ Send → (l : IsLinked plan commands scope acts)
       → StaysBegun plan commands (at l.before) (l.request ∷ l.between) → length (parts plan commands scope acts) ≡ length (parts plan commands scope l.before)
@@ -235,16 +232,16 @@ module _ (plan : Plan) (commands : List Task) (scope : Scope) where
       (λ xs. Runs plan commands (opening plan scope) xs) l.order runs) l.sends keeps (subst (λ xs. action_at plan (at xs) ≡ Send) l.order next))
 
   -- after acts if a chained command is to be sent, `Back` holds of the command before it
-  one_back : (acts : List Act) (a : ℕ) → Runs plan commands (opening plan scope) acts → action_at plan (at acts) ≡ Send
-      → place_next commands (at acts).progress ≡ a + 1 → (l : IsLinked plan commands scope acts)
-      → StaysBegun plan commands (at l.before) (l.request ∷ l.between) → PreparesNothing plan commands (at l.before) (l.request ∷ l.between)
+  one_back : (acts : List Act) (a : ℕ) → (runs : Runs plan commands (opening plan scope) acts) → (sends : action_at plan (at acts) ≡ Send)
+      → (place : place_next commands (at acts).progress ≡ a + 1) → (l : IsLinked plan commands scope acts)
+      → (keeps : StaysBegun plan commands (at l.before) (l.request ∷ l.between)) → PreparesNothing plan commands (at l.before) (l.request ∷ l.between)
       → Back acts (cycles_begun plan (at acts).progress) a
   one_back acts a runs next place l keeps cycles =
       let t = l.in_time in
       let b = at l.before in
       let some_cycle = (invariant_holds plan commands scope l.before).begun (needs_of plan b Send l.sends).2 in
       let own : l.answer.cycle ≡ cycles_begun plan b.progress = l.own_cycle in
-      let its : l.answer.cycle ≡ cycle_out plan (at t.before) = t.own.cycle in
+      let its : l.answer.cycle ≡ cycle_to_send plan (at t.before) = t.own.cycle in
       let sends = sends_of_cycle plan (at t.before) t.own.sends (omega (arith, own, its, some_cycle)) in
       let one : t.before ≡ l.before = same_send acts t.before _ l.before (l.request ∷ l.between) t.order l.order sends l.sends
       (sym (send_cycle plan (at t.before) sends) ∙ sym t.own.cycle ∙ l.own_cycle) (sym (send_place plan commands (at t.before) sends) ∙ sym t.own.place ∙ l.own_place) in
@@ -254,7 +251,7 @@ module _ (plan : Plan) (commands : List Task) (scope : Scope) where
       record {
         k = length l.earlier;
         answer = l.answer;
-        among = ap (λ xs. slice_get xs (length l.earlier)) l.last ∙ get_last l.earlier l.answer;
+        among = ap (λ xs. slice_get xs (length l.earlier)) l.last ∙ get_push l.earlier l.answer;
         own_cycle = l.own_cycle ∙ sym l.cycle;
         own_place = l.own_place ∙ here;
         line = l.line;
@@ -279,9 +276,9 @@ module _ (plan : Plan) (commands : List Task) (scope : Scope) where
 
   -- `l` has the acts before the command that precedes the next one (`l.before`). If `Back` holds there of an earlier command of
   -- the chain, it holds of it still if the next one is to be sent
-  more_back : (acts : List Act) (a : ℕ) → Runs plan commands (opening plan scope) acts → action_at plan (at acts) ≡ Send
-      → (l : IsLinked plan commands scope acts) → StaysBegun plan commands (at l.before) (l.request ∷ l.between)
-      → PreparesNothing plan commands (at l.before) (l.request ∷ l.between)
+  more_back : (acts : List Act) (a : ℕ) → (runs : Runs plan commands (opening plan scope) acts) → (sends : action_at plan (at acts) ≡ Send)
+      → (l : IsLinked plan commands scope acts) → (keeps : StaysBegun plan commands (at l.before) (l.request ∷ l.between))
+      → (cycles : PreparesNothing plan commands (at l.before) (l.request ∷ l.between))
       → Back l.before (cycles_begun plan (at l.before).progress) a → Back acts (cycles_begun plan (at acts).progress) a
   more_back acts a runs next l keeps cycles h =
       let grown = records_stay plan commands scope l.before (l.request ∷ l.between) in
@@ -312,8 +309,8 @@ module _ (plan : Plan) (commands : List Task) (scope : Scope) where
       }
 
   -- if a command is to be sent, `Back` holds of each earlier command of its chain, which is d + 1 places before it
-  back_to : (d a : ℕ) (acts : List Act) → Runs plan commands (opening plan scope) acts → action_at plan (at acts) ≡ Send
-      → place_next commands (at acts).progress ≡ a + suc d → plan.setup ≤ a → AreChained commands a (place_next commands (at acts).progress)
+  back_to : (d a : ℕ) (acts : List Act) → (runs : Runs plan commands (opening plan scope) acts) → (sends : action_at plan (at acts) ≡ Send)
+      → (place : place_next commands (at acts).progress ≡ a + suc d) → (low : plan.setup ≤ a) → AreChained commands a (place_next commands (at acts).progress)
       → Back acts (cycles_begun plan (at acts).progress) a
   back_to zero a acts runs next place low chained =
       let x = chain_whole plan commands scope acts runs next (omega (arith, place, low), chained (place_next commands (at acts).progress) (omega (arith, place)) (omega arith)) in
@@ -338,9 +335,10 @@ module _ (plan : Plan) (commands : List Task) (scope : Scope) where
 
   -- of the part that still goes on, each command after the one that `Back` speaks of, which is request m, is of a cycle: one of
   -- the setup would be sent by an act after that one
-  cycles_behind : (acts : List Act) (i m cycle a : ℕ) (first : Part) → slice_get (parts plan commands scope acts) i ≡ Some first → (h : Back acts cycle a)
-      → slice_get first.marks m ≡ Some (Some (mark_next plan commands (at h.start).progress)) → action_at plan (at h.start) ≡ Send → 0 < cycles_begun plan (at h.start).progress
-      → (x : ℕ) (mark : Mark) → m < x → slice_get first.marks x ≡ Some (Some mark) → 0 < mark.cycle
+  cycles_behind : (acts : List Act) (i m cycle a : ℕ) (first : Part) → (there : slice_get (parts plan commands scope acts) i ≡ Some first) → (h : Back acts cycle a)
+      → (mark_there : slice_get first.marks m ≡ Some (Some (mark_next plan commands (at h.start).progress))) → (sends : action_at plan (at h.start) ≡ Send)
+      → (some : 0 < cycles_begun plan (at h.start).progress)
+      → (x : ℕ) (mark : Mark) → (behind : m < x) → slice_get first.marks x ≡ Some (Some mark) → 0 < mark.cycle
   cycles_behind acts i m cycle a first of_parts h got sends many x mark later found =
       let own = mark_next plan commands (at h.start).progress in
       let p = sent_at plan commands (opening plan scope) acts i m first own of_parts got in
@@ -374,9 +372,9 @@ module _ (plan : Plan) (commands : List Task) (scope : Scope) where
       let unsent : 0 < s.progress.unsent = needs.2 in
       let many : length (drop (place_next commands s.progress) commands) ≡ length commands - place_next commands s.progress = length-drop (place_next commands s.progress) commands in
       let asks = put_asks plan commands s h.act _ (puts_text commands plan s h.act h.sends on.0) needs.1 (omega (arith, many, unsent, fine.unsent)) in
-      let asks_here = subst (λ (o : Action). slice_get (acting plan commands s o h.act).marks 0 ≡ Some (Some (mark_next plan commands s.progress))) (sym h.sends) asks in
+      let asks_here = subst (λ (o : Action). slice_get (part_of_act plan commands s o h.act).marks 0 ≡ Some (Some (mark_next plan commands s.progress))) (sym h.sends) asks in
       let has = mark_there plan commands (opening plan scope) h.start h.act h.rest i (sym h.same ∙ last) asks_here in
-      let same : has.0 ≡ first = some_injective has.0 first (sym has.1 ∙ ap (λ xs. slice_get (parts plan commands scope xs) i) (sym h.order) ∙ of_parts) in
+      let same : has.0 ≡ first = same_Some has.0 first (sym has.1 ∙ ap (λ xs. slice_get (parts plan commands scope xs) i) (sym h.order) ∙ of_parts) in
       record {
         k = h.k;
         answer = h.answer;

@@ -1,13 +1,14 @@
 -- Whether a command of an attempt ended as the rule of its chain names, by the ends that records have: `listed` of a model is
 -- what its records say.
-use Rattle.std.proofs.Common.{◌≡◌, ◌⊎◌, inl, inr, ℕ, ◌+◌, ◌||◌, Bool, true, false, List, [], ◌∷◌, ◌++◌, Option, if◌then◌else◌, nat_eq, refl, sym, ap, ◌∙◌, arith}
+use Rattle.std.proofs.Common.{◌≡◌, ◌⊎◌, inl, inr, ℕ, ◌+◌, ◌||◌, Bool, true, false, List, [], ◌∷◌, ◌++◌, Option, if◌then◌else◌, nat_eq, refl, sym, ap, ◌∙◌}
 use Rattle.std.specs.List.{AllByRecursion}
-use Rattle.std.proofs.lemmas.Bool.Decides.{nat_tests}
+use Rattle.std.proofs.lemmas.Bool.{or_right, eqb-true, eqb-false}
+use Rattle.std.proofs.lemmas.Option.{same_Some}
 use Rattle.gc_catalogue.specs.declared.answer.Answer.{Answer}
 use Rattle.gc_catalogue.specs.declared.answer.Reading.{Reading}
 use Rattle.gc_catalogue.specs.declared.asked.Asked.{Asked}
 use Rattle.gc_client.specs.Rule
-use Rattle.gc_texts.specs.Again.{is_named, has_code}
+use Rattle.gc_texts.specs.Again.{repeats_after, has_code}
 use Rattle.gc_texts.specs.Endings.{End, Answered, Unreadable, Elsewhere, Late, Lost, Skipped, Missed}
 use Rattle.gc_texts.specs.Zeroed.{as_zero}
 use Rattle.gc_texts.specs.declared.again.Again.{Again}
@@ -20,15 +21,14 @@ use Rattle.gc_station.specs.Model.{in_attempt}
 use Rattle.gc_station.specs.Records.{Record}
 use Rattle.gc_station.specs.Retries.{turn_as, rule_as, code_of_end, is_listed, HasListed}
 use Rattle.gc_station.specs.Answers.{answer_of}
-use Rattle.gc_station.proofs.Facts.{or_true}
+use Rattle.gc_station.proofs.Facts.{or_first}
 use Rattle.gc_station.proofs.Meets.{answer_line}
-use Rattle.gc_texts.proofs.Cutting.{some_injective}
 
 -- Which ends a rule names.
 
 -- an answered command ended by the line of its reply
 answered_line : (expected : Expected) (x zeroed : Reading) (q : Quality) (line l : List ℕ) (said : Option Answer) → answer_as expected x zeroed line ≡ Answered q said l → line ≡ l
-answered_line expected x zeroed q line l said e = some_injective line l (sym (answer_line expected x zeroed line) ∙ ap answer_of e)
+answered_line expected x zeroed q line l said e = same_Some line l (sym (answer_line expected x zeroed line) ∙ ap answer_of e)
 
 -- if a request ended as answered by the line l, the code of its outcome is the code in that line
 pub code_there : (reads : Asked → List ℕ → Reading) (expected : Expected) (call : Asked) (outcome : Rule.Outcome) (q : Quality) (said : Option Answer) (l : List ℕ)
@@ -40,7 +40,8 @@ code_there reads expected call Rule.Lost q said l e = cc
 -- whether a rule names an end is the same with the code `code` as with the code that the end's line has, if an answered end has
 -- that code in its line
 pub named_by : (reads : Asked → List ℕ → Reading) (again : Again) (call : Asked) (code : Option ℕ) (end : End)
-    → ((q : Quality) (said : Option Answer) (l : List ℕ) → end ≡ Answered q said l → code ≡ code_in (reads call l)) → is_named again code end ≡ is_named again (code_of_end reads call end) end
+    → ((q : Quality) (said : Option Answer) (l : List ℕ) → end ≡ Answered q said l → code ≡ code_in (reads call l))
+    → repeats_after again code end ≡ repeats_after again (code_of_end reads call end) end
 named_by reads again call code (Answered q said l) is = ap (has_code again.codes) (is q said l refl)
 named_by reads again call code (Unreadable line fault) is = refl
 named_by reads again call code (Elsewhere line) is = refl
@@ -71,20 +72,12 @@ has_of : (reads : Asked → List ℕ → Reading) (commands : List Task) (rs : L
     → ((b ≡ true) × BeginNoAttempt rs) ⊎ HasListed reads commands rs
 has_of reads commands [] b e = inl (e, tt)
 has_of reads commands (r ∷ rs) b e = by_rest (has_of reads commands rs ((if nat_eq r.turn.link 0 then false else b) || is_listed reads commands r) e) where
-  -- a link that isn't 0 by its test isn't 0
-  not_first : (n : ℕ) → nat_eq n 0 ≡ false → n ≡ 0 → ⊥
-  not_first n t is = grind (arith, nat_tests, t, is)
-
   -- the lemma above for the first record, by its tests
   by_tests : (first listed : Bool) → nat_eq r.turn.link 0 ≡ first → is_listed reads commands r ≡ listed → ((if first then false else b) || listed) ≡ true → BeginNoAttempt rs
       → ((b ≡ true) × BeginNoAttempt (r ∷ rs)) ⊎ HasListed reads commands (r ∷ rs)
   by_tests first true t l is all = inr (record { front = []; one = r; behind = rs; order = refl; listed = l; same = all })
   by_tests true false t l is all = cc
-  by_tests false false t l is all = inl (left b is, (not_first r.turn.link t, all)) where
-    -- a disjunction with a false second part is its first
-    left : (b : Bool) → (b || false) ≡ true → b ≡ true
-    left true e = refl
-    left false e = cc
+  by_tests false false t l is all = inl (or_first b false is refl, (eqb-false r.turn.link 0 t, all))
 
   -- the lemma above, by what it gives for the others
   by_rest : ((((if nat_eq r.turn.link 0 then false else b) || is_listed reads commands r) ≡ true) × BeginNoAttempt rs) ⊎ HasListed reads commands rs
@@ -104,14 +97,10 @@ listed_has reads commands rs e = by_case (has_of reads commands rs false e) wher
 stays_listed : (reads : Asked → List ℕ → Reading) (commands : List Task) (rs : List Record) → BeginNoAttempt rs → any_listed reads commands true rs ≡ true
 stays_listed reads commands [] all = refl
 stays_listed reads commands (r ∷ rs) all = by_test (λ b. stays_listed reads commands rs all.1) (nat_eq r.turn.link 0) refl where
-  -- a link that is 0 by its test is 0
-  is_first : (n : ℕ) → nat_eq n 0 ≡ true → n ≡ 0
-  is_first n t = grind (arith, nat_tests, t)
-
   -- the lemma above, whether the first record begins an attempt
   by_test : (Bool → any_listed reads commands true rs ≡ true) → (first : Bool) → nat_eq r.turn.link 0 ≡ first
       → any_listed reads commands ((if first then false else true) || is_listed reads commands r) rs ≡ true
-  by_test ih true t = absurd (all.0 (is_first r.turn.link t))
+  by_test ih true t = absurd (all.0 (eqb-true r.turn.link 0 t))
   by_test ih false t = ih true
 
 -- if one of the records ended as its rule names, and no attempt begins after it, `any_listed` holds of all
@@ -119,7 +108,8 @@ pub has_listed : (reads : Asked → List ℕ → Reading) (commands : List Task)
 has_listed reads commands rs b h =
     ap (any_listed reads commands b) h.order ∙ any_append reads commands h.front (h.one ∷ h.behind) b
     ∙ ap (λ x. any_listed reads commands ((if nat_eq h.one.turn.link 0 then false else any_listed reads commands b h.front) || x) h.behind) h.listed
-    ∙ ap (λ x. any_listed reads commands x h.behind) (or_true (if nat_eq h.one.turn.link 0 then false else any_listed reads commands b h.front)) ∙ stays_listed reads commands h.behind h.same
+    ∙ ap (λ x. any_listed reads commands x h.behind) (or_right (if nat_eq h.one.turn.link 0 then false else any_listed reads commands b h.front) true refl)
+    ∙ stays_listed reads commands h.behind h.same
 
 -- what is expected of a command's answer, of which the text says this; if it is of the setup (`true`), in this attempt
 abbrev pub expected_as : Bool → ℕ → Expected → Expected

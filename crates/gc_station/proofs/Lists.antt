@@ -3,16 +3,7 @@
 use Rattle.std.proofs.Common.{◌≡◌, ℕ, zero, suc, ◌+◌, ◌<◌, ◌≤◌, List, [], ◌∷◌, ◌++◌, length, drop, map, Some, refl, sym, ap, ◌∙◌, subst, arith, append_assoc, ◌⊎◌, inl, inr}
 use Rattle.std.specs.Prelude.{slice_get}
 use Rattle.std.specs.List.{AllByRecursion}
-
--- what holds of the elements of two lists holds of those of both, one after the other
-pub all_append : {A : Type 0} (P : A → Type 0) (xs ys : List A) → AllByRecursion P xs → AllByRecursion P ys → AllByRecursion P (xs ++ ys)
-all_append P [] ys p q = q
-all_append P (x ∷ xs) ys p q = (p.0, all_append P xs ys p.1 q)
-
--- if one fact of an element follows from another, it holds of all elements if the other does
-pub all_on : {A : Type 0} (P Q : A → Type 0) (xs : List A) → ((x : A) → P x → Q x) → AllByRecursion P xs → AllByRecursion Q xs
-all_on P Q [] step p = tt
-all_on P Q (x ∷ xs) step p = (step x p.0, all_on P Q xs step p.1)
+pub use Rattle.gc_lines.proofs.Lists.{all_append, all_on, get_more}
 
 -- what holds of each element of a list holds of the one at a place
 pub all_at : {A : Type 0} (P : A → Type 0) (xs : List A) (i : ℕ) (x : A) → AllByRecursion P xs → slice_get xs i ≡ Some x → P x
@@ -20,23 +11,11 @@ all_at P [] i x all e = cc
 all_at P (y ∷ xs) zero x all e = let same : y ≡ x = cc in subst P same all.0
 all_at P (y ∷ xs) (suc i) x all e = all_at P xs i x all.1 e
 
--- a list with more after it has the same element at a place of its own
-pub get_more : {A : Type 0} (xs ys : List A) (i : ℕ) (x : A) → slice_get xs i ≡ Some x → slice_get (xs ++ ys) i ≡ Some x
-get_more [] ys i x e = cc
-get_more (y ∷ xs) ys zero x e = e
-get_more (y ∷ xs) ys (suc i) x e = get_more xs ys i x e
-
 -- place n of two lists in a row is place k of the second list, if k places of it come after the first list
 pub get_behind : {A : Type 0} (xs ys : List A) (n k : ℕ) → n ≡ length xs + k → slice_get (xs ++ ys) n ≡ slice_get ys k
 get_behind [] ys n k e = let same : n ≡ k = omega (arith, e) in ap (slice_get ys) same
 get_behind (x ∷ xs) ys zero k e = absurd (omega (arith, e))
 get_behind (x ∷ xs) ys (suc n) k e = get_behind xs ys n k (omega (arith, e))
-
--- without its first n elements, two lists in a row are the rest of the first list and then the second, if the first has n
-pub drop_append : {A : Type 0} (n : ℕ) (xs ys : List A) → n ≤ length xs → drop n (xs ++ ys) ≡ drop n xs ++ ys
-drop_append zero xs ys le = refl
-drop_append (suc n) [] ys le = absurd (omega (arith, le))
-drop_append (suc n) (x ∷ xs) ys le = drop_append n xs ys (omega (arith, le))
 
 -- the element at place k + n of a list is at place n after its first k
 pub get_dropped : {A : Type 0} (k n j : ℕ) (xs : List A) (x : A) → j ≡ k + n → slice_get xs j ≡ Some x → slice_get (drop k xs) n ≡ Some x
@@ -113,8 +92,9 @@ rows_drop P (suc d) low k (x ∷ xs) (y ∷ ys) p =
 
 -- `Rows` of Q for lists with one more element at their ends, which has the number `last` and the place `place`: P holds of the
 -- other rows (`Rows`), and gives Q and a number below `last` for each
-pub rows_more : {A B : Type 0} (P Q : ℕ → ℕ → A → B → Type 0) (low k last place : ℕ) (xs : List A) (ys : List B) (x : A) (y : B) → place ≡ k + length xs → length ys ≡ length xs → low ≤ last
-    → ((n j : ℕ) (a : A) (b : B) → j < k + length xs → P n j a b → (n < last) × Q n j a b) → Rows P low k xs ys → Q last place x y → Rows Q low k (xs ++ x ∷ []) (ys ++ y ∷ [])
+pub rows_more : {A B : Type 0} (P Q : ℕ → ℕ → A → B → Type 0) (low k last place : ℕ) (xs : List A) (ys : List B) (x : A) (y : B) → (is_place : place ≡ k + length xs) → (same : length ys ≡ length xs)
+    → (from : low ≤ last)
+    → (step : (n j : ℕ) (a : A) (b : B) → j < k + length xs → P n j a b → (n < last) × Q n j a b) → Rows P low k xs ys → (one : Q last place x y) → Rows Q low k (xs ++ x ∷ []) (ys ++ y ∷ [])
 rows_more P Q low k last place [] [] x y is same from step p one = let here : place ≡ k = omega (arith, is) in (last, from, subst (λ (i : ℕ). Q last i x y) here one, tt)
 rows_more P Q low k last place [] (b ∷ ys) x y is same from step p one = absurd (omega (arith, same))
 rows_more P Q low k last place (a ∷ xs) [] x y is same from step p one = absurd p

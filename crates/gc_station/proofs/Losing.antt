@@ -3,6 +3,7 @@
 use Rattle.std.proofs.Common.{◌≡◌, ◌⊎◌, inl, inr, ℕ, ◌&&◌, ◌||◌, Bool, true, false, not, List, [], ◌∷◌, ◌++◌, length, map, Option, Some, if◌then◌else◌, nat_eq, refl, sym, ap, ◌∙◌, subst, append_assoc}
 use Rattle.std.specs.List.{AllByRecursion}
 use Rattle.std.proofs.lemmas.List.{nil_from_length}
+use Rattle.std.proofs.lemmas.Bool.{both_ways, not-true}
 use Rattle.gc_catalogue.specs.declared.answer.Reading.{Reading}
 use Rattle.gc_catalogue.specs.declared.asked.Asked.{Asked}
 use Rattle.gc_client.specs.declared.pending.Pending.{Pending}
@@ -29,9 +30,10 @@ use Rattle.gc_station.specs.Progressing.{turned, sent, failing, is_over, is_over
 use Rattle.gc_station.specs.Reasons.{HoldsBefore}
 use Rattle.gc_station.specs.Records.{Record}
 use Rattle.gc_station.specs.Runs.{state_after}
-use Rattle.gc_station.specs.Model.{Model, opening, action_at, waiting_of, request_text, Puts, Performs, with_progress, asks_next, is_chained_after_next, others_after_next, after_put, moved, losing, ended, after, IsSending, asks_setup}
+use Rattle.gc_station.specs.ActKinds.{Puts}
+use Rattle.gc_station.specs.Model.{Model, opening, action_at, waiting_of, request_text, Performs, with_progress, asks_next, is_chained_after_next, others_after_next, after_put, moved, losing, ended, after, IsSending, asks_setup}
 use Rattle.gc_station.proofs.Counts.{ended_progress}
-use Rattle.gc_station.proofs.Facts.{action_for}
+use Rattle.gc_station.proofs.Facts.{action_for, or_first}
 use Rattle.gc_station.proofs.Invariant.{Invariant}
 use Rattle.gc_station.proofs.Going.{after_all-append}
 use Rattle.gc_station.proofs.Growing.{moved_grew}
@@ -42,7 +44,6 @@ use Rattle.gc_station.proofs.Parting.{keeps_action}
 use Rattle.gc_station.proofs.Walk.{is_sent, moved_changed, is_prepared}
 use Rattle.gc_station.proofs.Words.{renews_only, renews_needs}
 use Rattle.gc_station.specs.Scopes.{Scope}
-use Rattle.gc_station.proofs.Ticking.{not_both}
 
 -- none of these marks is a command's, so that no record is written
 abbrev Unwritten : List (Option Mark) → Type 0
@@ -67,11 +68,6 @@ over_stops plan p w over = by_phase p.phase refl over where
   by_phase Pausing is e = (cause.Turns, no_turn Pausing _ is refl e)
   by_phase (Over why) is e = (why, refl)
   by_phase phase is e = cc
-
--- if all that is outstanding is lost though the run isn't over, the station hasn't synchronized (a is whether it has)
-only_first : (a : Bool) → (not a || false) ≡ true → a ≡ false
-only_first true e = cc
-only_first false e = refl
 
 -- if all outstanding requests are lost at an act, the station resynchronizes there, or no act follows; or no command is
 -- outstanding
@@ -114,7 +110,7 @@ loses_why plan commands scope acts act fine obeys loses = by_test (is_over t.pro
   by_test true over e =
       let stops = over_stops plan (ended t).progress (waiting_of (ended t)) (ap is_over (ended_progress t) ∙ over) in
       inr (inr (record { none = refl; why = stops.0; stops = ap (λ (x : Model). action_at plan x) next ∙ stops.1 }))
-  by_test false on e = renews (has_begun s.progress) refl (only_first (has_begun t.progress) e)
+  by_test false on e = renews (has_begun s.progress) refl (not-true (has_begun t.progress) (or_first (not (has_begun t.progress)) false e refl))
 
 -- in the phase `Ready` the run isn't over
 pub going_on : (p : Progress) → p.phase ≡ Ready → is_over p ≡ false
@@ -182,9 +178,9 @@ IsLostRecord plan commands scope acts r = (mark : Mark) × (y : Settlement Asked
 -- them is true (`IsJustified`)
 lost_true : (plan : Plan) (commands : List Task) (scope : Scope) (acts : List Act) (act : Act) (r : Record) (news earlier later : List Record)
     → Invariant plan commands (state_after plan commands scope acts)
-    → loses_all (moved plan commands (action_at plan (state_after plan commands scope acts)) (with_progress turned (state_after plan commands scope acts)) act).progress ≡ true
-    → Resynchronizes plan commands scope acts act ⊎ IsLast plan commands scope acts act []
-    → (state_after plan commands scope (acts ++ act ∷ [])).records ≡ ((state_after plan commands scope acts).records ++ news) ++ (earlier ++ r ∷ later)
+    → (loses : loses_all (moved plan commands (action_at plan (state_after plan commands scope acts)) (with_progress turned (state_after plan commands scope acts)) act).progress ≡ true)
+    → (why : Resynchronizes plan commands scope acts act ⊎ IsLast plan commands scope acts act [])
+    → (ends : (state_after plan commands scope (acts ++ act ∷ [])).records ≡ ((state_after plan commands scope acts).records ++ news) ++ (earlier ++ r ∷ later))
     → IsLostRecord plan commands scope (acts ++ act ∷ []) r → IsJustified plan commands scope (acts ++ act ∷ []) r
 lost_true plan commands scope acts act r news earlier later fine loses why ends it = record {
   answered = λ line e. absurd (not_answered line (sym outcome ∙ was_answered r it.1 it.5 line e));
@@ -224,7 +220,7 @@ lost_true plan commands scope acts act r news earlier later fine loses why ends 
   on (AtEnd same) =
       let s = state_after plan commands scope acts in
       let sends : IsSending plan s = subst (λ (xs : List Act). IsSending plan (state_after plan commands scope xs)) (sym same) (a.its it.0 refl).sends in
-      absurd (not_both _ loses (sending_loses_none plan commands s act fine sends))
+      absurd (both_ways (loses_all (moved plan commands (action_at plan s) (with_progress turned s) act).progress) (sending_loses_none plan commands s act fine sends) loses)
   on (Before between at rest) =
       let its = a.its it.0 refl in
       record {

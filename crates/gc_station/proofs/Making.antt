@@ -26,11 +26,12 @@ use Rattle.gc_station.specs.Deciding.{later}
 use Rattle.gc_station.specs.Marks.{is_well, last_well}
 use Rattle.gc_station.specs.Progressing.{failing, skipped_at}
 use Rattle.gc_station.specs.Records.{Record}
-use Rattle.gc_station.specs.Model.{Model, Puts, IsReading, client_sent, sent_to, asks, asks_first, skips_first, with_progress, with_listed, with_records, after_put, after_read, moved, asks_or_null, text_or_null, request_text}
+use Rattle.gc_station.specs.ActKinds.{Puts, IsReading}
+use Rattle.gc_station.specs.Model.{Model, client_sent, sent_to, asks, asks_first, first_unsent_record, with_progress, with_listed, with_records, after_put, after_read, moved, asks_or_null, text_or_null, request_text}
 use Rattle.gc_station.specs.Stations.{Refines, Took, Makes, Made, ComesTo, cut_progress, seen, setup_asked}
 use Rattle.gc_station.specs.Scopes.{AreReadings}
 use Rattle.gc_station.specs.Tallies.{nothing_yet, tallied}
-use Rattle.gc_station.specs.declared.station.sending.Asking.{Asking}
+use Rattle.gc_station.specs.declared.station.sending.Outgoing.{Outgoing}
 use Rattle.gc_station.proofs.Records.{tallied-append, last-append}
 
 -- a station whose progress changes is as the model whose progress changes so
@@ -132,11 +133,11 @@ first_took text start taken s mark (task ∷ others) so = so
 
 -- the model that sent what `setup_asked` says is that which sent the first of these commands of the setup, or a null procedure
 -- if there is none
-pub setup_refines : (plan : Plan) (station : Station) (s : Model) (asking : Asking) (mark : Mark) (list : List Task) → asking ≡ setup_asked plan mark list
+pub setup_refines : (plan : Plan) (station : Station) (s : Model) (asking : Outgoing) (mark : Mark) (list : List Task) → asking ≡ setup_asked plan mark list
     → Refines station (asks asking.wait asking.command.target asking.command.call asking.mark s) → Refines station (asks_or_null plan mark list s)
 setup_refines plan station s asking mark list is stands =
     subst (λ (t : Model). Refines station t) (by_list list)
-    (subst (λ (a : Asking). Refines station (asks a.wait a.command.target a.command.call a.mark s)) is stands) where
+    (subst (λ (a : Outgoing). Refines station (asks a.wait a.command.target a.command.call a.mark s)) is stands) where
       -- the two models are the same, whether there is a command or not
       by_list : (xs : List Task) → asks (setup_asked plan mark xs).wait (setup_asked plan mark xs).command.target (setup_asked plan mark xs).command.call (setup_asked plan mark xs).mark s
           ≡ asks_or_null plan mark xs s
@@ -159,15 +160,15 @@ setup_took plan text start taken s mark (task ∷ others) so = so
 -- A command is skipped.
 
 -- the record that the code writes of `task`, the first of the commands in `list`, which isn't sent, is the one that the model
--- adds (`skips_first`)
+-- adds (`first_unsent_record`)
 pub skips_as : (p : Progress) (m : Moment) (mark mark' : Mark) (utc : ℕ) (end : End) (list : List Task) (task : Task) (others : List Task)
     → list ≡ task ∷ others → mark ≡ mark' → utc ≡ skipped_at m p → end ≡ (if p.missed then Missed else Skipped)
-    → record { sent = None; utc = utc; cycle = mark.cycle; place = mark.place; turn = mark.expected.turn; command = task.command; end = end } ∷ [] ≡ skips_first p m mark' list
+    → record { sent = None; utc = utc; cycle = mark.cycle; place = mark.place; turn = mark.expected.turn; command = task.command; end = end } ∷ [] ≡ first_unsent_record p m mark' list
 skips_as p m mark mark' utc end list task others is e at ends =
     ap (λ (u : ℕ). record { sent = None; utc = u; cycle = mark.cycle; place = mark.place; turn = mark.expected.turn; command = task.command; end = end } ∷ []) at
     ∙ ap (λ (x : Mark). record { sent = None; utc = skipped_at m p; cycle = x.cycle; place = x.place; turn = x.expected.turn; command = task.command; end = end } ∷ []) e
     ∙ ap (λ (x : End). record { sent = None; utc = skipped_at m p; cycle = mark'.cycle; place = mark'.place; turn = mark'.expected.turn; command = task.command; end = x } ∷ []) ends
-    ∙ sym (ap (skips_first p m mark') is)
+    ∙ sym (ap (first_unsent_record p m mark') is)
 
 -- a command that isn't sent wasn't answered well
 unwell_end : (b : Bool) → is_well (if b then Missed else Skipped) ≡ false
@@ -176,8 +177,8 @@ unwell_end false = refl
 
 -- after the record of a command that isn't sent, the last command wasn't answered well
 pub skips_unwell : (b : Bool) (p : Progress) (m : Moment) (mark : Mark) (list : List Task) (task : Task)
-    (others : List Task) → list ≡ task ∷ others → last_well b (skips_first p m mark list) ≡ false
-skips_unwell b p m mark list task others is = ap (λ ts. last_well b (skips_first p m mark ts)) is ∙ unwell_end p.missed
+    (others : List Task) → list ≡ task ∷ others → last_well b (first_unsent_record p m mark list) ≡ false
+skips_unwell b p m mark list task others is = ap (λ ts. last_well b (first_unsent_record p m mark ts)) is ∙ unwell_end p.missed
 
 -- a station that counted the record of a command that isn't sent is as the model with that record
 pub skipped_refines : (old new : Station) (s : Model) (rs : List Record) (b b' : Bool) → Refines old s → ((b : Bool) → last_well b rs ≡ false) → (AreReadings s.reads → b ≡ b')

@@ -1,6 +1,7 @@
 -- What each act of a run puts: a line feed, or a request's line, by the part (`Parts`) that the act has. An act is one call on
 -- the link, with its result.
 use Rattle.std.proofs.Common.{◌≡◌, ◌⊎◌, inl, inr, ℕ, ◌-◌, ◌<◌, true, false, List, [], ◌∷◌, length, drop, Option, Some, None, refl, arith, length-drop}
+use Rattle.std.proofs.lemmas.Bool.{both_ways}
 use Rattle.gc_catalogue.specs.declared.asked.Asked.{Asked}
 use Rattle.gc_catalogue.specs.declared.asked.Asked.TheVariants.{Table}
 use Rattle.gc_catalogue.specs.declared.call.Call.TheVariants.{NullProc}
@@ -12,12 +13,12 @@ use Rattle.gc_station.specs.declared.progress.Action.{Action}
 use Rattle.gc_station.specs.declared.progress.Action.TheVariants as action
 use Rattle.gc_links.specs.Acts.{Act, Put, Cut, Closed}
 use Rattle.gc_station.specs.Deciding.{later, has_begun}
-use Rattle.gc_station.specs.Parts.{Asks, Part, only_turns, nothing, asking, asking_first, putting, beginning, asking_or_null}
+use Rattle.gc_station.specs.Parts.{Asks, Part, only_turns, nothing, request_part, first_request_part, put_part, sync_part, request_or_null_part}
 use Rattle.gc_station.specs.Reasons.{HoldsBefore}
-use Rattle.gc_station.specs.Model.{Model, action_at, waiting_of, place_next, mark_next, request_text, null_text, first_text, Puts, ReadsClock, IsOpening, IsReading, Performs, mark_setup, text_or_null}
+use Rattle.gc_station.specs.ActKinds.{Puts, ReadsClock, IsOpening, IsReading}
+use Rattle.gc_station.specs.Model.{Model, action_at, waiting_of, place_next, mark_next, request_text, null_text, first_text, Performs, mark_setup, text_or_null}
 use Rattle.gc_station.proofs.Facts.{action_for}
 use Rattle.gc_station.proofs.Invariant.{Invariant}
-use Rattle.gc_station.proofs.Ticking.{not_both}
 
 -- the part p is that of a request that is sent, and these bytes are its line
 pub record IsSent (s : Model) (bytes : List ℕ) (p : Part) : Type 0 where
@@ -25,7 +26,7 @@ pub record IsSent (s : Model) (bytes : List ℕ) (p : Part) : Type 0 where
   pub call : Asked
   pub deadline : ℕ
   pub mark : Option Mark
-  pub part : p ≡ asking target call deadline mark
+  pub part : p ≡ request_part target call deadline mark
   pub text : bytes ≡ request_text s.client call
   pub room : length s.client.waiting < 7
 
@@ -54,7 +55,7 @@ module _ (plan : Plan) (commands : List Task) where
 
   -- the bytes of the next command are the line of the request of its part
   first_put : (s : Model) (left : List Task) (bytes : List ℕ) → 0 < length left → length s.client.waiting < 7 → bytes ≡ first_text s.progress.moment.utc s.client left
-      → IsSent s bytes (asking_first s.progress.moment.elapsed (mark_next plan commands s.progress) left)
+      → IsSent s bytes (first_request_part s.progress.moment.elapsed (mark_next plan commands s.progress) left)
   first_put s [] bytes some room e = absurd (omega (arith, some))
   first_put s (task ∷ others) bytes some room e = record {
     target = task.command.target;
@@ -68,12 +69,12 @@ module _ (plan : Plan) (commands : List Task) where
 
   -- the bytes of a null procedure after commands are the line of the request of its part
   null_put : (s : Model) (bytes : List ℕ) → length s.client.waiting < 7 → bytes ≡ request_text s.client (Table NullProc)
-      → IsSent s bytes (asking 0 (Table NullProc) (later s.progress.moment.elapsed plan.deadline) None)
+      → IsSent s bytes (request_part 0 (Table NullProc) (later s.progress.moment.elapsed plan.deadline) None)
   null_put s bytes room e = record { target = 0; call = Table NullProc; deadline = later s.progress.moment.elapsed plan.deadline; mark = None; part = refl; text = e; room = room }
 
   -- the bytes of the next command of the setup are the line of the request of its part
   setup_put : (s : Model) (left : List Task) (bytes : List ℕ) → length s.client.waiting < 7 → bytes ≡ text_or_null s.progress.moment.utc s.client left
-      → IsSent s bytes (asking_or_null plan s.progress.moment.elapsed (mark_setup commands s.progress) left)
+      → IsSent s bytes (request_or_null_part plan s.progress.moment.elapsed (mark_setup commands s.progress) left)
   setup_put s [] bytes room e = null_put s bytes room e
   setup_put s (task ∷ others) bytes room e = record {
     target = task.command.target;
@@ -86,10 +87,10 @@ module _ (plan : Plan) (commands : List Task) where
   }
 
   -- once the station has synchronized, the bytes that an act of this action puts are as `IsPut` says of the action's part
-  put_order : (s : Model) (o : Action) (act : Act) (bytes : List ℕ) → Invariant plan commands s → HoldsBefore plan s.progress (waiting_of s) o
-      → Performs commands s o act → put_by act ≡ Some bytes → has_begun s.progress ≡ true → IsPut s bytes (putting plan commands s o)
+  put_order : (s : Model) (o : Action) (act : Act) (bytes : List ℕ) → Invariant plan commands s → (needs : HoldsBefore plan s.progress (waiting_of s) o)
+      → (performs : Performs commands s o act) → (puts : put_by act ≡ Some bytes) → (begun : has_begun s.progress ≡ true) → IsPut s bytes (put_part plan commands s o)
   put_order s action.Clear act bytes fine is obeys e begun = inl (puts_same (10 ∷ []) bytes act e obeys, refl)
-  put_order s action.Ask act bytes fine is obeys e begun = absurd (not_both (has_begun s.progress) begun is.1)
+  put_order s action.Ask act bytes fine is obeys e begun = absurd (both_ways (has_begun s.progress) is.1 begun)
   put_order s action.Renew act bytes fine is obeys e begun = absurd (never_puts act bytes e (inl obeys))
   put_order s action.Flush act bytes fine is obeys e begun = inr (null_put s bytes is.4.1 (puts_same (request_text s.client (Table NullProc)) bytes act e obeys))
   put_order s action.Prepare act bytes fine is obeys e begun =
@@ -109,7 +110,7 @@ module _ (plan : Plan) (commands : List Task) where
 
   -- once the station has synchronized, the bytes that an act of a run puts are as `IsPut` says of its part
   pub put_is : (s : Model) (act : Act) (bytes : List ℕ) → Invariant plan commands s → Performs commands s (action_at plan s) act → put_by act ≡ Some bytes
-      → has_begun s.progress ≡ true → IsPut s bytes (putting plan commands s (action_at plan s))
+      → has_begun s.progress ≡ true → IsPut s bytes (put_part plan commands s (action_at plan s))
   put_is s act bytes fine obeys e begun = put_order s (action_at plan s) act bytes fine (action_for plan s.progress (waiting_of s)) obeys e begun
 
   -- while the station synchronizes: these bytes are a line feed, which is no part; or the null procedure of the first id that
@@ -118,7 +119,7 @@ module _ (plan : Plan) (commands : List Task) where
   IsAsked s bytes p = ((bytes ≡ 10 ∷ []) × (p ≡ nothing)) ⊎ ((bytes ≡ null_text s.progress.word) × (p ≡ only_turns (Asks ∷ [])))
 
   -- the part of an act of the action `Ask` that puts bytes is one turn, `Asks`
-  asked_turn : (s : Model) (act : Act) (bytes : List ℕ) → put_by act ≡ Some bytes → beginning s action.Ask act ≡ only_turns (Asks ∷ [])
+  asked_turn : (s : Model) (act : Act) (bytes : List ℕ) → put_by act ≡ Some bytes → sync_part s action.Ask act ≡ only_turns (Asks ∷ [])
   asked_turn s (Put out) bytes e = refl
   asked_turn s (Cut out count) bytes e = refl
   asked_turn s act bytes e = cc
@@ -126,12 +127,12 @@ module _ (plan : Plan) (commands : List Task) where
   -- while the station synchronizes, bytes that an act of this action puts are a line feed or the null procedure of the first id
   -- that isn't answered
   asked_order : (s : Model) (o : Action) (act : Act) (bytes : List ℕ) → HoldsBefore plan s.progress (waiting_of s) o → Performs commands s o act
-      → put_by act ≡ Some bytes → has_begun s.progress ≡ false → IsAsked s bytes (beginning s o act)
+      → put_by act ≡ Some bytes → has_begun s.progress ≡ false → IsAsked s bytes (sync_part s o act)
   asked_order s action.Clear act bytes is obeys e begins = inl (puts_same (10 ∷ []) bytes act e obeys, refl)
   asked_order s action.Ask act bytes is obeys e begins = inr (puts_same (null_text s.progress.word) bytes act e obeys, asked_turn s act bytes e)
-  asked_order s action.Flush act bytes is obeys e begins = absurd (not_both (has_begun s.progress) is.1 begins)
-  asked_order s action.Prepare act bytes is obeys e begins = absurd (not_both (has_begun s.progress) is.1 begins)
-  asked_order s action.Send act bytes is obeys e begins = absurd (not_both (has_begun s.progress) is.1 begins)
+  asked_order s action.Flush act bytes is obeys e begins = absurd (both_ways (has_begun s.progress) begins is.1)
+  asked_order s action.Prepare act bytes is obeys e begins = absurd (both_ways (has_begun s.progress) begins is.1)
+  asked_order s action.Send act bytes is obeys e begins = absurd (both_ways (has_begun s.progress) begins is.1)
   asked_order s action.Renew act bytes is obeys e begins = absurd (never_puts act bytes e (inl obeys))
   asked_order s action.ReadClock act bytes is obeys e begins = absurd (never_puts act bytes e (inl obeys))
   asked_order s action.Skip act bytes is obeys e begins = absurd (never_puts act bytes e (inl obeys))
@@ -145,5 +146,5 @@ module _ (plan : Plan) (commands : List Task) where
   -- while the station synchronizes, bytes that an act of a run puts are a line feed or the null procedure of the first id that
   -- isn't answered
   pub asked_is : (s : Model) (act : Act) (bytes : List ℕ) → Performs commands s (action_at plan s) act → put_by act ≡ Some bytes
-      → has_begun s.progress ≡ false → IsAsked s bytes (beginning s (action_at plan s) act)
+      → has_begun s.progress ≡ false → IsAsked s bytes (sync_part s (action_at plan s) act)
   asked_is s act bytes obeys e begins = asked_order s (action_at plan s) act bytes (action_for plan s.progress (waiting_of s)) obeys e begins

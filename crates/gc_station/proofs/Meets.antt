@@ -153,7 +153,7 @@ heard_left c line (Some id) = by_test (place_in c id) (nat_lt (place_in c id) (l
 pub left_count : (c : ById Asked) (x : Settled Asked (ById Asked)) (l : Left c x) → length x.client.waiting ≡ length c.waiting - l.count
 left_count c x l = ap length l.waiting ∙ length-drop l.count c.waiting
 
--- what a line leaves is still a window
+-- a line preserves `IsWithinLimits`
 pub left_window : (c : ById Asked) (x : Settled Asked (ById Asked)) → Left c x → IsWithinLimits c → IsWithinLimits x.client
 left_window c x l w = let many = left_count c x l in record { digit = subst (λ (n : ℕ). n < 8) (sym l.next) w.digit; few = omega (arith, many, w.few) }
 

@@ -6,6 +6,7 @@ use Rattle.std.specs.List.{AllByRecursion}
 use Rattle.std.proofs.Math.Nat.{mod-lt}
 use Rattle.std.proofs.lemmas.Bool.Decides.{nat_tests}
 use Rattle.std.proofs.lemmas.List.{length-map, length-drop, nil_from_length}
+use Rattle.std.proofs.lemmas.Bool.{both_ways}
 use Rattle.gc_catalogue.specs.declared.answer.Reading.{Reading}
 use Rattle.gc_catalogue.specs.declared.asked.Asked.{Asked}
 use Rattle.gc_client.specs.declared.window.TheConstants.{WINDOW, IDS}
@@ -23,8 +24,8 @@ use Rattle.gc_station.specs.declared.plan.Plan.{Plan}
 use Rattle.gc_station.specs.declared.progress.Phase.{Phase}
 use Rattle.gc_station.specs.declared.progress.Progress.{Progress}
 use Rattle.gc_station.specs.Deciding.{has_begun, is_up}
-use Rattle.gc_station.specs.EachOnce.{of_text, Parted, Request, requests, of_task, of_record, still_waiting, commands_reached}
-use Rattle.gc_station.proofs.Parted.{parted_more, parted_past, sent_past}
+use Rattle.gc_station.specs.EachOnce.{of_text, Interleave, Request, requests, of_task, of_record, still_waiting, commands_reached}
+use Rattle.gc_station.proofs.Interleaving.{interleave_more, interleave_past, sent_past}
 use Rattle.gc_station.specs.Marks.{commands_in, records_of}
 use Rattle.gc_station.specs.Progressing.{is_over_in, is_over, loses_all}
 use Rattle.gc_station.specs.Parts.{MarksAsk, MarkAsks, went_out}
@@ -35,11 +36,11 @@ use Rattle.gc_station.proofs.Each.{each_moment, each_settles, each_null, each_se
 use Rattle.gc_station.proofs.Invariant.{Invariant, is_bare, says_done}
 use Rattle.gc_station.proofs.Lists.{all_append}
 use Rattle.gc_station.proofs.Tasked.{at_place, own_more, own_settled, settled_tasked, unsent_tasked}
-use Rattle.gc_station.proofs.Ticking.{not_both}
 
 -- where `left` cycles haven't begun, and `unsent` commands of the present one haven't had their turn: the records, and after
--- them the outstanding commands, are the commands that had their turn, sent or not, in order. Each request that waits has its
--- mark, at most 7 wait, and the next id is below 8. Each asks what its mark says, and each record is of its task
+-- them the outstanding commands, with the attempts that were left out (`passes`) between them, are the commands that had their
+-- turn, in order. Each request that waits has its mark, at most 7 wait, and the next id is below 8. Each asks what its mark says,
+-- and each record is of its task
 pub record Sound (plan : Plan) (commands : List Task) (left unsent : ℕ) (client : ById Asked) (marks : List (Option Mark)) (records : List Record) (passes : List Request) : Type 0 where
   pub unsents : unsent ≤ length commands - plan.setup
   pub lefts : left ≤ plan.cycles
@@ -47,7 +48,7 @@ pub record Sound (plan : Plan) (commands : List Task) (left unsent : ℕ) (clien
   pub paired : length marks ≡ length client.waiting
   pub window : length client.waiting ≤ 7
   pub digit : client.next < 8
-  pub each : Parted (of_text commands (map of_record records ++ still_waiting marks client.waiting)) passes (commands_reached plan.setup commands (plan.cycles - left) (length commands - unsent))
+  pub each : Interleave (of_text commands (map of_record records ++ still_waiting marks client.waiting)) passes (commands_reached plan.setup commands (plan.cycles - left) (length commands - unsent))
   pub own : MarksAsk commands marks (map of_pending client.waiting)
   pub tasked : AllByRecursion (IsOfItsTask commands) records
 
@@ -68,7 +69,7 @@ PlacedAt p rest marks = Placed p.phase p.left p.unsent rest marks
 abbrev pub Mid : Plan → List Task → Model → Type 0
 Mid plan commands s = SoundAt plan commands s.progress s.client s.marks s.records s.passes × PlacedAt s.progress s.rest s.marks
 
--- what every run keeps gives `Mid`
+-- the invariant of every run gives `Mid`
 pub mid_of : (plan : Plan) (commands : List Task) (s : Model) → Invariant plan commands s → Mid plan commands s
 mid_of plan commands s fine = (
   record {
@@ -90,9 +91,9 @@ mid_of plan commands s fine = (
 
 -- What holds of the counts and the records.
 
--- `Parted` holds with a list xs' in place of an equal list xs
-parted_by_equal : (xs xs' ys zs : List Request) → xs' ≡ xs → Parted xs ys zs → Parted xs' ys zs
-parted_by_equal xs xs' ys zs e h = subst (λ (l : List Request). Parted l ys zs) (sym e) h
+-- `Interleave` holds with a list xs' in place of an equal list xs
+interleave_by_equal : (xs xs' ys zs : List Request) → xs' ≡ xs → Interleave xs ys zs → Interleave xs' ys zs
+interleave_by_equal xs xs' ys zs e h = subst (λ (l : List Request). Interleave l ys zs) (sym e) h
 
 -- a moment that times requests out preserves `Sound`
 pub sound_moment : (plan : Plan) (commands : List Task) (left unsent : ℕ) (client : ById Asked) (marks : List (Option Mark)) (records : List Record) (passes : List Request) (m : ℕ)
@@ -107,7 +108,7 @@ sound_moment plan commands left unsent client marks records passes m sound =
       paired = sound.paired ∙ sym same;
       window = omega (arith, same, sound.window);
       digit = sound.digit;
-      each = parted_by_equal _ _ _ _ (each_moment commands marks client.waiting records (of_text commands (map of_record records ++ still_waiting marks client.waiting)) m refl) sound.each;
+      each = interleave_by_equal _ _ _ _ (each_moment commands marks client.waiting records (of_text commands (map of_record records ++ still_waiting marks client.waiting)) m refl) sound.each;
       own = subst (MarksAsk commands marks) (sym (expired_parts m client.waiting)) sound.own;
       tasked = sound.tasked;
     }
@@ -132,7 +133,7 @@ sound_settles reads plan commands left unsent client next marks records passes u
       paired = omega (arith, ends, behind, count, fewer, sound.paired);
       window = omega (arith, ends, behind, count, sound.window);
       digit = low;
-      each = parted_by_equal _ _ _ _ (each_settles reads commands utc marks client.waiting next.waiting ss records
+      each = interleave_by_equal _ _ _ _ (each_settles reads commands utc marks client.waiting next.waiting ss records
           (of_text commands (map of_record records ++ still_waiting marks client.waiting)) parts refl) sound.each;
       own = own_settled commands marks ss waits all;
       tasked = all_append (IsOfItsTask commands) records _ sound.tasked (settled_tasked reads commands utc marks ss waits all);
@@ -166,7 +167,8 @@ sound_null plan commands left unsent client marks records passes target call dea
       paired = one_more marks client.waiting None p sound.paired;
       window = omega (arith, more, room);
       digit = mod-lt (client.next + 1) (omega arith);
-      each = parted_by_equal _ _ _ _ (each_null commands marks client.waiting p records (of_text commands (map of_record records ++ still_waiting marks client.waiting)) sound.paired refl) sound.each;
+      each = interleave_by_equal _ _ _ _
+          (each_null commands marks client.waiting p records (of_text commands (map of_record records ++ still_waiting marks client.waiting)) sound.paired refl) sound.each;
       own = own_more commands marks client.waiting None p sound.own is;
       tasked = sound.tasked;
     })
@@ -189,11 +191,12 @@ sound_sent plan commands left unsent client marks records passes utc deadline ex
     let kept = of_text commands (map of_record records ++ still_waiting marks client.waiting) in
     let within : plan.setup ≤ place = omega (arith, some, sound.unsents) in
     let one = requests begun place (of_task task ∷ []) in
-    let each : Parted (of_text commands (map of_record records ++ still_waiting (marks ++ Some mark ∷ []) (client.waiting ++ p ∷ []))) passes (commands_reached plan.setup commands begun (place + 1)) =
-    subst (λ (xs : List Request). Parted (of_text commands (map of_record records ++ still_waiting (marks ++ Some mark ∷ []) (client.waiting ++ p ∷ []))) passes xs)
+    let each : Interleave (of_text commands (map of_record records ++ still_waiting (marks ++ Some mark ∷ []) (client.waiting ++ p ∷ []))) passes
+    (commands_reached plan.setup commands begun (place + 1)) =
+    subst (λ (xs : List Request). Interleave (of_text commands (map of_record records ++ still_waiting (marks ++ Some mark ∷ []) (client.waiting ++ p ∷ []))) passes xs)
     (sent_next plan.setup commands begun place task others at within many)
-    (parted_by_equal _ _ _ _ (each_sent commands begun place utc expected marks client.waiting p records task others sound.paired at refl many kept refl)
-    (parted_more kept passes (commands_reached plan.setup commands begun place) one sound.each)) in
+    (interleave_by_equal _ _ _ _ (each_sent commands begun place utc expected marks client.waiting p records task others sound.paired at refl many kept refl)
+    (interleave_more kept passes (commands_reached plan.setup commands begun place) one sound.each)) in
     subst (λ (c : ById Asked). Sound plan commands left (unsent - 1) c (marks ++ Some mark ∷ []) records passes)
     (sym (client_behind client task.command.target (call_at task utc) deadline room)) (record {
       unsents = omega (arith, sound.unsents);
@@ -202,7 +205,7 @@ sound_sent plan commands left unsent client marks records passes utc deadline ex
       paired = one_more marks client.waiting (Some mark) p sound.paired;
       window = omega (arith, more, room);
       digit = mod-lt (client.next + 1) (omega arith);
-      each = subst (λ (n : ℕ). Parted (of_text commands (map of_record records ++ still_waiting (marks ++ Some mark ∷ []) (client.waiting ++ p ∷ []))) passes
+      each = subst (λ (n : ℕ). Interleave (of_text commands (map of_record records ++ still_waiting (marks ++ Some mark ∷ []) (client.waiting ++ p ∷ []))) passes
           (commands_reached plan.setup commands begun n)) (sym place_is) each;
       own = own_more commands marks client.waiting (Some mark) p sound.own (task, at_place place commands task others at, refl);
       tasked = sound.tasked;
@@ -224,7 +227,7 @@ sound_prepared plan commands left unsent client marks records passes deadline ma
       paired = one_more marks client.waiting (Some mark) p sound.paired;
       window = omega (arith, more, room);
       digit = mod-lt (client.next + 1) (omega arith);
-      each = parted_by_equal _ _ _ _ (each_prepared commands mark marks client.waiting p records
+      each = interleave_by_equal _ _ _ _ (each_prepared commands mark marks client.waiting p records
           (of_text commands (map of_record records ++ still_waiting marks client.waiting)) none sound.paired refl) sound.each;
       own = own_more commands marks client.waiting (Some mark) p sound.own (task, at, refl);
       tasked = sound.tasked;
@@ -233,7 +236,8 @@ sound_prepared plan commands left unsent client marks records passes deadline ma
 -- a command that isn't sent preserves `Sound`, with one command less unsent
 pub sound_skipped : (plan : Plan) (commands : List Task) (left unsent : ℕ) (client : ById Asked) (marks : List (Option Mark)) (records : List Record) (passes : List Request)
     (utc : ℕ) (end : End) (turn : Turn) (task : Task) (others : List Task)
-    → commands_in marks ≡ 0 → 0 < unsent → drop (length commands - unsent) commands ≡ task ∷ others → went_out end ≡ false → Sound plan commands left unsent client marks records passes
+    → (none : commands_in marks ≡ 0) → (some : 0 < unsent) → (there : drop (length commands - unsent) commands ≡ task ∷ others) → (out : went_out end ≡ false)
+    → Sound plan commands left unsent client marks records passes
     → Sound plan commands left (unsent - 1) client marks (records ++ record
     { sent = None; utc = utc; cycle = plan.cycles - left; place = length commands - unsent; turn = turn; command = task.command; end = end } ∷ []) passes
 sound_skipped plan commands left unsent client marks records passes utc end turn task others none some at out sound =
@@ -253,10 +257,10 @@ sound_skipped plan commands left unsent client marks records passes utc end turn
       each =
           let kept = of_text commands (map of_record records ++ still_waiting marks client.waiting) in
           let one = requests begun place (of_task task ∷ []) in
-          subst (λ (xs : List Request). Parted (of_text commands (map of_record (records ++ r ∷ []) ++ still_waiting marks client.waiting)) passes xs)
+          subst (λ (xs : List Request). Interleave (of_text commands (map of_record (records ++ r ∷ []) ++ still_waiting marks client.waiting)) passes xs)
           (sent_next plan.setup commands begun place task others at (omega (arith, some, sound.unsents)) many ∙ ap (λ (n : ℕ). commands_reached plan.setup commands begun n) (sym place_is))
-          (parted_by_equal _ _ _ _ (each_skipped commands begun place marks client.waiting records r task others none at refl many kept refl)
-          (parted_more kept passes (commands_reached plan.setup commands begun place) one sound.each));
+          (interleave_by_equal _ _ _ _ (each_skipped commands begun place marks client.waiting records r task others none at refl many kept refl)
+          (interleave_more kept passes (commands_reached plan.setup commands begun place) one sound.each));
       own = sound.own;
       tasked = all_append (IsOfItsTask commands) records _ sound.tasked (unsent_tasked commands utc begun place turn end task (at_place place commands task others at) out, tt);
     }
@@ -280,9 +284,9 @@ sound_passed plan commands left unsent count client marks records passes some so
       paired = sound.paired;
       window = sound.window;
       digit = sound.digit;
-      each = subst (λ (xs : List Request). Parted kept (passes ++ past) xs)
+      each = subst (λ (xs : List Request). Interleave kept (passes ++ past) xs)
           (sent_past plan.setup commands begun place count (length commands - (unsent - count)) (omega (arith, some, sound.unsents)) (omega (arith, sound.unsents)) many
-          (by_count (nat_lt unsent count) refl)) (parted_past kept passes (commands_reached plan.setup commands begun place) past sound.each);
+          (by_count (nat_lt unsent count) refl)) (interleave_past kept passes (commands_reached plan.setup commands begun place) past sound.each);
       own = sound.own;
       tasked = sound.tasked;
     } where
@@ -304,7 +308,7 @@ sound_begun plan commands left unsent client marks records passes none some soun
       paired = sound.paired;
       window = sound.window;
       digit = sound.digit;
-      each = subst (λ (xs : List Request). Parted (of_text commands (map of_record records ++ still_waiting marks client.waiting)) passes xs)
+      each = subst (λ (xs : List Request). Interleave (of_text commands (map of_record records ++ still_waiting marks client.waiting)) passes xs)
           (sent_whole plan.setup commands (plan.cycles - left) (length commands - unsent) (omega (arith, none))
           ∙ sym (sent_none plan.setup commands (plan.cycles - left) (plan.cycles - (left - 1)) (length commands - (length commands - plan.setup))
           (omega (arith, some, lefts)) (omega arith))) sound.each;
@@ -315,14 +319,14 @@ sound_begun plan commands left unsent client marks records passes none some soun
 -- The end of what is outstanding.
 
 -- if nothing is lost, the station has synchronized (a), and the run isn't over (o)
-kept_for : (a o : Bool) → (not a || o) ≡ false → (a ≡ true) × (o ≡ false)
+pub kept_for : (a o : Bool) → (not a || o) ≡ false → (a ≡ true) × (o ≡ false)
 kept_for true o e = (refl, e)
 kept_for false o e = cc
 
 -- if the counts are those of a run that is done, as `Placed` has them, and the run isn't over, no command is outstanding
 still_finished : (p : Progress) (marks : List (Option Mark)) → is_over p ≡ false
     → (p.left ≡ 0) × (p.unsent ≡ 0) × ((is_over_in p.phase ≡ true) ⊎ (commands_in marks ≡ 0)) → (p.left ≡ 0) × (p.unsent ≡ 0) × (commands_in marks ≡ 0)
-still_finished p marks not_over (left, unsent, inl over) = absurd (not_both (is_over p) (ap (λ b. b || (not (is_up p.phase) && nat_eq p.turns 0)) over) not_over)
+still_finished p marks not_over (left, unsent, inl over) = absurd (both_ways (is_over p) not_over (ap (λ b. b || (not (is_up p.phase) && nat_eq p.turns 0)) over))
 still_finished p marks not_over (left, unsent, inr none) = (left, unsent, none)
 
 -- once all that is outstanding is lost where `loses_all` says so, `Mid` gives the invariant of every run
@@ -358,9 +362,9 @@ invariant_losing plan commands s false is (sound, placed) =
       paired = sound.paired;
       window = sound.window;
       digit = sound.digit;
-      begins = λ e. absurd (not_both (has_begun p) kept.0 e);
+      begins = λ e. absurd (both_ways (has_begun p) e kept.0);
       rest = placed.empty;
-      over = λ e. absurd (not_both (is_over p) e kept.1);
+      over = λ e. absurd (both_ways (is_over p) kept.1 e);
       finished = λ e. still_finished p s.marks kept.1 (placed.finished e);
       each = sound.each;
       own = sound.own;

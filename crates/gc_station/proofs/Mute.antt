@@ -5,7 +5,7 @@
 use Rattle.std.proofs.Common.{◌≡◌, ℕ, ◌-◌, ◌<◌, ◌≤◌, ◌⊎◌, inl, inr, ◌&&◌, ◌||◌, Bool, true, false, List, [], ◌∷◌, ◌++◌, length, drop, if◌then◌else◌, nat_lt, nat_le, min, refl, sym, ap, ◌∙◌, subst, arith, append_assoc}
 use Rattle.std.specs.List.{AllByRecursion}
 use Rattle.std.proofs.Math.Nat.{min-eq_left, min-eq_right}
-use Rattle.std.proofs.lemmas.Bool.{leb-true, leb-false, ltb-true}
+use Rattle.std.proofs.lemmas.Bool.{leb-true, leb-false, ltb-true, and_parts, both_ways, or_right}
 use Rattle.gc_lines.specs.Frames.{rest_behind}
 use Rattle.gc_catalogue.specs.declared.asked.Asked.{Asked}
 use Rattle.gc_client.specs.Beginning.{the_word}
@@ -28,12 +28,11 @@ use Rattle.gc_station.specs.Quiet.{TellsMoment, IsListening, StaysConnected}
 use Rattle.gc_station.specs.Reasons.{HoldsBefore}
 use Rattle.gc_station.specs.Runs.{state_after}
 use Rattle.gc_station.specs.Silences.{latest, IsNoReply, BringsNoReply, IsMute, WentBack, IsMuteFor}
-use Rattle.gc_station.specs.Model.{Model, request_text, null_text, first_text, opening, action_at, waiting_of, with_progress, with_moment, with_rest, lines_came, lines_completed, after_piece, is_heard, place_next, Performs, moved, after, after_all, Runs, text_or_null}
-use Rattle.gc_station.proofs.Always.{always_of_progress}
-use Rattle.gc_station.proofs.Connected.{is_in_use, OnLine, on_line}
+use Rattle.gc_station.specs.Model.{Model, request_text, null_text, first_text, opening, action_at, waiting_of, with_progress, with_moment, with_rest, lines_came, lines_completed, after_piece, is_heard, place_next, after, after_all, Runs, text_or_null}
+use Rattle.gc_station.proofs.Connected.{is_in_use, OnLine, on_line_always}
 use Rattle.gc_station.proofs.Since.{Since, since_now, since_on, cut_on}
 use Rattle.gc_station.proofs.EachRun.{invariant_holds}
-use Rattle.gc_station.proofs.Facts.{both_true, either_true, or_true, action_for, order_wakes, Awake, Wakes}
+use Rattle.gc_station.proofs.Facts.{or_first, action_for, order_wakes, Awake, Wakes}
 use Rattle.gc_station.proofs.Going.{after_all-append}
 use Rattle.gc_station.proofs.Lists.{all_append}
 use Rattle.gc_station.proofs.Silences.{LastTells, awake_last, not_closing, end_here, awake_here}
@@ -41,7 +40,7 @@ use Rattle.gc_station.proofs.Invariant.{Invariant}
 use Rattle.gc_station.proofs.Walk.{asked_along, came_along}
 use Rattle.gc_station.specs.Scopes.{Scope}
 use Rattle.gc_station.proofs.ReplyLines.{lines_moment, Alive, lines_alive, AliveAsked, asked_alive}
-use Rattle.gc_station.proofs.Ticking.{not_both, latest_more}
+use Rattle.gc_station.proofs.Ticking.{latest_more}
 
 -- whether a reply line is waited for on the connection: the station has synchronized (no id of `word` is left), or a null
 -- procedure was sent on it (`again`), or a request after the last reply line (`asked`)
@@ -54,11 +53,13 @@ sought_begun word again asked e = ap (λ b. b || (nat_lt 0 again || asked)) e
 
 -- if a null procedure of the synchronization was sent on this connection, a reply line is waited for
 sought_again : (word : List ℕ) (again : ℕ) (asked : Bool) → nat_lt 0 again ≡ true → is_sought word again asked ≡ true
-sought_again word again asked e = ap (λ b. is_none_left word || (b || asked)) e ∙ or_true (is_none_left word)
+sought_again word again asked e = ap (λ b. is_none_left word || (b || asked)) e ∙ or_right (is_none_left word) true refl
 
 -- if a request was sent after the last reply line, a reply line is waited for
 sought_asked : (word : List ℕ) (again : ℕ) (asked : Bool) → asked ≡ true → is_sought word again asked ≡ true
-sought_asked word again asked e = ap (λ b. is_none_left word || (nat_lt 0 again || b)) e ∙ ap (λ b. is_none_left word || b) (or_true (nat_lt 0 again)) ∙ or_true (is_none_left word)
+sought_asked word again asked e =
+    ap (λ b. is_none_left word || (nat_lt 0 again || b)) e
+    ∙ ap (λ b. is_none_left word || b) (or_right (nat_lt 0 again) true refl) ∙ or_right (is_none_left word) true refl
 
 -- which requests were sent in the acts `behind` (last), after a silence began at the moment `from`. If none is waited for
 -- (`false`), none was sent; otherwise the first of these acts sent one, or the clock went back to `from` after the acts `before`
@@ -110,8 +111,8 @@ module _ (plan : Plan) (commands : List Task) (scope : Scope) where
   muted_now now acts act tells = muted_from false now acts act tells tt
 
   -- a silence goes on after an act that brings no reply
-  muted_on : (asked : Bool) (alive now : ℕ) (acts : List Act) (act : Act) → StaysConnected act → BringsNoReply (state_after plan commands scope acts).rest act
-      → ((before behind : List Act) → Asks asked alive before behind → Asks asked alive before (behind ++ act ∷ [])) → alive ≤ latest now (act ∷ []) → IsMuted asked alive now acts
+  muted_on : (asked : Bool) (alive now : ℕ) (acts : List Act) (act : Act) → (stays : StaysConnected act) → (none : BringsNoReply (state_after plan commands scope acts).rest act)
+      → (asks : (before behind : List Act) → Asks asked alive before behind → Asks asked alive before (behind ++ act ∷ [])) → (least : alive ≤ latest now (act ∷ [])) → IsMuted asked alive now acts
       → IsMuted asked alive (latest now (act ∷ [])) (acts ++ act ∷ [])
   muted_on asked alive now acts act stays none asks least q =
       since_on (Mutes asked alive now) (Mutes asked alive (latest now (act ∷ []))) acts (act ∷ [])
@@ -156,9 +157,9 @@ module _ (plan : Plan) (commands : List Task) (scope : Scope) where
       })
 
   -- a silence goes on after an act that reads a moment, or starts again there if the clock went back
-  muted_clock : (asked : Bool) (alive now : ℕ) (m : Moment) (acts : List Act) (act : Act) (b : Bool) → nat_le alive m.elapsed ≡ b → TellsMoment m.elapsed act
-      → latest now (act ∷ []) ≡ m.elapsed → StaysConnected act → IsListening act
-      → BringsNoReply (state_after plan commands scope acts).rest act → IsMuted asked alive now acts → IsMuted asked (min alive m.elapsed) m.elapsed (acts ++ act ∷ [])
+  muted_clock : (asked : Bool) (alive now : ℕ) (m : Moment) (acts : List Act) (act : Act) (b : Bool) → (is : nat_le alive m.elapsed ≡ b) → (tells : TellsMoment m.elapsed act)
+      → (reads_it : latest now (act ∷ []) ≡ m.elapsed) → (stays : StaysConnected act) → (listens : IsListening act)
+      → (none : BringsNoReply (state_after plan commands scope acts).rest act) → IsMuted asked alive now acts → IsMuted asked (min alive m.elapsed) m.elapsed (acts ++ act ∷ [])
   muted_clock asked alive now m acts act true e tells is stays listens none q =
       let low = leb-true alive m.elapsed e in
       let least : alive ≤ latest now (act ∷ []) = omega (arith, is, low) in
@@ -191,9 +192,9 @@ module _ (plan : Plan) (commands : List Task) (scope : Scope) where
 
   -- `Mute` is preserved by an act that reads a moment and brings no reply line
   mute_told : (sought sought' asked : Bool) (alive now : ℕ) (m : Moment) (at : Phase) (acts : List Act) (act : Act)
-      → (at ≡ phase.Ready → sought' ≡ true → sought ≡ true) → TellsMoment m.elapsed act → latest now (act ∷ []) ≡ m.elapsed → StaysConnected act
-      → IsListening act
-      → BringsNoReply (state_after plan commands scope acts).rest act → Mute sought asked alive now at acts → Mute sought' asked (min alive m.elapsed) m.elapsed at (acts ++ act ∷ [])
+      → (back : at ≡ phase.Ready → sought' ≡ true → sought ≡ true) → (tells : TellsMoment m.elapsed act) → (reads_it : latest now (act ∷ []) ≡ m.elapsed) → (stays : StaysConnected act)
+      → (listens : IsListening act)
+      → (none : BringsNoReply (state_after plan commands scope acts).rest act) → Mute sought asked alive now at acts → Mute sought' asked (min alive m.elapsed) m.elapsed at (acts ++ act ∷ [])
   mute_told sought sought' asked alive now m phase.Ready acts act back tells is stays listens none q =
       λ so. muted_clock asked alive now m acts act (nat_le alive m.elapsed) refl tells is stays listens none (q (back refl so))
   mute_told sought sought' asked alive now m at acts act back tells is stays listens none q = tt
@@ -324,7 +325,7 @@ module _ (plan : Plan) (commands : List Task) (scope : Scope) where
   cleared_mute : (begun : Bool) (p : Progress) (acts : List Act) → has_begun p ≡ begun
       → Mute (is_sought p.word 0 false) false p.alive p.moment.elapsed (if begun then phase.Draining else phase.Ready) acts
   cleared_mute true p acts e = tt
-  cleared_mute false p acts e = λ so. absurd (not_both (is_sought p.word 0 false) so (ap (λ b. b || false) e))
+  cleared_mute false p acts e = λ so. absurd (both_ways (is_sought p.word 0 false) (ap (λ b. b || false) e) so)
 
   -- `Mute` is preserved if the station resynchronizes: the silence goes on, or begins with the next request
   mute_where : (asked on : Bool) (alive now : ℕ) (at : Phase) (acts : List Act) → Mute (is_sought the_word 0 asked) asked alive now at acts
@@ -334,7 +335,7 @@ module _ (plan : Plan) (commands : List Task) (scope : Scope) where
   mute_where true false alive now at acts q = tt
   mute_where false on alive now at acts q = q
 
-  -- what `MuteAt` says holds on after an act of any action that leaves a connection in use
+  -- `MuteAt` is preserved by an act of any action that leaves a connection in use
   mute_line : (next : Action) (s : Model) (acts : List Act) → HoldsBefore plan s.progress (waiting_of s) next → Tells s.progress acts next → (state_after plan commands scope acts).rest ≡ s.rest
       → MuteAt s.progress acts → OnLine plan commands MuteAt next (with_progress turned s) acts
   mute_line actions.Open s acts needs tells rest q = λ m. tt
@@ -372,18 +373,12 @@ module _ (plan : Plan) (commands : List Task) (scope : Scope) where
 
   -- `MuteAt` holds after every run
   mute_holds : (acts : List Act) → Runs plan commands (opening plan scope) acts → MuteAt (state_after plan commands scope acts).progress acts
-  mute_holds acts runs = always_of_progress plan commands (opening plan scope) MuteAt step tt acts runs where
-    -- one act of a run preserves `MuteAt`
-    step : (done : List Act) (act : Act) → Runs plan commands (opening plan scope) done
-        → Performs commands (state_after plan commands scope done) (action_at plan (state_after plan commands scope done)) act
-        → MuteAt (state_after plan commands scope done).progress done
-        → MuteAt (moved plan commands (action_at plan (state_after plan commands scope done)) (with_progress turned (state_after plan commands scope done)) act).progress (done ++ act ∷ [])
-    step done act runs o q =
-        let s = state_after plan commands scope done in
-        let p = s.progress in
-        let tells = tells_in p done (action_at plan s) (order_wakes plan p (waiting_of s)) (λ awake. awake_last plan commands scope done runs awake) in
-        on_line plan commands MuteAt (λ x acts none. mute_none (is_sought x.word x.again x.asked) x.asked x.alive x.moment.elapsed x.phase acts none)
-        (action_at plan s) s act done o (mute_line (action_at plan s) s done (action_for plan p (waiting_of s)) tells refl q)
+  mute_holds acts runs =
+      on_line_always plan commands MuteAt (λ x acts none. mute_none (is_sought x.word x.again x.asked) x.asked x.alive x.moment.elapsed x.phase acts none) scope (λ done runs q.
+      let s = state_after plan commands scope done in
+      let p = s.progress in
+      let tells = tells_in p done (action_at plan s) (order_wakes plan p (waiting_of s)) (λ awake. awake_last plan commands scope done runs awake) in
+      mute_line (action_at plan s) s done (action_for plan p (waiting_of s)) tells refl q) tt acts runs
 
   -- if a request is outstanding, or a null procedure was sent on this connection, a reply line is waited for
   sought_dead : (s : Model) → Invariant plan commands s → (nat_lt 0 (length s.client.waiting) || nat_lt 0 s.progress.again) ≡ true → is_sought s.progress.word s.progress.again s.progress.asked ≡ true
@@ -403,7 +398,7 @@ module _ (plan : Plan) (commands : List Task) (scope : Scope) where
     -- the lemma above, by whether a null procedure of the synchronization was sent on this connection (`true`)
     by_again : (b : Bool) → nat_lt 0 p.again ≡ b → is_sought p.word p.again p.asked ≡ true
     by_again true again = sought_again p.word p.again p.asked again
-    by_again false again = by_begun (has_begun p) refl (either_true (nat_lt 0 (length s.client.waiting)) (nat_lt 0 p.again) e again)
+    by_again false again = by_begun (has_begun p) refl (or_first (nat_lt 0 (length s.client.waiting)) (nat_lt 0 p.again) e again)
 
   -- a connection is closed for a dead line only after a silence that was long enough
   pub mute_close : (acts : List Act) → Runs plan commands (opening plan scope) acts
@@ -434,7 +429,7 @@ module _ (plan : Plan) (commands : List Task) (scope : Scope) where
 
     -- a reply line is waited for, and for long enough none came
     dead : ((nat_lt 0 (length s.client.waiting) || nat_lt 0 s.progress.again) ≡ true) × (nat_le (dead_after plan) (s.progress.moment.elapsed - s.progress.alive) ≡ true)
-    dead = both_true (nat_lt 0 (length s.client.waiting) || nat_lt 0 s.progress.again)
+    dead = and_parts (nat_lt 0 (length s.client.waiting) || nat_lt 0 s.progress.again)
         (nat_le (dead_after plan) (s.progress.moment.elapsed - s.progress.alive)) (end_here plan s cause.Dead is never).1
 
     -- a silence has lasted since `alive`

@@ -1,7 +1,7 @@
 -- Each request's mark has what its text expects of the answer: where the target is, and which return codes are accepted. Each
 -- record keeps to that: an answer that ends as answered is near the place or has no direction, one that ends as elsewhere isn't
 -- near it, and its quality is as listed. An act is one call on the link, with its result. A mark says which command an
--- outstanding request is of, and what is expected of its answer. `ExpectsAsText` says that a mark expects what its command's text
+-- outstanding request is of, and what is expected of its answer. `ExpectsPlaceAndCodes` says that a mark expects what its command's text
 -- says, and `KeepsToItsText` that a record keeps to the place, the codes and the quality; `KeepsToText` says both of a model.
 use Rattle.std.proofs.Common.{◌≡◌, ℕ, zero, suc, Bool, true, false, List, [], ◌∷◌, ◌++◌, drop, Option, Some, None, if◌then◌else◌, refl, sym, ap, ◌∙◌, subst}
 use Rattle.std.specs.Prelude.{slice_get}
@@ -24,7 +24,7 @@ use Rattle.gc_texts.proofs.Placing.{near_unless_elsewhere, elsewhere_is}
 use Rattle.gc_links.specs.Acts.{Act, Told, Gave, Cut}
 use Rattle.gc_links.specs.declared.link.Moment.{Moment}
 use Rattle.gc_station.specs.Marks.{record_of, records_of}
-use Rattle.gc_station.specs.Model.{Model, opening, expected_first, mark_next, place_next, action_at, asks, asks_first, with_progress, with_moment, with_rest, line_came, lines_completed, is_heard, after_piece, skips_first, losing, moved, after, after_all, mark_setup, asks_or_null, asks_setup}
+use Rattle.gc_station.specs.Model.{Model, opening, expected_first, mark_next, place_next, action_at, asks, asks_first, with_progress, with_moment, with_rest, line_came, lines_completed, is_heard, after_piece, first_unsent_record, losing, moved, after, after_all, mark_setup, asks_or_null, asks_setup}
 use Rattle.gc_station.specs.Nearness.{IsAtItsTarget, HasAnswer, ElsewhereIsJustified, AnswersAreAtTheirTargets}
 use Rattle.gc_station.specs.Qualities.{IsOfQuality, IsAsListed, QualitiesAreAsListed}
 use Rattle.gc_station.specs.Progressing.{turned, moment_noted, loses_all}
@@ -53,17 +53,17 @@ expected_there (t ∷ commands) (suc k) task e = expected_there commands k task 
 
 module _ (plan : Plan) (commands : List Task) (scope : Scope) where
   -- a mark expects what the text says of its command: where the target is, and which codes are accepted
-  abbrev ExpectsAsText : Option Mark → Type 0
-  ExpectsAsText None = Unit {0}
-  ExpectsAsText (Some mark) =
+  abbrev ExpectsPlaceAndCodes : Option Mark → Type 0
+  ExpectsPlaceAndCodes None = Unit {0}
+  ExpectsPlaceAndCodes (Some mark) =
       (mark.expected.near ≡ (expected_first (drop mark.place commands)).near) × (mark.expected.accepted ≡ (expected_first (drop mark.place commands)).accepted)
 
   -- a record keeps to its text: an answer is near its target, one that is elsewhere isn't, and its quality is as listed
   abbrev KeepsToItsText : Record → Type 0
   KeepsToItsText r = IsAtItsTarget commands r × ElsewhereIsJustified scope.reads commands r × IsAsListed scope.reads commands r
 
-  -- the record of a settlement whose mark is `ExpectsAsText` is `KeepsToItsText`
-  record_so : (utc : ℕ) (mark : Mark) (x : Rule.Settlement Asked) → ExpectsAsText (Some mark) → KeepsToItsText (record_of scope.reads utc mark x)
+  -- the record of a settlement whose mark is `ExpectsPlaceAndCodes` is `KeepsToItsText`
+  record_so : (utc : ℕ) (mark : Mark) (x : Rule.Settlement Asked) → ExpectsPlaceAndCodes (Some mark) → KeepsToItsText (record_of scope.reads utc mark x)
   record_so utc mark x placed = (
     (λ task near quality answer line d at has e toward.
         let stands : mark.expected.near ≡ Some near = placed.0 ∙ ap (λ (k : Expected). k.near) (expected_there commands mark.place task at) ∙ has in
@@ -87,18 +87,18 @@ module _ (plan : Plan) (commands : List Task) (scope : Scope) where
         (ended_quality scope.reads mark.expected x.call line quality said x.outcome e)),
   )
 
-  -- the records of settlements whose marks are `ExpectsAsText` are all `KeepsToItsText`
-  records_so : (utc : ℕ) (marks : List (Option Mark)) (settlements : List (Rule.Settlement Asked)) → AllByRecursion ExpectsAsText marks
+  -- the records of settlements whose marks are `ExpectsPlaceAndCodes` are all `KeepsToItsText`
+  records_so : (utc : ℕ) (marks : List (Option Mark)) (settlements : List (Rule.Settlement Asked)) → AllByRecursion ExpectsPlaceAndCodes marks
       → AllByRecursion KeepsToItsText (records_of scope.reads utc marks settlements)
   records_so utc [] settlements all = tt
   records_so utc (mark ∷ marks) [] all = tt
   records_so utc (None ∷ marks) (x ∷ others) all = records_so utc marks others all.1
   records_so utc (Some mark ∷ marks) (x ∷ others) all = (record_so utc mark x all.0, records_so utc marks others all.1)
 
-  -- a model reads replies as the scope does, each of its marks is `ExpectsAsText`, and each of its records `KeepsToItsText`
+  -- a model reads replies as the scope does, each of its marks is `ExpectsPlaceAndCodes`, and each of its records `KeepsToItsText`
   record KeepsToText (s : Model) : Type 0 where
     reads : s.reads ≡ scope.reads
-    marks : AllByRecursion ExpectsAsText s.marks
+    marks : AllByRecursion ExpectsPlaceAndCodes s.marks
     records : AllByRecursion KeepsToItsText s.records
 
   -- settlements that are recorded keep all records `KeepsToItsText`
@@ -112,7 +112,7 @@ module _ (plan : Plan) (commands : List Task) (scope : Scope) where
   line_so : (s : Model) (line : List ℕ) → KeepsToText s → KeepsToText (line_came s line)
   line_so s line k =
       let x = hears s.client line (heard line) in
-      record { reads = k.reads; marks = all_drop ExpectsAsText _ s.marks k.marks; records = settles_so s x.settlements k }
+      record { reads = k.reads; marks = all_drop ExpectsPlaceAndCodes _ s.marks k.marks; records = settles_so s x.settlements k }
 
   -- `KeepsToText` is preserved by a piece
   came_so : (b : Bool) (word piece : List ℕ) (s : Model) → KeepsToText s → KeepsToText (after_piece b word piece s)
@@ -123,15 +123,15 @@ module _ (plan : Plan) (commands : List Task) (scope : Scope) where
 
   -- `KeepsToText` is preserved by the loss of what is outstanding
   losing_so : (b : Bool) (s : Model) → KeepsToText s → KeepsToText (losing b s)
-  losing_so true s k = let x = restarts s.client in record { reads = k.reads; marks = all_drop ExpectsAsText _ s.marks k.marks; records = settles_so s x.settlements k }
+  losing_so true s k = let x = restarts s.client in record { reads = k.reads; marks = all_drop ExpectsPlaceAndCodes _ s.marks k.marks; records = settles_so s x.settlements k }
   losing_so false s k = k
 
-  -- `KeepsToText` is preserved by a request that is sent, if its mark is `ExpectsAsText`
-  asks_so : (wait target : ℕ) (call : Asked) (mark : Option Mark) (s : Model) → ExpectsAsText mark → KeepsToText s → KeepsToText (asks wait target call mark s)
-  asks_so wait target call mark s placed k = record { reads = k.reads; marks = all_append ExpectsAsText s.marks _ k.marks (placed, tt); records = k.records }
+  -- `KeepsToText` is preserved by a request that is sent, if its mark is `ExpectsPlaceAndCodes`
+  asks_so : (wait target : ℕ) (call : Asked) (mark : Option Mark) (s : Model) → ExpectsPlaceAndCodes mark → KeepsToText s → KeepsToText (asks wait target call mark s)
+  asks_so wait target call mark s placed k = record { reads = k.reads; marks = all_append ExpectsPlaceAndCodes s.marks _ k.marks (placed, tt); records = k.records }
 
-  -- `KeepsToText` is preserved by the send of the first of these commands, if its mark is `ExpectsAsText`
-  first_so : (mark : Mark) (left : List Task) (s : Model) → ExpectsAsText (Some mark) → KeepsToText s → KeepsToText (asks_first mark left s)
+  -- `KeepsToText` is preserved by the send of the first of these commands, if its mark is `ExpectsPlaceAndCodes`
+  first_so : (mark : Mark) (left : List Task) (s : Model) → ExpectsPlaceAndCodes (Some mark) → KeepsToText s → KeepsToText (asks_first mark left s)
   first_so mark [] s placed k = k
   first_so mark (task ∷ others) s placed k = asks_so task.deadline task.command.target (call_at task mark.sent) (Some mark) s placed k
 
@@ -158,7 +158,7 @@ module _ (plan : Plan) (commands : List Task) (scope : Scope) where
   unsent_elsewhere false line e = cc
 
   -- the record of a command that isn't sent is `KeepsToItsText`
-  skips_so : (p : Progress) (m : Moment) (mark : Mark) (left : List Task) → AllByRecursion KeepsToItsText (skips_first p m mark left)
+  skips_so : (p : Progress) (m : Moment) (mark : Mark) (left : List Task) → AllByRecursion KeepsToItsText (first_unsent_record p m mark left)
   skips_so p m mark [] = tt
   skips_so p m mark (task ∷ others) = (
     (

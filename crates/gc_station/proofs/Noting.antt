@@ -15,7 +15,7 @@ use Rattle.gc_station.specs.declared.cause.Cause.TheVariants.{Done, Dead, Read, 
 use Rattle.gc_station.specs.declared.progress.Action.{Action}
 use Rattle.gc_station.specs.declared.station.Station.{Station}
 use Rattle.gc_station.specs.Causes.{fault_of}
-use Rattle.gc_station.specs.Keeping.{Snapshot, IsKept, AreKept, KeepsUp, closing_at}
+use Rattle.gc_station.specs.Keeping.{Snapshot, IsKept, AreKept, KeepsUp, close_at_output}
 use Rattle.gc_station.specs.Records.{Record}
 use Rattle.gc_station.specs.Runs.{state_after}
 use Rattle.gc_station.specs.Model.{opening, action_at, Performs}
@@ -72,9 +72,9 @@ module _ (plan : Plan) (commands : List Task) (scope : Scope) (text : Record →
   -- `Noted` is preserved by one act more, before which the link and the book were seen, and all records lasted
   pub noted_on : (told' told'' : Option (List Act)) (taken' taken'' : Option (List ℕ)) (lasts : Bool) (station new : Station) (action : Action) (saw saw' saw'' : List Snapshot)
       → (n : Noted told' taken' station saw saw')
-      → action ≡ action_at plan (state_after plan commands scope n.went.acts)
+      → (is_next : action ≡ action_at plan (state_after plan commands scope n.went.acts))
       → Makes commands action (stepped plan commands action) (seen told' text taken' station) (seen told'' text taken'' new)
-      → AreReadings scope.reads → saw'' ≡ saw' ++ now told' taken' lasts ∷ [] → lasts ≡ true → Noted told'' taken'' new saw saw''
+      → AreReadings scope.reads → (one_more : saw'' ≡ saw' ++ now told' taken' lasts ∷ []) → (lasting : lasts ≡ true) → Noted told'' taken'' new saw saw''
   noted_on told' told'' taken' taken'' lasts station new action saw saw' saw'' n is makes are one true_ =
       record {
         went = went_on plan commands scope text told told' told'' taken taken' taken'' station new action n.went is makes are;
@@ -110,9 +110,9 @@ module _ (plan : Plan) (commands : List Task) (scope : Scope) (text : Record →
   -- a run whose book refused a record of its last act has kept up, but for the close of the connection after it
   pub noted_wrong : (told' told'' told''' : Option (List Act)) (taken' taken'' : Option (List ℕ)) (lasts : Bool) (station : Station) (action : Action) (saw saw' saw'' : List Snapshot)
       → (n : Noted told' taken' station saw saw')
-      → action ≡ action_at plan (state_after plan commands scope n.went.acts)
+      → (is_next : action ≡ action_at plan (state_after plan commands scope n.went.acts))
       → Breaks commands action (stepped plan commands action) (seen told' text taken' station) told'' taken''
-      → Tells told'' told''' (Closed ∷ []) → saw'' ≡ saw' ++ now told' taken' lasts ∷ [] → lasts ≡ true
+      → Tells told'' told''' (Closed ∷ []) → (one_more : saw'' ≡ saw' ++ now told' taken' lasts ∷ []) → (lasting : lasts ≡ true)
       → KeepsUp plan commands scope text told told''' taken saw saw'' (Closed ∷ [])
   noted_wrong told' told'' told''' taken' taken'' lasts station action saw saw' saw'' n is breaks closed one true_ =
       let w = n.went in
@@ -135,16 +135,16 @@ module _ (plan : Plan) (commands : List Task) (scope : Scope) (text : Record →
   -- a run that stopped for a cause has kept up to its end, and no close follows: a close follows only if the book failed
   -- (`Output`), which is the fault of no cause
   pub faulty_keeps : (told' : Option (List Act)) (saw saw' : List Snapshot) (cause : Cause) (why : RunFault) → fault_of cause ≡ Some why
-      → KeepsUpHere told' saw saw' [] → KeepsUpHere told' saw saw' (closing_at {X = Tally} (Err why))
+      → KeepsUpHere told' saw saw' [] → KeepsUpHere told' saw saw' (close_at_output {X = Tally} (Err why))
   faulty_keeps told' saw saw' Done why e up = absurd (cc)
-  faulty_keeps told' saw saw' Dead why e up = let same : fault.Mute ≡ why = cc in subst (λ (w : RunFault). KeepsUpHere told' saw saw' (closing_at {X = Tally} (Err w))) same up
-  faulty_keeps told' saw saw' Read why e up = let same : fault.Read ≡ why = cc in subst (λ (w : RunFault). KeepsUpHere told' saw saw' (closing_at {X = Tally} (Err w))) same up
-  faulty_keeps told' saw saw' End why e up = let same : fault.LinkClosed ≡ why = cc in subst (λ (w : RunFault). KeepsUpHere told' saw saw' (closing_at {X = Tally} (Err w))) same up
+  faulty_keeps told' saw saw' Dead why e up = let same : fault.Mute ≡ why = cc in subst (λ (w : RunFault). KeepsUpHere told' saw saw' (close_at_output {X = Tally} (Err w))) same up
+  faulty_keeps told' saw saw' Read why e up = let same : fault.Read ≡ why = cc in subst (λ (w : RunFault). KeepsUpHere told' saw saw' (close_at_output {X = Tally} (Err w))) same up
+  faulty_keeps told' saw saw' End why e up = let same : fault.LinkClosed ≡ why = cc in subst (λ (w : RunFault). KeepsUpHere told' saw saw' (close_at_output {X = Tally} (Err w))) same up
   faulty_keeps told' saw saw' (Write requests bytes) why e up =
-      let same : fault.Write requests bytes ≡ why = cc in subst (λ (w : RunFault). KeepsUpHere told' saw saw' (closing_at {X = Tally} (Err w))) same up
-  faulty_keeps told' saw saw' Clock why e up = let same : fault.Clock ≡ why = cc in subst (λ (w : RunFault). KeepsUpHere told' saw saw' (closing_at {X = Tally} (Err w))) same up
-  faulty_keeps told' saw saw' Open why e up = let same : fault.Socket ≡ why = cc in subst (λ (w : RunFault). KeepsUpHere told' saw saw' (closing_at {X = Tally} (Err w))) same up
-  faulty_keeps told' saw saw' SetUp why e up = let same : fault.SetUp ≡ why = cc in subst (λ (w : RunFault). KeepsUpHere told' saw saw' (closing_at {X = Tally} (Err w))) same up
-  faulty_keeps told' saw saw' Turns why e up = let same : fault.TooManyReads ≡ why = cc in subst (λ (w : RunFault). KeepsUpHere told' saw saw' (closing_at {X = Tally} (Err w))) same up
-  faulty_keeps told' saw saw' Stale why e up = let same : fault.Stale ≡ why = cc in subst (λ (w : RunFault). KeepsUpHere told' saw saw' (closing_at {X = Tally} (Err w))) same up
+      let same : fault.Write requests bytes ≡ why = cc in subst (λ (w : RunFault). KeepsUpHere told' saw saw' (close_at_output {X = Tally} (Err w))) same up
+  faulty_keeps told' saw saw' Clock why e up = let same : fault.Clock ≡ why = cc in subst (λ (w : RunFault). KeepsUpHere told' saw saw' (close_at_output {X = Tally} (Err w))) same up
+  faulty_keeps told' saw saw' Open why e up = let same : fault.Socket ≡ why = cc in subst (λ (w : RunFault). KeepsUpHere told' saw saw' (close_at_output {X = Tally} (Err w))) same up
+  faulty_keeps told' saw saw' SetUp why e up = let same : fault.SetUp ≡ why = cc in subst (λ (w : RunFault). KeepsUpHere told' saw saw' (close_at_output {X = Tally} (Err w))) same up
+  faulty_keeps told' saw saw' Turns why e up = let same : fault.TooManyReads ≡ why = cc in subst (λ (w : RunFault). KeepsUpHere told' saw saw' (close_at_output {X = Tally} (Err w))) same up
+  faulty_keeps told' saw saw' Stale why e up = let same : fault.Stale ≡ why = cc in subst (λ (w : RunFault). KeepsUpHere told' saw saw' (close_at_output {X = Tally} (Err w))) same up
   faulty_keeps told' saw saw' Stopped why e up = absurd (cc)

@@ -5,23 +5,21 @@ use Rattle.gc_texts.specs.declared.tasks.Task.{Task}
 use Rattle.gc_station.specs.declared.plan.Plan.{Plan}
 use Rattle.gc_station.specs.declared.progress.Action.{Action}
 use Rattle.gc_station.specs.declared.progress.Action.TheVariants.{Send}
-use Rattle.gc_station.specs.declared.progress.Phase.TheVariants as phase
 use Rattle.gc_links.specs.Acts.{Act}
 use Rattle.gc_station.specs.Deciding.{has_begun}
 use Rattle.gc_station.specs.Links.{parts}
-use Rattle.gc_station.specs.Parts.{Part, acting, ends_part, in_front, parts_of}
+use Rattle.gc_station.specs.Parts.{Part, part_of_act, ends_part, in_front, parts_of}
 use Rattle.gc_station.specs.Progressing.{is_over}
 use Rattle.gc_station.specs.Runs.{state_after}
 use Rattle.gc_station.specs.Scopes.{Scope}
-use Rattle.gc_station.specs.Model.{Model, Performs, Puts, Runs, opening, action_at, place_next, first_text, after, after_all}
+use Rattle.gc_station.specs.ActKinds.{Puts}
+use Rattle.gc_station.specs.Model.{Model, Performs, Runs, opening, action_at, place_next, first_text, after, after_all}
 use Rattle.gc_station.proofs.Chaining.{StaysBegun}
 use Rattle.gc_station.proofs.Going.{after_all-append, runs_behind}
 use Rattle.gc_station.proofs.Turns.{over_stays}
 use Rattle.gc_station.proofs.SentAt.{joined_length}
 use Rattle.gc_station.proofs.Closings.{needs_of}
 use Rattle.gc_station.proofs.Losing.{going_on}
-
--- While a station doesn't resynchronize, all its acts are of one part.
 
 -- the first acts of a run are a run
 pub runs_front : (plan : Plan) (commands : List Task) (s : Model) (xs ys : List Act) → Runs plan commands s (xs ++ ys) → Runs plan commands s xs
@@ -48,7 +46,7 @@ single : (plan : Plan) (commands : List Task) (s : Model) (acts : List Act) → 
 single plan commands s [] runs keeps end = refl
 single plan commands s (act ∷ acts) runs keeps end =
     let u = after plan commands s act in
-    let p = acting plan commands s (action_at plan s) act in
+    let p = part_of_act plan commands s (action_at plan s) act in
     let over = goes_on plan commands u acts (is_over u.progress) refl runs.1 end in
     let ends : ends_part plan commands s act ≡ false = ends_no_part (has_begun s.progress) (has_begun u.progress) (is_over u.progress) keeps.0 over in
     subst (λ b. length (in_front p b (parts_of plan commands u acts)) ≡ 1) (sym ends) (joined_length p (parts_of plan commands u acts) 0 (single plan commands u acts runs.1 keeps.1 end))
@@ -66,7 +64,7 @@ parts_more : (plan : Plan) (commands : List Task) (s : Model) (xs ys : List Act)
     → length (parts_of plan commands s (xs ++ ys)) ≡ length (parts_of plan commands s xs)
 parts_more plan commands s [] ys one = one
 parts_more plan commands s (act ∷ xs) ys one =
-    front_length (acting plan commands s (action_at plan s) act) (ends_part plan commands s act)
+    front_length (part_of_act plan commands s (action_at plan s) act) (ends_part plan commands s act)
     (parts_of plan commands (after plan commands s act) (xs ++ ys)) (parts_of plan commands (after plan commands s act) xs)
     (parts_more plan commands (after plan commands s act) xs ys one)
 

@@ -17,11 +17,11 @@ use Rattle.gc_station.specs.Progressing.{failing, turned, moment_noted, cleared,
 use Rattle.gc_station.specs.Reasons.{HoldsBefore, HasConnectionFor}
 use Rattle.gc_station.specs.Model.{Model, commands_before, waiting_of, with_progress, with_moment, is_heard, after_open, Performs, moved}
 use Rattle.gc_station.specs.Tries.{endings_in, openings_in}
-use Rattle.gc_station.proofs.Closings.{came_phase}
+use Rattle.gc_station.proofs.Closings.{came_phase, cleared_up}
 use Rattle.gc_station.proofs.Silences.{quieted_up}
 use Rattle.gc_station.proofs.Walk.{walk}
 use Rattle.gc_station.proofs.Turns.{up_count, again_down, closed_down}
-use Rattle.gc_station.proofs.Unbroken.{cleared_up, failure_keeps_line}
+use Rattle.gc_station.proofs.Unbroken.{failure_keeps_line}
 
 -- an act balances connections: those that it asks for, and 1 if there is one before it (`before`), are as many as those that it
 -- ends or can't make, and 1 if there is one after it (`behind`)

@@ -8,7 +8,7 @@ use Rattle.gc_station.specs.declared.progress.Action.{Action}
 use Rattle.gc_station.specs.declared.progress.Action.TheVariants.{Prepare, Send}
 use Rattle.gc_station.specs.Deciding.{is_preparing}
 use Rattle.gc_station.specs.Quiet.{IsAsking}
-use Rattle.gc_station.specs.Model.{Model, IsSending, action_at, waiting_of, cycles_begun, place_next, cycle_out, place_out, mark_next, mark_setup}
+use Rattle.gc_station.specs.Model.{Model, IsSending, action_at, waiting_of, cycles_begun, place_next, cycle_to_send, place_to_send, mark_next, mark_setup}
 use Rattle.gc_station.proofs.Closings.{needs_of}
 
 -- if a command of a cycle is next, the setup is done
@@ -20,23 +20,23 @@ pub prepare_on : (plan : Plan) (s : Model) → action_at plan s ≡ Prepare → 
 prepare_on plan s is = (needs_of plan s Prepare is).2.0
 
 -- if a command of a cycle is next, the cycle of what is sent is the number of cycles begun
-pub send_cycle : (plan : Plan) (s : Model) → action_at plan s ≡ Send → cycle_out plan s ≡ cycles_begun plan s.progress
+pub send_cycle : (plan : Plan) (s : Model) → action_at plan s ≡ Send → cycle_to_send plan s ≡ cycles_begun plan s.progress
 send_cycle plan s is = ap (λ (b : Bool). if b then 0 else cycles_begun plan s.progress) (send_done plan s is)
 
 -- if a command of a cycle is next, the place of what is sent is the cycle's next place
-pub send_place : (plan : Plan) (commands : List Task) (s : Model) → action_at plan s ≡ Send → place_out plan commands s ≡ place_next commands s.progress
+pub send_place : (plan : Plan) (commands : List Task) (s : Model) → action_at plan s ≡ Send → place_to_send plan commands s ≡ place_next commands s.progress
 send_place plan commands s is = ap (λ (b : Bool). if b then s.progress.prepared else place_next commands s.progress) (send_done plan s is)
 
 -- if a command of the setup is next, the cycle of what is sent is 0
-pub prepare_cycle : (plan : Plan) (s : Model) → action_at plan s ≡ Prepare → cycle_out plan s ≡ 0
+pub prepare_cycle : (plan : Plan) (s : Model) → action_at plan s ≡ Prepare → cycle_to_send plan s ≡ 0
 prepare_cycle plan s is = ap (λ (b : Bool). if b then 0 else cycles_begun plan s.progress) (prepare_on plan s is)
 
 -- if a command of the setup is next, the place of what is sent is the setup's next place
-pub prepare_place : (plan : Plan) (commands : List Task) (s : Model) → action_at plan s ≡ Prepare → place_out plan commands s ≡ s.progress.prepared
+pub prepare_place : (plan : Plan) (commands : List Task) (s : Model) → action_at plan s ≡ Prepare → place_to_send plan commands s ≡ s.progress.prepared
 prepare_place plan commands s is = ap (λ (b : Bool). if b then s.progress.prepared else place_next commands s.progress) (prepare_on plan s is)
 
 -- if a command is sent whose cycle is above 0, the action is `Send`
-pub sends_of_cycle : (plan : Plan) (s : Model) → IsSending plan s → 0 < cycle_out plan s → action_at plan s ≡ Send
+pub sends_of_cycle : (plan : Plan) (s : Model) → IsSending plan s → 0 < cycle_to_send plan s → action_at plan s ≡ Send
 sends_of_cycle plan s (inl is) many = is
 sends_of_cycle plan s (inr is) many = let none = prepare_cycle plan s is in absurd (omega (arith, none, many))
 

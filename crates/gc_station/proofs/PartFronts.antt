@@ -1,70 +1,75 @@
--- The parts of the first acts of a run are no longer than the parts of all its acts: as many or fewer, and the last of them may go
--- on in its counterpart. An act is one call on the link, with its result. A part reaches from one synchronization to the next.
-use Rattle.std.proofs.Common.{◌≡◌, ◌⊎◌, inl, inr, ℕ, zero, suc, ◌+◌, ◌-◌, ◌<◌, ◌≤◌, Bool, true, false, List, [], ◌∷◌, ◌++◌, length, Some, refl, ap, subst, arith}
+-- The parts of the first acts of a run are a front of the parts of all its acts: as many or fewer, and the last of them may go on in
+-- its counterpart. An act is one call on the link, with its result. A part reaches from one synchronization to the next.
+use Rattle.std.proofs.Common.{◌≡◌, ◌⊎◌, inl, inr, ℕ, zero, suc, ◌+◌, ◌<◌, ◌≤◌, Bool, true, false, List, [], ◌∷◌, ◌++◌, length, Some, refl, sym, ◌∙◌, ap, subst, arith}
 use Rattle.std.specs.Prelude.{slice_get}
 use Rattle.std.proofs.lemmas.List.{length-append}
+use Rattle.std.proofs.lemmas.Option.{same_Some}
 use Rattle.gc_texts.specs.declared.tasks.Task.{Task}
 use Rattle.gc_station.specs.declared.plan.Plan.{Plan}
 use Rattle.gc_links.specs.Acts.{Act}
-use Rattle.gc_station.specs.Parts.{Part, nothing, acting, ends_part, in_front, parts_of}
+use Rattle.gc_station.specs.Parts.{Part, joined, nothing, part_of_act, ends_part, in_front, parts_of}
 use Rattle.gc_station.specs.Model.{Model, action_at, after}
-use Rattle.gc_texts.proofs.Cutting.{some_injective}
+use Rattle.gc_station.proofs.Following.{joined_assoc}
 
--- The parts of the first acts.
+-- the parts `ps`, at least one, are the first of the parts `qs`; but the last of them may be only the front of the part at its
+-- place
+abbrev pub IsFront : List Part → List Part → Type 0
+IsFront [] qs = ⊥
+IsFront (p ∷ ps) [] = ⊥
+IsFront (p ∷ []) (q ∷ qs) = (more : Part) × (q ≡ joined p more)
+IsFront (p ∷ next ∷ ps) (q ∷ qs) = (q ≡ p) × IsFront (next ∷ ps) qs
 
--- the first parts are no longer than the second ones: as many or fewer, and the last of them has no more requests than the part at
--- its place
-abbrev pub IsNoLonger : List Part → List Part → Type 0
-IsNoLonger [] qs = ⊥
-IsNoLonger (p ∷ ps) [] = ⊥
-IsNoLonger (p ∷ []) (q ∷ qs) = length p.marks ≤ length q.marks
-IsNoLonger (p ∷ next ∷ ps) (q ∷ qs) = IsNoLonger (next ∷ ps) qs
+-- `IsFront` is preserved if the same part is put before both lists
+front_more : (p : Part) (b : Bool) (ps qs : List Part) → IsFront ps qs → IsFront (in_front p b ps) (in_front p b qs)
+front_more p b [] qs h = absurd h
+front_more p true (x ∷ ps) [] h = absurd h
+front_more p false (x ∷ ps) [] h = absurd h
+front_more p true (x ∷ ps) (y ∷ qs) h = (refl, h)
+front_more p false (x ∷ []) (y ∷ qs) h = (h.0, ap (joined p) h.1 ∙ sym (joined_assoc p x h.0))
+front_more p false (x ∷ next ∷ ps) (y ∷ qs) h = (ap (joined p) h.0, h.1)
 
--- `IsNoLonger` is preserved by one act more before both
-no_longer_more : (p : Part) (b : Bool) (ps qs : List Part) → IsNoLonger ps qs → IsNoLonger (in_front p b ps) (in_front p b qs)
-no_longer_more p b [] qs h = absurd h
-no_longer_more p true (x ∷ ps) [] h = absurd h
-no_longer_more p false (x ∷ ps) [] h = absurd h
-no_longer_more p true (x ∷ ps) (y ∷ qs) h = h
-no_longer_more p false (x ∷ []) (y ∷ qs) h =
-    let a : length (p.marks ++ x.marks) ≡ length p.marks + length x.marks = length-append p.marks x.marks in
-    let b : length (p.marks ++ y.marks) ≡ length p.marks + length y.marks = length-append p.marks y.marks in
-    omega (arith, a, b, h)
-no_longer_more p false (x ∷ next ∷ ps) (y ∷ qs) h = h
+-- the part in which nothing happens is a front of any parts
+front_none : (p : Part) (b : Bool) (ps : List Part) → IsFront (nothing ∷ []) (in_front p b ps)
+front_none p true ps = (p, refl)
+front_none p false [] = (p, refl)
+front_none p false (q ∷ ps) = (joined p q, refl)
 
--- the part in which nothing happens is no longer than any parts with an act before them
-no_longer_none : (p : Part) (b : Bool) (ps : List Part) → IsNoLonger (nothing ∷ []) (in_front p b ps)
-no_longer_none p true ps = omega arith
-no_longer_none p false [] = omega arith
-no_longer_none p false (q ∷ ps) = omega arith
-
--- the parts of the first acts are no longer than the parts of all
-pub no_longer_parts : (plan : Plan) (commands : List Task) (s : Model) (xs ys : List Act) → IsNoLonger (parts_of plan commands s xs) (parts_of plan commands s (xs ++ ys))
-no_longer_parts plan commands s [] [] = omega arith
-no_longer_parts plan commands s [] (act ∷ ys) = no_longer_none (acting plan commands s (action_at plan s) act) (ends_part plan commands s act) (parts_of plan commands (after plan commands s act) ys)
-no_longer_parts plan commands s (act ∷ xs) ys =
-    no_longer_more (acting plan commands s (action_at plan s) act) (ends_part plan commands s act) (parts_of plan commands (after plan commands s act) xs)
+-- the parts of the first acts are a front of the parts of all
+pub front_parts : (plan : Plan) (commands : List Task) (s : Model) (xs ys : List Act) → IsFront (parts_of plan commands s xs) (parts_of plan commands s (xs ++ ys))
+front_parts plan commands s [] [] = (nothing, refl)
+front_parts plan commands s [] (act ∷ ys) =
+    front_none (part_of_act plan commands s (action_at plan s) act) (ends_part plan commands s act) (parts_of plan commands (after plan commands s act) ys)
+front_parts plan commands s (act ∷ xs) ys =
+    front_more (part_of_act plan commands s (action_at plan s) act) (ends_part plan commands s act) (parts_of plan commands (after plan commands s act) xs)
     (parts_of plan commands (after plan commands s act) (xs ++ ys))
-    (no_longer_parts plan commands (after plan commands s act) xs ys)
+    (front_parts plan commands (after plan commands s act) xs ys)
 
--- if `ps` are no longer than `qs`, the last part of `ps`, at place j, comes before the last part of `qs`, at place i; or j is i, and
--- it has no more requests
-pub no_longer_last : (ps qs : List Part) (j i : ℕ) (p q : Part) → IsNoLonger ps qs → length ps ≡ suc j → length qs ≡ suc i → slice_get ps j ≡ Some p
-    → slice_get qs i ≡ Some q → (j < i) ⊎ ((j ≡ i) × (length p.marks ≤ length q.marks))
-no_longer_last [] qs j i p q h a b e f = absurd h
-no_longer_last (x ∷ ps) [] j i p q h a b e f = absurd h
-no_longer_last (x ∷ []) (y ∷ qs) zero zero p q h a b e f = inr (
-  refl,
-  subst
-      (λ (z : Part). length z.marks ≤ length q.marks) (some_injective x p e) (subst (λ (z : Part). length x.marks ≤ length z.marks) (some_injective y q f) h),
-)
-no_longer_last (x ∷ []) (y ∷ qs) zero (suc i) p q h a b e f = inl (omega arith)
-no_longer_last (x ∷ []) (y ∷ qs) (suc j) i p q h a b e f = absurd (omega (arith, a))
-no_longer_last (x ∷ next ∷ ps) (y ∷ qs) zero i p q h a b e f = absurd (omega (arith, a))
-no_longer_last (x ∷ next ∷ ps) (y ∷ []) (suc j) i p q h a b e f = absurd h
-no_longer_last (x ∷ next ∷ ps) (y ∷ z ∷ qs) (suc j) zero p q h a b e f = absurd (omega (arith, b))
-no_longer_last (x ∷ next ∷ ps) (y ∷ z ∷ qs) (suc j) (suc i) p q h a b e f =
-    elim (no_longer_last (next ∷ ps) (z ∷ qs) j i p q h (omega (arith, a)) (omega (arith, b)) e f) [
+-- the last part of a front of parts is the front of the part at its place in all
+pub front_last : (ps qs : List Part) (i : ℕ) (p q : Part) → IsFront ps qs → length ps ≡ suc i → slice_get ps i ≡ Some p → slice_get qs i ≡ Some q → (more : Part) × (q ≡ joined p more)
+front_last [] qs i p q h size e f = absurd h
+front_last (x ∷ ps) [] i p q h size e f = absurd h
+front_last (x ∷ []) (y ∷ qs) zero p q h size e f = (h.0, sym (same_Some y q f) ∙ h.1 ∙ ap (λ r. joined r h.0) (same_Some x p e))
+front_last (x ∷ []) (y ∷ qs) (suc i) p q h size e f = absurd (omega (arith, size))
+front_last (x ∷ next ∷ ps) (y ∷ qs) zero p q h size e f = absurd (omega (arith, size))
+front_last (x ∷ next ∷ ps) (y ∷ qs) (suc i) p q h size e f = front_last (next ∷ ps) qs i p q h.1 (omega (arith, size)) e f
+
+-- if `ps` are a front of `qs`, the last part of `ps`, at place j, comes before the last part of `qs`, at place i; or j is i, and it has
+-- no more requests
+pub front_no_longer : (ps qs : List Part) (j i : ℕ) (p q : Part) → IsFront ps qs → (last : length ps ≡ suc j) → (last_of_all : length qs ≡ suc i) → (here : slice_get ps j ≡ Some p)
+    → (there : slice_get qs i ≡ Some q) → (j < i) ⊎ ((j ≡ i) × (length p.marks ≤ length q.marks))
+front_no_longer [] qs j i p q h a b e f = absurd h
+front_no_longer (x ∷ ps) [] j i p q h a b e f = absurd h
+front_no_longer (x ∷ []) (y ∷ qs) zero zero p q h a b e f =
+    let long : length y.marks ≡ length x.marks + length h.0.marks = ap (λ (z : Part). length z.marks) h.1 ∙ length-append x.marks h.0.marks in
+    let fewer : length x.marks ≤ length y.marks = omega (arith, long) in
+    inr (refl, subst (λ (z : Part). length z.marks ≤ length q.marks) (same_Some x p e) (subst (λ (z : Part). length x.marks ≤ length z.marks) (same_Some y q f) fewer))
+front_no_longer (x ∷ []) (y ∷ qs) zero (suc i) p q h a b e f = inl (omega arith)
+front_no_longer (x ∷ []) (y ∷ qs) (suc j) i p q h a b e f = absurd (omega (arith, a))
+front_no_longer (x ∷ next ∷ ps) (y ∷ qs) zero i p q h a b e f = absurd (omega (arith, a))
+front_no_longer (x ∷ next ∷ ps) (y ∷ []) (suc j) i p q h a b e f = absurd h.1
+front_no_longer (x ∷ next ∷ ps) (y ∷ z ∷ qs) (suc j) zero p q h a b e f = absurd (omega (arith, b))
+front_no_longer (x ∷ next ∷ ps) (y ∷ z ∷ qs) (suc j) (suc i) p q h a b e f =
+    elim (front_no_longer (next ∷ ps) (z ∷ qs) j i p q h.1 (omega (arith, a)) (omega (arith, b)) e f) [
       | inl l ↦ inl (omega (arith, l))
       | inr r ↦ inr (ap suc r.0, r.1)
     ]

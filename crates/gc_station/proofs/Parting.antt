@@ -4,6 +4,7 @@
 -- the records of one model to those of another.
 use Rattle.std.proofs.Common.{◌≡◌, ℕ, ◌-◌, ◌<◌, Bool, true, false, List, [], ◌∷◌, length, map, drop, Option, Some, None, refl, sym, ap, ◌∙◌, ◌++◌, subst, arith, append-nil, if◌then◌else◌, length-drop}
 use Rattle.std.proofs.lemmas.List.{length-map}
+use Rattle.std.proofs.lemmas.Bool.{both_ways, cond_both}
 use Rattle.gc_lines.specs.Frames.{rest_behind}
 use Rattle.gc_catalogue.specs.declared.asked.Asked.TheVariants.{Table}
 use Rattle.gc_catalogue.specs.declared.call.Call.TheVariants.{NullProc}
@@ -21,19 +22,17 @@ use Rattle.gc_station.specs.declared.progress.Progress.{Progress}
 use Rattle.gc_station.specs.declared.progress.Until.{Until}
 use Rattle.gc_links.specs.Acts.{Act, Told, Put, Cut, Gave}
 use Rattle.gc_station.specs.Deciding.{later, has_begun, is_none_left}
-use Rattle.gc_station.specs.Parts.{Turn, Part, only_turns, only_steps, nothing, putting, asking, asking_first, hearing, doing, beginning, acting, sent_of, asking_or_null}
+use Rattle.gc_station.specs.Parts.{Turn, Part, only_turns, only_steps, nothing, put_part, request_part, first_request_part, heard_steps, client_part, sync_part, part_of_act, sent_of, request_or_null_part}
 use Rattle.gc_station.specs.Progressing.{moment_noted, turned, skipped_at}
 use Rattle.gc_station.specs.Reasons.{HoldsBefore}
 use Rattle.gc_station.specs.Records.{Record}
 use Rattle.gc_station.specs.declared.mark.Mark.{Mark}
-use Rattle.gc_station.specs.Model.{Model, waiting_of, place_next, mark_next, Performs, with_progress, with_moment, with_rest, asks_null, asks_first, skips, skips_first, line_came, lines_came, lines_completed, is_heard, after_piece, after_read, moved, mark_setup, asks_or_null}
+use Rattle.gc_station.specs.Model.{Model, waiting_of, place_next, mark_next, Performs, with_progress, with_moment, with_rest, asks_null, asks_first, unsent_record, first_unsent_record, line_came, lines_came, lines_completed, is_heard, after_piece, after_read, moved, mark_setup, asks_or_null}
 use Rattle.gc_station.proofs.Tasked.{at_place}
 use Rattle.gc_station.proofs.Booking.{Books, books_turns, sent_both, sent_records, books_both, books_nothing, books_moment, books_line, books_send}
-use Rattle.gc_station.proofs.Facts.{either}
 use Rattle.gc_station.proofs.Invariant.{Invariant}
 use Rattle.gc_station.proofs.Hearing.{hears_paired}
 use Rattle.gc_station.proofs.Walk.{is_sent, walk, is_prepared}
-use Rattle.gc_station.proofs.Ticking.{not_both}
 
 -- the part p takes the client of one model, with its marks and records, to those of another
 abbrev pub Leads : List Task → Model → Part → Model → Type 0
@@ -64,7 +63,7 @@ module _ (plan : Plan) (commands : List Task) where
       (leads_lines t others (hears_paired s.marks s.client line (heard line) paired))
 
   -- a piece leads on by the steps that hear its lines; by none if it is discarded
-  leads_came : (h : Bool) (word piece : List ℕ) (s : Model) → is_none_left word ≡ true → Paired s → Leads commands s (only_steps (hearing h s.rest piece)) (after_piece h word piece s)
+  leads_came : (h : Bool) (word piece : List ℕ) (s : Model) → is_none_left word ≡ true → Paired s → Leads commands s (only_steps (heard_steps h s.rest piece)) (after_piece h word piece s)
   leads_came true (asked ∷ others) piece s begun paired = cc
   leads_came true [] piece s begun paired = leads_lines (with_rest (rest_behind s.rest piece) s) (lines_completed s.rest piece) paired
   leads_came false word piece s begun paired = books_nothing s.reads commands s.client s.marks (sent_of s.records)
@@ -75,18 +74,18 @@ module _ (plan : Plan) (commands : List Task) where
 
   -- a read that gave bytes leads on by its part, once the station has synchronized
   leads_gave : (s : Model) (until : Until) (bytes : List ℕ) (m : Moment) → has_begun s.progress ≡ true → Paired s
-      → Leads commands s (doing plan commands s (action.Read until) (Gave bytes m)) (after_read plan until (with_progress turned s) (Gave bytes m))
+      → Leads commands s (client_part plan commands s (action.Read until) (Gave bytes m)) (after_read plan until (with_progress turned s) (Gave bytes m))
   leads_gave s until bytes m begun paired =
       let x = with_moment m (with_progress (moment_noted m) (with_progress turned s)) in
       let t = after_piece (is_heard s.progress.phase) s.progress.word bytes x in
       books_both s.reads commands s.client x.client t.client s.marks s.marks t.marks (sent_of s.records) (sent_of s.records) (sent_of t.records)
-      (only_steps (Expire m.elapsed ∷ [])) (only_steps (hearing (is_heard s.progress.phase) s.rest bytes))
+      (only_steps (Expire m.elapsed ∷ [])) (only_steps (heard_steps (is_heard s.progress.phase) s.rest bytes))
       (books_moment s.reads commands s.client s.marks (sent_of s.records) m.elapsed)
       (leads_came (is_heard s.progress.phase) s.progress.word bytes x begun (paired_told s m.elapsed paired))
 
   -- the next command, if it is sent, leads on by the part of its request
   leads_first : (s : Model) (left : List Task) → drop (place_next commands s.progress) commands ≡ left → 0 < length left → length s.client.waiting < 7
-      → Leads commands s (asking_first s.progress.moment.elapsed (mark_next plan commands s.progress) left) (asks_first (mark_next plan commands s.progress) left (with_progress turned s))
+      → Leads commands s (first_request_part s.progress.moment.elapsed (mark_next plan commands s.progress) left) (asks_first (mark_next plan commands s.progress) left (with_progress turned s))
   leads_first s [] at some room = absurd (omega (arith, some))
   leads_first s (task ∷ others) at some room =
       books_send s.reads commands s.client s.marks (sent_of s.records) task.command.target (call_at task s.progress.moment.utc) (later s.progress.moment.elapsed task.deadline)
@@ -94,19 +93,19 @@ module _ (plan : Plan) (commands : List Task) where
       (task, at_place (place_next commands s.progress) commands task others at, refl)
 
   -- a null procedure after commands leads on by the part of its request
-  leads_null : (s : Model) → length s.client.waiting < 7 → Leads commands s (asking 0 (Table NullProc) (later s.progress.moment.elapsed plan.deadline) None) (asks_null plan s)
+  leads_null : (s : Model) → length s.client.waiting < 7 → Leads commands s (request_part 0 (Table NullProc) (later s.progress.moment.elapsed plan.deadline) None) (asks_null plan s)
   leads_null s room = books_send s.reads commands s.client s.marks (sent_of s.records) 0 (Table NullProc) (later s.progress.moment.elapsed plan.deadline) None room refl
 
   -- the next command of the setup, if it is sent, leads on by the part of its request
   leads_setup : (s : Model) (left : List Task) → drop s.progress.prepared commands ≡ left → length s.client.waiting < 7
-      → Leads commands s (asking_or_null plan s.progress.moment.elapsed (mark_setup commands s.progress) left) (asks_or_null plan (mark_setup commands s.progress) left (with_progress turned s))
+      → Leads commands s (request_or_null_part plan s.progress.moment.elapsed (mark_setup commands s.progress) left) (asks_or_null plan (mark_setup commands s.progress) left (with_progress turned s))
   leads_setup s [] at room = leads_null s room
   leads_setup s (task ∷ others) at room =
       books_send s.reads commands s.client s.marks (sent_of s.records) task.command.target (call_at task s.progress.moment.utc) (later s.progress.moment.elapsed task.deadline)
       (Some (mark_setup commands s.progress)) room (task, at_place s.progress.prepared commands task others at, refl)
 
   -- the record of a command that isn't sent isn't among those of commands that were sent
-  skips_first_unsent : (p : Progress) (m : Moment) (mark : Mark) (left : List Task) → sent_of (skips_first p m mark left) ≡ []
+  skips_first_unsent : (p : Progress) (m : Moment) (mark : Mark) (left : List Task) → sent_of (first_unsent_record p m mark left) ≡ []
   skips_first_unsent p m mark [] = refl
   skips_first_unsent p m mark (task ∷ others) = by_case p.missed where
     -- the lemma above, whether its cycle is missed (`true`) or it is skipped
@@ -117,16 +116,16 @@ module _ (plan : Plan) (commands : List Task) where
     by_case false = refl
 
   -- the record of the next command, if that isn't sent, isn't among those of commands that were sent
-  skips_unsent : (s : Model) (m : Moment) → sent_of (skips plan commands s.progress (Told m)) ≡ []
+  skips_unsent : (s : Model) (m : Moment) → sent_of (unsent_record plan commands s.progress (Told m)) ≡ []
   skips_unsent s m = skips_first_unsent s.progress m (mark_next plan commands s.progress) (drop (place_next commands s.progress) commands)
 
   -- records of commands that weren't sent add none to those of commands that were
   none_sent : (rs more : List Record) → sent_of more ≡ [] → sent_of (rs ++ more) ≡ sent_of rs
   none_sent rs more none = sent_both rs more ∙ ap (λ xs. sent_of rs ++ xs) none ∙ append-nil (sent_of rs)
 
-  -- an act of this action leads from one model to another by the part that `doing` gives it
+  -- an act of this action leads from one model to another by the part that `client_part` gives it
   abbrev LeadsSo : Action → Model → Act → Model → Type 0
-  LeadsSo o s act t = Leads commands s (doing plan commands s o act) t
+  LeadsSo o s act t = Leads commands s (client_part plan commands s o act) t
 
   -- a model leads to itself by the part in which nothing happens
   none_booked : (s : Model) → Leads commands s nothing s
@@ -138,26 +137,26 @@ module _ (plan : Plan) (commands : List Task) where
 
   -- an act of each action leads on by its part, once the station has synchronized
   leads_order : (s : Model) (o : Action) (act : Act) → Invariant plan commands s → HoldsBefore plan s.progress (waiting_of s) o → Performs commands s o act → has_begun s.progress ≡ true
-      → Leads commands s (doing plan commands s o act) (moved plan commands o (with_progress turned s) act)
+      → Leads commands s (client_part plan commands s o act) (moved plan commands o (with_progress turned s) act)
   leads_order s action.Open act fine is obeys begun = walk plan commands (LeadsSo action.Open s) action.Open (with_progress turned s) act obeys (λ m. none_booked s, λ n. none_booked s)
   leads_order s action.Clear act fine is obeys begun = walk plan commands (LeadsSo action.Clear s) action.Clear (with_progress turned s) act obeys (λ m. none_booked s, λ n. none_booked s)
-  leads_order s action.Ask act fine is obeys begun = absurd (not_both (has_begun s.progress) begun is.1)
+  leads_order s action.Ask act fine is obeys begun = absurd (both_ways (has_begun s.progress) is.1 begun)
   leads_order s action.Flush act fine is obeys begun = walk plan commands (LeadsSo action.Flush s) action.Flush (with_progress turned s) act obeys (λ m. leads_null s is.4.1, λ n. leads_null s is.4.1)
   leads_order s action.Prepare act fine is obeys begun =
-      let prepares = subst (λ (t : Model). Leads commands s (putting plan commands s action.Prepare) t) (sym (is_prepared plan commands (with_progress turned s)))
+      let prepares = subst (λ (t : Model). Leads commands s (put_part plan commands s action.Prepare) t) (sym (is_prepared plan commands (with_progress turned s)))
       (leads_setup s (drop s.progress.prepared commands) refl is.3.1) in
       walk plan commands (LeadsSo action.Prepare s) action.Prepare (with_progress turned s) act obeys (λ m. prepares, λ n. prepares)
   leads_order s action.Send act fine is obeys begun =
       let left = drop (place_next commands s.progress) commands in
       let many : length left ≡ length commands - place_next commands s.progress = length-drop (place_next commands s.progress) commands in
-      let sends = subst (λ (t : Model). Leads commands s (putting plan commands s action.Send) t) (sym (is_sent plan commands (with_progress turned s)))
+      let sends = subst (λ (t : Model). Leads commands s (put_part plan commands s action.Send) t) (sym (is_sent plan commands (with_progress turned s)))
       (leads_first s left refl (omega (arith, many, is.2, fine.unsent)) is.3.1) in
       walk plan commands (LeadsSo action.Send s) action.Send (with_progress turned s) act obeys (λ m. sends, λ n. sends)
   leads_order s action.Skip act fine is obeys begun =
       let books = Books s.reads commands s.client s.marks (sent_of s.records) in
       walk plan commands (LeadsSo action.Skip s) action.Skip (with_progress turned s) act obeys (
         λ m. subst (λ (rs : List Record). books (only_steps (Expire m.elapsed ∷ [])) (expires s.client m.elapsed) s.marks rs)
-            (sym (none_sent s.records (skips plan commands (turned s.progress) (Told m)) (skips_unsent (with_progress turned s) m))) (moment_booked s m),
+            (sym (none_sent s.records (unsent_record plan commands (turned s.progress) (Told m)) (skips_unsent (with_progress turned s) m))) (moment_booked s m),
         λ n. subst (λ (rs : List Record). books nothing s.client s.marks rs) (sym (none_sent s.records [] refl)) (none_booked s),
       )
   leads_order s (action.Read until) act fine is obeys begun =
@@ -167,7 +166,7 @@ module _ (plan : Plan) (commands : List Task) where
   leads_order s (action.Stop why) act fine is obeys begun = absurd obeys
   leads_order s o act fine is obeys begun = walk plan commands (LeadsSo o s) o (with_progress turned s) act obeys (λ m. moment_booked s m, λ n. none_booked s)
 
-  -- While it begins no step is taken.
+  -- While the station synchronizes no step is taken.
 
   -- from the model s to t an act leaves the client new, and the marks and the records as they are
   abbrev Keeps : Model → Act → Model → Type 0
@@ -187,13 +186,13 @@ module _ (plan : Plan) (commands : List Task) where
   -- while the station synchronizes, an act of each action leaves the client new, and the marks and the records as they are
   pub keeps_action : (s : Model) (o : Action) (act : Act) → HoldsBefore plan s.progress (waiting_of s) o → Performs commands s o act → has_begun s.progress ≡ false
       → s.client ≡ fresh → Keeps s act (moved plan commands o (with_progress turned s) act)
-  keeps_action s action.Renew act is obeys begins new = absurd (not_both (has_begun s.progress) is.1 begins)
-  keeps_action s action.Begin act is obeys begins new = absurd (not_both (has_begun s.progress) is.1 begins)
-  keeps_action s action.Prepare act is obeys begins new = absurd (not_both (has_begun s.progress) is.1 begins)
-  keeps_action s action.Send act is obeys begins new = absurd (not_both (has_begun s.progress) is.1 begins)
-  keeps_action s action.Skip act is obeys begins new = absurd (not_both (has_begun s.progress) is.1 begins)
-  keeps_action s action.Pass act is obeys begins new = absurd (not_both (has_begun s.progress) is.1 begins)
-  keeps_action s action.Flush act is obeys begins new = absurd (not_both (has_begun s.progress) is.1 begins)
+  keeps_action s action.Renew act is obeys begins new = absurd (both_ways (has_begun s.progress) begins is.1)
+  keeps_action s action.Begin act is obeys begins new = absurd (both_ways (has_begun s.progress) begins is.1)
+  keeps_action s action.Prepare act is obeys begins new = absurd (both_ways (has_begun s.progress) begins is.1)
+  keeps_action s action.Send act is obeys begins new = absurd (both_ways (has_begun s.progress) begins is.1)
+  keeps_action s action.Skip act is obeys begins new = absurd (both_ways (has_begun s.progress) begins is.1)
+  keeps_action s action.Pass act is obeys begins new = absurd (both_ways (has_begun s.progress) begins is.1)
+  keeps_action s action.Flush act is obeys begins new = absurd (both_ways (has_begun s.progress) begins is.1)
   keeps_action s action.ReadClock act is obeys begins new = walk plan commands (Keeps s) action.ReadClock (with_progress turned s) act obeys
       (λ m. (new_told s m new, refl, refl), λ n. (new, refl, refl))
   keeps_action s (action.Read until) act is obeys begins new =
@@ -209,7 +208,7 @@ module _ (plan : Plan) (commands : List Task) where
   keeps_action s o act is obeys begins new = walk plan commands (Keeps s) o (with_progress turned s) act obeys (λ m. (new, refl, refl), λ n. (new, refl, refl))
 
   -- the part of an act while the station synchronizes has only turns
-  only_of : (s : Model) (o : Action) (act : Act) → beginning s o act ≡ only_turns (beginning s o act).turns
+  only_of : (s : Model) (o : Action) (act : Act) → sync_part s o act ≡ only_turns (sync_part s o act).turns
   only_of s action.Ask (Put bytes) = refl
   only_of s action.Ask (Cut bytes count) = refl
   only_of s action.Ask act = refl
@@ -227,16 +226,16 @@ module _ (plan : Plan) (commands : List Task) where
 
   -- an act of each action leads on by its part, while the station synchronizes
   leads_begins : (s : Model) (o : Action) (act : Act) → Invariant plan commands s → HoldsBefore plan s.progress (waiting_of s) o → Performs commands s o act → has_begun s.progress ≡ false
-      → Leads commands s (beginning s o act) (moved plan commands o (with_progress turned s) act)
+      → Leads commands s (sync_part s o act) (moved plan commands o (with_progress turned s) act)
   leads_begins s o act fine is obeys begins =
       let t = moved plan commands o (with_progress turned s) act in
       let new = fine.begins begins in
       let k = keeps_action s o act is obeys begins new in
-      subst (λ (p : Part). Leads commands s p t) (sym (only_of s o act)) (same_led s (beginning s o act).turns t (new ∙ sym k.0) (sym k.1) (sym k.2))
+      subst (λ (p : Part). Leads commands s p t) (sym (only_of s o act)) (same_led s (sync_part s o act).turns t (new ∙ sym k.0) (sym k.1) (sym k.2))
 
   -- an act of each action leads on by its part
   pub leads : (s : Model) (o : Action) (act : Act) → Invariant plan commands s → HoldsBefore plan s.progress (waiting_of s) o → Performs commands s o act
-      → Leads commands s (acting plan commands s o act) (moved plan commands o (with_progress turned s) act)
+      → Leads commands s (part_of_act plan commands s o act) (moved plan commands o (with_progress turned s) act)
   leads s o act fine is obeys =
-      either (λ (p : Part). Leads commands s p (moved plan commands o (with_progress turned s) act)) (doing plan commands s o act) (beginning s o act) (has_begun s.progress)
+      cond_both (has_begun s.progress) (client_part plan commands s o act) (sync_part s o act) (λ (p : Part). Leads commands s p (moved plan commands o (with_progress turned s) act))
       (λ begun. leads_order s o act fine is obeys begun) (λ begins. leads_begins s o act fine is obeys begins)

@@ -2,7 +2,7 @@
 -- act is one call on the link, with its result. `after_failure` is the progress after a connection ended or couldn't be made, and
 -- `pause_after plan n` the pause after n such failures in a row. Times are in milliseconds.
 use Rattle.std.proofs.Common.{◌≡◌, ◌⊎◌, inl, inr, ℕ, zero, suc, ◌+◌, ◌-◌, ◌*◌, ◌<◌, ◌≤◌, ◌||◌, Bool, true, false, List, if◌then◌else◌, nat_lt, min, max, refl, ap, ◌∙◌, arith, ◌&&◌, not}
-use Rattle.std.proofs.lemmas.Bool.{lt-ltb, le-ltb}
+use Rattle.std.proofs.lemmas.Bool.{lt-ltb, le-ltb, cond-true, cond-false, and_from, not_from_false}
 use Rattle.gc_texts.specs.declared.tasks.Task.{Task}
 use Rattle.gc_links.specs.Acts.{Act}
 use Rattle.gc_station.specs.Deciding.{later}
@@ -18,7 +18,6 @@ use Rattle.gc_station.specs.declared.progress.Phase.TheVariants as phase
 use Rattle.gc_station.specs.declared.progress.Progress.{Progress}
 use Rattle.gc_station.specs.declared.progress.Until.{Until}
 use Rattle.gc_station.specs.declared.progress.Waiting.{Waiting}
-use Rattle.gc_station.proofs.Ticking.{picks, picks_other}
 use Rattle.gc_station.proofs.Walk.{moved_changed}
 
 -- twice a pause of 0, bounded to a minute and to at least the quiet time, is the pause after a first failure
@@ -43,12 +42,12 @@ twice plan (suc n) = twice_more (doubled n plan.quiet) plan.quiet (doubled_least
 failed : (plan : Plan) (commands n : ℕ) (why : Cause) (p : Progress) → is_spared plan why p ≡ false → p.pause ≡ pause_after plan n
     → (after_failure plan commands why p).pause ≡ pause_after plan (suc n)
 failed plan commands n why p e is =
-    picks_other (is_spared plan why p) (max p.pause plan.quiet) (max (min (later p.pause p.pause) 60000) plan.quiet) e
+    cond-false (is_spared plan why p) (max p.pause plan.quiet) (max (min (later p.pause p.pause) 60000) plan.quiet) e
     ∙ ap (λ x. max (min (later x x) 60000) plan.quiet) is ∙ twice plan n
 
 -- a failure that isn't spared takes one try
 takes : (plan : Plan) (commands : ℕ) (why : Cause) (p : Progress) → is_spared plan why p ≡ false → 0 < p.tries → (after_failure plan commands why p).tries + 1 ≡ p.tries
-takes plan commands why p e some = let less = picks_other (is_spared plan why p) p.tries (p.tries - 1) e in omega (arith, less, some)
+takes plan commands why p e some = let less = cond-false (is_spared plan why p) p.tries (p.tries - 1) e in omega (arith, less, some)
 
 -- a failure that isn't spared, without a try left (`some`), ends the run: as done, if all is done, or for its cause
 over_by : (done spared some : Bool) (why : Cause) → spared ≡ false → some ≡ false
@@ -72,9 +71,9 @@ spared_stays d quiet = omega arith
 spared : (plan : Plan) (commands n : ℕ) (why : Cause) (p : Progress) → is_spared plan why p ≡ true → p.pause ≡ pause_after plan (suc n)
     → ((after_failure plan commands why p).pause ≡ pause_after plan (suc n)) × ((after_failure plan commands why p).tries ≡ p.tries)
 spared plan commands n why p e is = (
-  picks (is_spared plan why p) (max p.pause plan.quiet) (max (min (later p.pause p.pause) 60000) plan.quiet) e
+  cond-true (is_spared plan why p) (max p.pause plan.quiet) (max (min (later p.pause p.pause) 60000) plan.quiet) e
       ∙ ap (λ x. max x plan.quiet) is ∙ spared_stays (doubled n plan.quiet) plan.quiet,
-  picks (is_spared plan why p) p.tries (p.tries - 1) e,
+  cond-true (is_spared plan why p) p.tries (p.tries - 1) e,
 )
 
 -- if there was no pause, the pause after a spared close is the quiet time
@@ -85,29 +84,24 @@ spared_none quiet = omega arith
 spared_first : (plan : Plan) (commands : ℕ) (why : Cause) (p : Progress) → is_spared plan why p ≡ true → p.pause ≡ pause_after plan 0
     → ((after_failure plan commands why p).pause ≡ pause_after plan 1) × ((after_failure plan commands why p).tries ≡ p.tries)
 spared_first plan commands why p e is = (
-  picks (is_spared plan why p) (max p.pause plan.quiet) (max (min (later p.pause p.pause) 60000) plan.quiet) e
+  cond-true (is_spared plan why p) (max p.pause plan.quiet) (max (min (later p.pause p.pause) 60000) plan.quiet) e
       ∙ ap (λ x. max x plan.quiet) is ∙ spared_none plan.quiet,
-  picks (is_spared plan why p) p.tries (p.tries - 1) e,
+  cond-true (is_spared plan why p) p.tries (p.tries - 1) e,
 )
 
 -- a read that settled a command gives all tries back, and makes the pause 0, once the setup is done
 settled : (plan : Plan) (until : Until) (before : ℕ) (after : Waiting) (p : Progress) → after.commands < before → p.preparing ≡ false
     → ((bytes_noted plan until before after p).tries ≡ plan.retries) × ((bytes_noted plan until before after p).pause ≡ pause_after plan 0)
 settled plan until before after p fewer done =
-    let e = both_hold (nat_lt after.commands before) (p.preparing) (lt-ltb after.commands before fewer) done in
-    (picks (gives_back before after p) plan.retries p.tries e, picks (gives_back before after p) 0 p.pause e) where
-      -- the first test holds, and the second doesn't
-      both_hold : (a b : Bool) → a ≡ true → b ≡ false → (a && not b) ≡ true
-      both_hold true false x y = refl
-      both_hold true true x y = cc
-      both_hold false b x y = cc
+    let e = and_from (nat_lt after.commands before) (not p.preparing) (lt-ltb after.commands before fewer) (not_from_false p.preparing done) in
+    (cond-true (gives_back before after p) plan.retries p.tries e, cond-true (gives_back before after p) 0 p.pause e)
 
 -- a read that settled no command, or while the setup isn't done, leaves the tries and the pause
 unsettled : (plan : Plan) (until : Until) (before : ℕ) (after : Waiting) (p : Progress) → (before ≤ after.commands) ⊎ (p.preparing ≡ true)
     → ((bytes_noted plan until before after p).tries ≡ p.tries) × ((bytes_noted plan until before after p).pause ≡ p.pause)
 unsettled plan until before after p why =
     let e = by_cause (nat_lt after.commands before) (p.preparing) refl refl why in
-    (picks_other (gives_back before after p) plan.retries p.tries e, picks_other (gives_back before after p) 0 p.pause e) where
+    (cond-false (gives_back before after p) plan.retries p.tries e, cond-false (gives_back before after p) 0 p.pause e) where
       -- the first test doesn't hold, or the second does
       by_cause : (a b : Bool) → nat_lt after.commands before ≡ a → p.preparing ≡ b → (before ≤ after.commands) ⊎ (p.preparing ≡ true) → (a && not b) ≡ false
       by_cause false b x y w = refl

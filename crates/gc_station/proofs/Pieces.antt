@@ -1,15 +1,15 @@
 -- The lines of the piece that an act brings, heard one by one: the outstanding requests were put among the acts before
 -- (`WaitsAt` of `Waiting`), and each record that is written is true (`IsJustified`). An act is one call on the link, with its
--- result. `Hears` says both of the model after some of the lines.
-use Rattle.std.proofs.Common.{◌≡◌, inl, inr, ℕ, ◌<◌, ◌≤◌, Bool, true, false, List, [], ◌∷◌, ◌++◌, length, Option, Some, IfSome, refl, sym, ap, ◌∙◌, subst, arith, append_assoc, append-nil}
+-- result. `HonestSoFar` says both of the model after some of the lines.
+use Rattle.std.proofs.Common.{◌≡◌, inl, inr, ℕ, ◌<◌, ◌≤◌, Bool, true, false, List, [], ◌∷◌, ◌++◌, length, Option, Some, refl, sym, ap, ◌∙◌, subst, arith, append_assoc, append-nil}
 use Rattle.std.specs.List.{AllByRecursion}
 use Rattle.gc_lines.specs.Frames.{rest_behind}
 use Rattle.gc_catalogue.specs.declared.answer.Reading.{Reading}
 use Rattle.gc_catalogue.specs.declared.asked.Asked.{Asked}
 use Rattle.gc_client.specs.declared.pending.Pending.{Pending}
 use Rattle.gc_client.specs.Ids.{Waits, id_at, IsWithinLimits}
-use Rattle.gc_client.specs.Rule.{ById, Settlement, place as place_behind, heard, hears}
-use Rattle.gc_client.proofs.Digits.{heard_by_grammar}
+use Rattle.gc_client.specs.Rule.{ById, Settlement, heard, hears}
+use Rattle.gc_client.proofs.Digits.{id_back, heard_digit}
 use Rattle.gc_texts.specs.declared.wish.Wish.{Wish}
 use Rattle.gc_texts.specs.declared.tasks.Task.{Task}
 use Rattle.gc_station.specs.declared.mark.Mark.{Mark}
@@ -23,21 +23,13 @@ use Rattle.gc_station.specs.Quiet.{IsAsking}
 use Rattle.gc_station.specs.Progressing.{turned, moment_noted}
 use Rattle.gc_station.specs.Records.{Record}
 use Rattle.gc_station.specs.Runs.{state_after}
-use Rattle.gc_station.specs.Model.{Model, action_at, request_text, with_progress, with_moment, with_rest, line_came, lines_came, lines_completed, after_piece, Puts}
+use Rattle.gc_station.specs.ActKinds.{Puts}
+use Rattle.gc_station.specs.Model.{Model, action_at, request_text, with_progress, with_moment, with_rest, line_came, lines_came, lines_completed, after_piece}
 use Rattle.gc_station.proofs.Growing.{lines_records}
 use Rattle.gc_station.proofs.Lists.{all_append, all_split, cuts_on, Rows}
 use Rattle.gc_station.proofs.Meets.{HasPlace, EndedBy, heard_ended, heard_left, left_window, left_waits, records_all, IsRecordOf, was_answered, was_late, was_lost}
 use Rattle.gc_station.proofs.Waiting.{WasAsked, StayedAt, WaitsAt, IsJustified, IsHonest, past_more, past_here, expired_waits, expired_window, behind_moment, moment_told}
 use Rattle.gc_station.specs.Scopes.{Scope}
-
--- ids count from 0 to 7 and then from 0 again: the id at the place of the id `id`, among the `count` outstanding requests
--- before the id `next`, is `id` again
-pub id_back : (next count id : ℕ) → next < 8 → count ≤ 7 → id < 8 → id_at next count (place_behind next count id) ≡ id
-id_back next count id digit few below = omega arith
-
--- the id of a line is below 8
-pub id_digit : (line : List ℕ) (id : ℕ) → heard line ≡ Some id → id < 8
-id_digit line id e = let it = (heard_by_grammar line).only id e in subst (λ (o : Option ℕ). IfSome o (λ n. n < 8)) it.2 it.1.is_id
 
 -- five lists of records and the record r, joined in two ways, give the same list
 pub regroup : (start news front : List Record) (r : Record) (back more : List Record) → ((start ++ news) ++ (front ++ r ∷ back)) ++ more ≡ start ++ ((news ++ front) ++ r ∷ (back ++ more))
@@ -47,7 +39,7 @@ regroup start news front r back more =
 
 -- after some lines of the piece that an act brings, at the moment m, the model is x: the outstanding requests were put among
 -- the acts before that act, and the records so far are true by the acts up to it
-pub record Hears (plan : Plan) (commands : List Task) (scope : Scope) (acts : List Act) (piece : List ℕ) (m : Moment) (x : Model) : Type 0 where
+pub record HonestSoFar (plan : Plan) (commands : List Task) (scope : Scope) (acts : List Act) (piece : List ℕ) (m : Moment) (x : Model) : Type 0 where
   pub window : IsWithinLimits x.client
   pub waiting : Rows (WaitsAt plan commands scope acts (state_after plan commands scope acts).client m.elapsed x.client.next (length x.client.waiting)) 0 0 x.client.waiting x.marks
   pub written : AllByRecursion (IsJustified plan commands scope (acts ++ Gave piece m ∷ [])) x.records
@@ -66,9 +58,9 @@ pub record WrittenDown (plan : Plan) (commands : List Task) (scope : Scope) (act
 -- record's own
 written_down : (plan : Plan) (commands : List Task) (scope : Scope) (acts : List Act) (piece : List ℕ) (m : Moment) (number at id : ℕ) (p : Pending Asked)
     (mark : Mark) (r : Record) (news earlier later more : List Record)
-    → r.cycle ≡ mark.cycle → r.place ≡ mark.place → r.sent ≡ Some mark.sent → p.call ≡ r.command.call
+    → (cycle : r.cycle ≡ mark.cycle) → (place : r.place ≡ mark.place) → (sent : r.sent ≡ Some mark.sent) → (asks : p.call ≡ r.command.call)
     → (s : WasAsked plan commands scope acts (StayedAt m.elapsed) number at id p (Some mark))
-    → (state_after plan commands scope (acts ++ Gave piece m ∷ [])).records ≡ (((state_after plan commands scope acts).records ++ news) ++ (earlier ++ r ∷ later)) ++ more
+    → (ends : (state_after plan commands scope (acts ++ Gave piece m ∷ [])).records ≡ (((state_after plan commands scope acts).records ++ news) ++ (earlier ++ r ∷ later)) ++ more)
     → WrittenDown plan commands scope acts piece m s.before s.request s.between r
 written_down plan commands scope acts piece m number at id p mark r news earlier later more cycle place sent asks s ends =
     let its = s.its mark refl in
@@ -93,14 +85,14 @@ written_down plan commands scope acts piece m number at id p mark r news earlier
 -- the id that was heard is that of the request at its place
 id_heard : (c : ById Asked) (line : List ℕ) (at next : ℕ) → IsWithinLimits c → HasPlace c (heard line) at → id_at c.next (length c.waiting) at ≡ next → heard line ≡ Some next
 id_heard c line at next w has is =
-    let back = id_back c.next (length c.waiting) has.id w.digit w.few (id_digit line has.id has.has) in
+    let back = id_back c.next (length c.waiting) has.id w.digit w.few (heard_digit line has.id has.has) in
     has.has ∙ ap Some (sym back ∙ ap (λ (k : ℕ). id_at c.next (length c.waiting) k) (sym has.is) ∙ is)
 
 -- a line of the piece has the id `next`, which is that of the request at the place `at`: so the piece brings that id (`BringsLine`)
 brings : (plan : Plan) (commands : List Task) (scope : Scope) (acts : List Act) (piece : List ℕ) (c : ById Asked) (front others : List (List ℕ)) (line : List ℕ)
     (at next : ℕ) (before : List Act) (request : Act) (between : List Act)
-    → front ++ line ∷ others ≡ lines_completed (state_after plan commands scope acts).rest piece → acts ≡ before ++ request ∷ between → IsWithinLimits c
-    → HasPlace c (heard line) at → id_at c.next (length c.waiting) at ≡ next
+    → (split : front ++ line ∷ others ≡ lines_completed (state_after plan commands scope acts).rest piece) → (order : acts ≡ before ++ request ∷ between) → (limits : IsWithinLimits c)
+    → (has : HasPlace c (heard line) at) → (is_next : id_at c.next (length c.waiting) at ≡ next)
     → BringsLine plan commands scope (before ++ request ∷ between) piece next
 brings plan commands scope acts piece c front others line at next before request between split action w has is = record {
   front = front;
@@ -127,10 +119,10 @@ too_late now d false acts act is past both = cc
 -- the record of an answer, of the request with this mark, is as `IsAnsweredIn` says
 answered : (plan : Plan) (commands : List Task) (scope : Scope) (acts : List Act) (piece : List ℕ) (m : Moment) (c : ById Asked) (front others : List (List ℕ))
     (line l : List ℕ) (number at : ℕ) (p : Pending Asked) (mark : Mark) (r : Record)
-    → front ++ line ∷ others ≡ lines_completed (state_after plan commands scope acts).rest piece → IsWithinLimits c
+    → (split : front ++ line ∷ others ≡ lines_completed (state_after plan commands scope acts).rest piece) → (limits : IsWithinLimits c)
     → (s : WasAsked plan commands scope acts (StayedAt m.elapsed) number at (id_at c.next (length c.waiting) at) p (Some mark))
     → WrittenDown plan commands scope acts piece m s.before s.request s.between r
-    → l ≡ line → p.given_up ≡ false → HasPlace c (heard line) at
+    → (same : l ≡ line) → (in_time : p.given_up ≡ false) → (has : HasPlace c (heard line) at)
     → IsAnsweredIn plan commands scope (acts ++ Gave piece m ∷ []) r l
 answered plan commands scope acts piece m c front others line l number at p mark r split w s down same given has =
     let both = in_time m.elapsed p.deadline p.given_up s.between given s.stays in
@@ -155,10 +147,10 @@ answered plan commands scope acts piece m c front others line l number at p mark
 -- the record of a late reply, of the request with this mark, is as `IsLateIn` says
 late : (plan : Plan) (commands : List Task) (scope : Scope) (acts : List Act) (piece : List ℕ) (m : Moment) (c : ById Asked) (front others : List (List ℕ))
     (line : List ℕ) (number at : ℕ) (p : Pending Asked) (mark : Mark) (r : Record)
-    → front ++ line ∷ others ≡ lines_completed (state_after plan commands scope acts).rest piece → IsWithinLimits c
+    → (split : front ++ line ∷ others ≡ lines_completed (state_after plan commands scope acts).rest piece) → (limits : IsWithinLimits c)
     → (s : WasAsked plan commands scope acts (StayedAt m.elapsed) number at (id_at c.next (length c.waiting) at) p (Some mark))
     → WrittenDown plan commands scope acts piece m s.before s.request s.between r
-    → p.given_up ≡ true → HasPlace c (heard line) at
+    → (timed_out : p.given_up ≡ true) → (has : HasPlace c (heard line) at)
     → IsLateIn plan commands scope (acts ++ Gave piece m ∷ []) r
 late plan commands scope acts piece m c front others line number at p mark r split w s down given has = record {
   before = s.before;
@@ -178,10 +170,10 @@ late plan commands scope acts piece m c front others line number at p mark r spl
 -- a request that is lost was overtaken: the piece brings the reply to a request that was put after it, and that waits
 overtaken : (plan : Plan) (commands : List Task) (scope : Scope) (acts : List Act) (piece : List ℕ) (m : Moment) (c : ById Asked) (front others : List (List ℕ))
     (line : List ℕ) (number at there : ℕ) (p q : Pending Asked) (mark mark' : Option Mark) (number' : ℕ)
-    → front ++ line ∷ others ≡ lines_completed (state_after plan commands scope acts).rest piece → IsWithinLimits c
+    → (split : front ++ line ∷ others ≡ lines_completed (state_after plan commands scope acts).rest piece) → (limits : IsWithinLimits c)
     → (s : WasAsked plan commands scope acts (StayedAt m.elapsed) number at (id_at c.next (length c.waiting) at) p mark)
     → WaitsAt plan commands scope acts (state_after plan commands scope acts).client m.elapsed c.next (length c.waiting) number' there q mark'
-    → number < number' → at < there → HasPlace c (heard line) there
+    → (later : number < number') → (above : at < there) → (has : HasPlace c (heard line) there)
     → IsOvertaken plan commands scope s.before s.request s.between (Gave piece m)
 overtaken plan commands scope acts piece m c front others line number at there p q mark mark' number' split w s waits low above has =
     let t = waits.0 in
@@ -255,11 +247,11 @@ line_true plan commands scope acts piece m c front others line r news earlier la
           };
     }
 
--- `Hears` is preserved by the lines of a piece
+-- `HonestSoFar` is preserved by the lines of a piece
 pub hear_all : (plan : Plan) (commands : List Task) (scope : Scope) (acts : List Act) (piece : List ℕ) (m : Moment) (front lines : List (List ℕ)) (x : Model) (tail : List Record)
     → front ++ lines ≡ lines_completed (state_after plan commands scope acts).rest piece
     → (state_after plan commands scope (acts ++ Gave piece m ∷ [])).records ≡ (lines_came x lines).records ++ tail
-    → Hears plan commands scope acts piece m x → Hears plan commands scope acts piece m (lines_came x lines)
+    → HonestSoFar plan commands scope acts piece m x → HonestSoFar plan commands scope acts piece m (lines_came x lines)
 hear_all plan commands scope acts piece m front [] x tail split ends h = h
 hear_all plan commands scope acts piece m front (line ∷ others) x tail split ends h =
     let R = IsJustified plan commands scope (acts ++ Gave piece m ∷ []) in
@@ -287,7 +279,7 @@ hear_all plan commands scope acts piece m front (line ∷ others) x tail split e
 
 -- once the lines of a piece were heard, `IsHonest` holds after the act that brought it
 pub behind_piece : (plan : Plan) (commands : List Task) (scope : Scope) (acts : List Act) (piece : List ℕ) (m : Moment) (x : Model)
-    → Hears plan commands scope acts piece m x → IsHonest plan commands scope (acts ++ Gave piece m ∷ []) (acts ++ Gave piece m ∷ []) x
+    → HonestSoFar plan commands scope acts piece m x → IsHonest plan commands scope (acts ++ Gave piece m ∷ []) (acts ++ Gave piece m ∷ []) x
 behind_piece plan commands scope acts piece m x h = record {
   waiting = behind_moment plan commands scope acts (Gave piece m) (state_after plan commands scope acts).client m.elapsed _ _ x.client.waiting x.marks (λ d low. low) (λ d past. past) h.waiting;
   written = h.written;

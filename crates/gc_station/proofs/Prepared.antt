@@ -2,6 +2,7 @@
 -- was made and the station synchronized. So it is before each command of the setup, and those before it.
 use Rattle.std.proofs.Common.{◌≡◌, ◌⊎◌, inl, inr, ℕ, zero, suc, ◌+◌, ◌<◌, ◌≤◌, ◌&&◌, ◌||◌, Bool, true, false, not, nat_eq, nat_le, nat_lt, min, List, [], ◌∷◌, ◌++◌, length, drop, map, refl, sym, ap, ◌∙◌, subst, arith, append_assoc, append-nil, leb-true, eqb-true, lt-ltb}
 use Rattle.std.proofs.lemmas.List.{map-append, append_cancel_left}
+use Rattle.std.proofs.lemmas.Bool.{and_parts, both_ways}
 use Rattle.gc_texts.specs.declared.tasks.Task.{Task}
 use Rattle.gc_links.specs.Acts.{Act, Told, Opened}
 use Rattle.gc_station.specs.declared.plan.Plan.{Plan}
@@ -21,14 +22,13 @@ use Rattle.gc_station.specs.Setups.{Dispatch, dispatch_of_record, dispatch_of_ma
 use Rattle.gc_station.proofs.Always.{always, progress_behind}
 use Rattle.gc_station.proofs.ChainSteps.{stays_open}
 use Rattle.gc_station.proofs.EachRun.{invariant_holds}
-use Rattle.gc_station.proofs.Facts.{action_for, both_true}
+use Rattle.gc_station.proofs.Facts.{action_for}
 use Rattle.gc_station.proofs.Going.{after_all-append}
 use Rattle.gc_station.proofs.SentAt.{records_stay}
 use Rattle.gc_station.proofs.Setups.{dispatch_row, dispatch_row_losing, row_prepared, row_kept, none_marked, prepares, sends_it}
 use Rattle.gc_station.proofs.Turns.{over_stays}
 use Rattle.gc_station.proofs.Walk.{closed_along, moved_changed}
 use Rattle.gc_station.proofs.Words.{begun_other}
-use Rattle.gc_station.proofs.Ticking.{not_both}
 use Rattle.gc_station.proofs.Unbroken.{sent_preparing}
 
 -- Records.
@@ -68,10 +68,6 @@ all_three true true true e = (refl, refl, refl)
 all_three false b c e = cc
 all_three true false c e = cc
 all_three true true false e = cc
-
--- the test for "above 0" is true of a number above 0
-above_zero : (n : ℕ) → 0 < n → nat_lt 0 n ≡ true
-above_zero n some = lt-ltb 0 n some
 
 module _ (plan : Plan) (commands : List Task) (scope : Scope) where
   -- the model after these acts
@@ -132,7 +128,7 @@ module _ (plan : Plan) (commands : List Task) (scope : Scope) where
   stays_more s [] act h keeps begun = (keeps, begun, tt)
   stays_more s (x ∷ xs) act h keeps begun = (h.0, h.1, stays_more (after plan commands s x) xs act h.2 keeps begun)
 
-  -- the acts since a request, with one more, if no connection was closed and the station is synchronized after it
+  -- `StaysUp` holds of the acts after `before` with one more, if that closes no connection and the station is synchronized after it
   since_more : (acts before since : List Act) (act : Act) → acts ≡ before ++ since → StaysUp plan commands (at before) since → KeepsOpen act
       → has_begun (at (acts ++ act ∷ [])).progress ≡ true → (acts ++ act ∷ [] ≡ before ++ (since ++ act ∷ [])) × StaysUp plan commands (at before) (since ++ act ∷ [])
   since_more acts before since act order stays keeps begun =
@@ -188,9 +184,9 @@ module _ (plan : Plan) (commands : List Task) (scope : Scope) where
         row = same ∙ d.row;
       }
 
-  -- a command of the setup that is sent after j that were answered well, and is the last of the row
-  sent_next : (j : ℕ) (acts : List Act) (act : Act) → KeepsOpen act → has_begun (at (acts ++ act ∷ [])).progress ≡ true → action_at plan (at acts) ≡ action.Prepare
-      → (at acts).progress.prepared ≡ j → dispatch_row (at (acts ++ act ∷ [])) ≡ dispatch_row (at acts) ++ dispatch_of_mark (mark_setup commands (at acts).progress) ∷ []
+  -- `SentAfterPrepared` holds once the command of the setup at place j is sent, if the j before it were answered well
+  sent_next : (j : ℕ) (acts : List Act) (act : Act) → (keeps : KeepsOpen act) → (begun : has_begun (at (acts ++ act ∷ [])).progress ≡ true) → (sends : action_at plan (at acts) ≡ action.Prepare)
+      → (place : (at acts).progress.prepared ≡ j) → (longer : dispatch_row (at (acts ++ act ∷ [])) ≡ dispatch_row (at acts) ++ dispatch_of_mark (mark_setup commands (at acts).progress) ∷ [])
       → ArePrepared plan commands scope acts j
       → SentAfterPrepared j (acts ++ act ∷ [])
   sent_next j acts act keeps begun sends place longer d =
@@ -247,8 +243,9 @@ module _ (plan : Plan) (commands : List Task) (scope : Scope) where
 
   -- `SetupFits` is preserved by an act that closes no connection, leaves both fields and the row, and leaves a synchronized
   -- station synchronized
-  fits_kept : (b c : Bool) (k n : ℕ) (acts : List Act) (act : Act) → c ≡ b → n ≡ k → KeepsOpen act → (has_begun (at acts).progress ≡ true → has_begun (at (acts ++ act ∷ [])).progress ≡ true)
-      → dispatch_row (at (acts ++ act ∷ [])) ≡ dispatch_row (at acts) → SetupFits b k acts → SetupFits c n (acts ++ act ∷ [])
+  fits_kept : (b c : Bool) (k n : ℕ) (acts : List Act) (act : Act) → (same_flag : c ≡ b) → (same_place : n ≡ k) → (keeps : KeepsOpen act)
+      → (stays_begun : has_begun (at acts).progress ≡ true → has_begun (at (acts ++ act ∷ [])).progress ≡ true)
+      → (same_row : dispatch_row (at (acts ++ act ∷ [])) ≡ dispatch_row (at acts)) → SetupFits b k acts → SetupFits c n (acts ++ act ∷ [])
   fits_kept b c k n acts act e f keeps begins same h =
       subst (λ (x : Bool). SetupFits x n (acts ++ act ∷ [])) (sym e) (subst (λ (m : ℕ). SetupFits b m (acts ++ act ∷ [])) (sym f) (by_case b k h)) where
         -- the lemma above, by cases on both fields
@@ -281,8 +278,8 @@ module _ (plan : Plan) (commands : List Task) (scope : Scope) where
     begins o is obeys other begun = ap has_begun (progress_after o is) ∙ begun_other plan commands s o act obeys other begun
 
     -- an act that leaves the two fields and the row preserves `SetupFits`
-    fits_unchanged : (o : Action) → action_at plan s ≡ o → (has_begun s.progress ≡ true → has_begun (at (acts ++ act ∷ [])).progress ≡ true) → KeepsOpen act
-        → (t o).progress.preparing ≡ s.progress.preparing → (t o).progress.prepared ≡ s.progress.prepared → dispatch_row (t o) ≡ dispatch_row s
+    fits_unchanged : (o : Action) → (is_next : action_at plan s ≡ o) → (stays_begun : has_begun s.progress ≡ true → has_begun (at (acts ++ act ∷ [])).progress ≡ true) → (keeps : KeepsOpen act)
+        → (same_flag : (t o).progress.preparing ≡ s.progress.preparing) → (same_place : (t o).progress.prepared ≡ s.progress.prepared) → (same_row : dispatch_row (t o) ≡ dispatch_row s)
         → SetupFits s.progress.preparing s.progress.prepared acts → SetupFitsNow (acts ++ act ∷ [])
     fits_unchanged o is begin keeps b k same h =
         inr (fits_kept s.progress.preparing (at (acts ++ act ∷ [])).progress.preparing s.progress.prepared (at (acts ++ act ∷ [])).progress.prepared acts act
@@ -292,11 +289,12 @@ module _ (plan : Plan) (commands : List Task) (scope : Scope) where
     fits_restarted : (o : Action) → action_at plan s ≡ o → (t o).progress.preparing ≡ nat_lt 0 plan.setup → (t o).progress.prepared ≡ 0 → SetupFitsNow (acts ++ act ∷ [])
     fits_restarted o is b k =
         inr (subst (λ (n : ℕ). SetupFits (at (acts ++ act ∷ [])).progress.preparing n (acts ++ act ∷ [])) (sym (ap (λ (p : Progress). p.prepared) (progress_after o is) ∙ k))
-        (subst (λ (c : Bool). SetupFits c 0 (acts ++ act ∷ [])) (sym (ap (λ (p : Progress). p.preparing) (progress_after o is) ∙ b ∙ above_zero plan.setup some)) tt))
+        (subst (λ (c : Bool). SetupFits c 0 (acts ++ act ∷ [])) (sym (ap (λ (p : Progress). p.preparing) (progress_after o is) ∙ b ∙ lt-ltb 0 plan.setup some)) tt))
 
     -- after an act that gives a command of a cycle its turn, which only happens once the setup is done, `SetupFitsNow` holds
-    fits_once_done : (o : Action) → action_at plan s ≡ o → Performs commands s o act → (o ≡ action.Renew → ⊥) → KeepsOpen act → (t o).progress.preparing ≡ false
-        → is_preparing plan s.progress (waiting_of s) ≡ false → SetupFits s.progress.preparing s.progress.prepared acts → SetupFitsNow (acts ++ act ∷ [])
+    fits_once_done : (o : Action) → (is_next : action_at plan s ≡ o) → (performs : Performs commands s o act) → (other : o ≡ action.Renew → ⊥) → (keeps : KeepsOpen act)
+        → (over : (t o).progress.preparing ≡ false)
+        → (done : is_preparing plan s.progress (waiting_of s) ≡ false) → SetupFits s.progress.preparing s.progress.prepared acts → SetupFitsNow (acts ++ act ∷ [])
     fits_once_done o is obeys other keeps b done h =
         let it = prepared_if_done some s.progress.preparing s.progress.prepared acts h done in
         let on = begins o is obeys other it.0 in
@@ -310,7 +308,7 @@ module _ (plan : Plan) (commands : List Task) (scope : Scope) where
     fits_sent is obeys needs h =
         let k = s.progress.prepared in
         let may = needs.2 in
-        let preparing : s.progress.preparing ≡ true = (both_true s.progress.preparing (not (nat_le plan.setup k && nat_eq (commands_in s.marks) 0 && last_well false s.records)) may.0).0 in
+        let preparing : s.progress.preparing ≡ true = (and_parts s.progress.preparing (not (nat_le plan.setup k && nat_eq (commands_in s.marks) 0 && last_well false s.records)) may.0).0 in
         let on = begins action.Prepare is obeys (λ e. cc) needs.1 in
         let keeps = stays_open plan commands action.Prepare s act obeys (λ why e. cc) in
         let one = sends_it plan commands within s is in
@@ -372,7 +370,7 @@ module _ (plan : Plan) (commands : List Task) (scope : Scope) where
   setup_fits some within acts runs = always plan commands (opening plan scope) (λ (xs : List Act) (u : Model). SetupFitsNow xs) step start acts runs where
     -- at the start the setup is sent from its first command on
     start : SetupFitsNow []
-    start = inr (subst (λ (c : Bool). SetupFits c 0 []) (sym (above_zero plan.setup some)) tt)
+    start = inr (subst (λ (c : Bool). SetupFits c 0 []) (sym (lt-ltb 0 plan.setup some)) tt)
 
     -- one more act preserves `SetupFitsNow`; if the run is over, no act follows
     step : (done : List Act) (act : Act) → Runs plan commands (opening plan scope) done → Performs commands (at done) (action_at plan (at done)) act → SetupFitsNow done
@@ -390,7 +388,7 @@ none_before_the_set_up plan commands scope acts runs is place below =
     let unsent : 0 < s.progress.unsent = needs.2 in
     let within : plan.setup ≤ length commands = let most = (invariant_holds plan commands scope acts).unsent in omega (arith, unsent, most) in
     elim (setup_fits plan commands scope some within acts runs) [
-      | inl over ↦ absurd (not_both (is_over_in s.progress.phase) over (ap is_over_in needs.0))
+      | inl over ↦ absurd (both_ways (is_over_in s.progress.phase) (ap is_over_in needs.0) over)
       | inr h ↦ (prepared_if_done plan commands scope some s.progress.preparing s.progress.prepared acts h needs.8).1 place below
     ]
 
@@ -401,8 +399,8 @@ set_up_in_order plan commands scope acts runs within is place below =
     let k = s.progress.prepared in
     let needs = subst (λ (o : Action). HoldsBefore plan s.progress (waiting_of s) o) is (action_for plan s.progress (waiting_of s)) in
     let some : 0 < plan.setup = omega (arith, needs.2.1) in
-    let preparing : s.progress.preparing ≡ true = (both_true s.progress.preparing (not (nat_le plan.setup k && nat_eq (commands_in s.marks) 0 && last_well false s.records)) needs.2.0).0 in
+    let preparing : s.progress.preparing ≡ true = (and_parts s.progress.preparing (not (nat_le plan.setup k && nat_eq (commands_in s.marks) 0 && last_well false s.records)) needs.2.0).0 in
     elim (setup_fits plan commands scope some within acts runs) [
-      | inl over ↦ absurd (not_both (is_over_in s.progress.phase) over (ap is_over_in needs.0))
+      | inl over ↦ absurd (both_ways (is_over_in s.progress.phase) (ap is_over_in needs.0) over)
       | inr h ↦ prepared_before_next plan commands scope s.progress.preparing k acts h preparing needs.2.2 place below
     ]

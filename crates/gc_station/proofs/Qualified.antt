@@ -168,8 +168,8 @@ module _ (reads : Asked → List ℕ → Reading) (expected : Expected) (call : 
 -- `end` is what the code makes of a refused reply: the ending of the refusal, by whether its code is accepted, and by what the
 -- line says with return code 0 (`zeroed`). It is the ending that `end_of` gives the settlement
 pub refused_ends : (reads : Asked → List ℕ → Reading) (expected : Expected) (call : Asked) (outcome : Outcome) (code : ℕ) (line : _) (zeroed : Reading) (end : End)
-    → AreReadings reads → outcome ≡ outcomes.Answered (reading.Refused code) line → IsReadBy IsAskedReading call outcome → IsZeroOf call outcome zeroed
-    → end ≡ refused_as (lists_code expected.accepted code) expected.near zeroed line.items → end ≡ end_of reads expected call (outcome_seen outcome)
+    → (are : AreReadings reads) → (is_refused : outcome ≡ outcomes.Answered (reading.Refused code) line) → (is_read : IsReadBy IsAskedReading call outcome) → (zero_is : IsZeroOf call outcome zeroed)
+    → (ends : end ≡ refused_as (lists_code expected.accepted code) expected.near zeroed line.items) → end ≡ end_of reads expected call (outcome_seen outcome)
 refused_ends reads expected call outcome code line zeroed end are is read zero_is e =
     let r : IsReadBy IsAskedReading call (outcomes.Answered (reading.Refused code) line) = subst (IsReadBy IsAskedReading call) is read in
     let z : IsZeroOf call (outcomes.Answered (reading.Refused code) line) zeroed = subst (λ (o : Outcome). IsZeroOf call o zeroed) is zero_is in

@@ -1,11 +1,11 @@
 -- Before a request is sent its connection was cleared and, if the station had synchronized by then, quiet: what was done on a
 -- connection, by the phase (`Stage`). A connection is drained while what comes on it is discarded until it is quiet. An act is
--- one call on the link, with its result. In facts of the form P before start after, `start` is one of the acts, `before` the
+-- one call on the link, with its result. In facts of the form P before start behind, `start` is one of the acts, `before` the
 -- acts before it, and `behind` those after it.
 use Rattle.std.proofs.Common.{◌≡◌, ℕ, ◌-◌, ◌≤◌, ◌⊎◌, inl, inr, Bool, true, false, List, [], ◌∷◌, ◌++◌, drop, if◌then◌else◌, nat_le, min, refl, sym, ap, ◌∙◌, subst, arith}
 use Rattle.std.specs.List.{AllByRecursion}
 use Rattle.std.proofs.Math.Nat.{min-eq_left, min-eq_right}
-use Rattle.std.proofs.lemmas.Bool.{leb-true, leb-false}
+use Rattle.std.proofs.lemmas.Bool.{leb-true, leb-false, both_ways}
 use Rattle.gc_catalogue.specs.declared.asked.Asked.TheVariants.{Table}
 use Rattle.gc_catalogue.specs.declared.call.Call.TheVariants.{NullProc}
 use Rattle.gc_texts.specs.declared.tasks.Task.{Task}
@@ -24,16 +24,14 @@ use Rattle.gc_station.specs.Progressing.{turned, moment_noted, time_passed, drai
 use Rattle.gc_station.specs.Quiet.{IsRequest, TellsMoment, IsListening, IsSilent, StaysConnected}
 use Rattle.gc_station.specs.Reasons.{HoldsBefore}
 use Rattle.gc_station.specs.Runs.{state_after}
-use Rattle.gc_station.specs.Model.{Model, null_text, request_text, first_text, place_next, opening, action_at, waiting_of, with_progress, with_moment, lines_completed, is_heard, Performs, moved, Runs, text_or_null}
+use Rattle.gc_station.specs.Model.{Model, null_text, request_text, first_text, place_next, opening, action_at, waiting_of, with_progress, with_moment, lines_completed, is_heard, Performs, Runs, text_or_null}
 use Rattle.gc_station.proofs.Closings.{runs_split}
-use Rattle.gc_station.proofs.Always.{always_of_progress}
-use Rattle.gc_station.proofs.Connected.{is_in_use, OnLine, on_line}
+use Rattle.gc_station.proofs.Connected.{is_in_use, OnLine, on_line_always}
 use Rattle.gc_station.proofs.Facts.{action_for, order_timely, Timely}
 use Rattle.gc_station.proofs.Lists.{all_append, all_on}
 use Rattle.gc_station.proofs.Since.{Since, since_now, since_on, cut_on}
 use Rattle.gc_station.proofs.Walk.{asked_along, came_along, walk}
 use Rattle.gc_station.specs.Scopes.{Scope}
-use Rattle.gc_station.proofs.Ticking.{not_both}
 
 -- What was done on a connection.
 
@@ -143,7 +141,7 @@ module _ (plan : Plan) (commands : List Task) (scope : Scope) where
         behind = b.behind;
         order = cut_on acts b.before o.0 (Opened ∷ []) (b.start ∷ b.behind) b.order o.1 ∙ ap (λ (x : Act). o.0 ++ Opened ∷ x ∷ b.behind) b.holds.1;
         stays = b.holds.2;
-        quiet = λ begun. absurd (not_both (has_begun (state_after plan commands scope o.0).progress) begun o.2);
+        quiet = λ begun. absurd (both_ways (has_begun (state_after plan commands scope o.0).progress) o.2 begun);
       }
 
   -- what was done on the connection, by the phase: in `Clearing` it was just made, in `Draining` it is drained, and in `Ready`
@@ -265,12 +263,12 @@ module _ (plan : Plan) (commands : List Task) (scope : Scope) where
   stage_in : (p : Progress) (at : Phase) (acts : List Act) → p.phase ≡ at → StageHereAt p acts → StageHere (has_begun p) p.clock_due p.since at acts
   stage_in p at acts is st = subst (λ (x : Phase). StageHere (has_begun p) p.clock_due p.since x acts) is st
 
-  -- what `Stage` says holds on after an act of any action that leaves a connection in use
+  -- `Stage` is preserved by an act of any action that leaves a connection in use
   stage_line : (next : Action) (s : Model) (acts : List Act) → has_begun (state_after plan commands scope acts).progress ≡ has_begun s.progress
       → HoldsBefore plan s.progress (waiting_of s) next → Timely s.progress next → StageHereAt s.progress acts → OnLine plan commands StageHereAt next (with_progress turned s) acts
   stage_line actions.ReadClock s acts there needs time st =
       let p = s.progress in
-      λ m. stage_on (has_begun p) (has_begun p) p.clock_due p.since m.elapsed p.phase acts (Told m) tt (λ is now. not_both p.clock_due time now) (draining_told p.clock_due p.since m acts time) st
+      λ m. stage_on (has_begun p) (has_begun p) p.clock_due p.since m.elapsed p.phase acts (Told m) tt (λ is now. both_ways p.clock_due now time) (draining_told p.clock_due p.since m acts time) st
   stage_line actions.Open s acts there needs time st = λ m. (time, (acts, refl, there))
   stage_line actions.Clear s acts there needs time st = λ m. stage_cleared (has_begun s.progress) s.progress.since acts (stage_in s.progress phase.Clearing acts needs st).1
   stage_line (actions.Read until) s acts there needs time st =
@@ -309,17 +307,11 @@ module _ (plan : Plan) (commands : List Task) (scope : Scope) where
 
   -- `Stage` holds after every run
   stage_holds : (acts : List Act) → Runs plan commands (opening plan scope) acts → StageHereAt (state_after plan commands scope acts).progress acts
-  stage_holds acts runs = always_of_progress plan commands (opening plan scope) StageHereAt step tt acts runs where
-    -- one act of a run preserves `StageHereAt`
-    step : (done : List Act) (act : Act) → Runs plan commands (opening plan scope) done
-        → Performs commands (state_after plan commands scope done) (action_at plan (state_after plan commands scope done)) act
-        → StageHereAt (state_after plan commands scope done).progress done
-        → StageHereAt (moved plan commands (action_at plan (state_after plan commands scope done)) (with_progress turned (state_after plan commands scope done)) act).progress (done ++ act ∷ [])
-    step done act runs o st =
-        let s = state_after plan commands scope done in
-        let p = s.progress in
-        on_line plan commands StageHereAt (λ q acts none. stage_none (has_begun q) q.clock_due q.since q.phase acts none) (action_at plan s) s act done o
-        (stage_line (action_at plan s) s done refl (action_for plan p (waiting_of s)) (order_timely plan p (waiting_of s)) st)
+  stage_holds acts runs =
+      on_line_always plan commands StageHereAt (λ q acts none. stage_none (has_begun q) q.clock_due q.since q.phase acts none) scope (λ done runs st.
+      let s = state_after plan commands scope done in
+      let p = s.progress in
+      stage_line (action_at plan s) s done refl (action_for plan p (waiting_of s)) (order_timely plan p (waiting_of s)) st) tt acts runs
 
 -- Requests are sent only in the phase for requests.
 
@@ -345,9 +337,9 @@ asks_not plan commands next s act o other = walk plan commands (λ a (t : Model)
 pub asks_only : (plan : Plan) (commands : List Task) (next : Action) (s : Model) (act : Act) → Performs commands s next act → IsRequest act
     → HoldsBefore plan s.progress (waiting_of s) next → has_begun s.progress ≡ false → next ≡ actions.Ask
 asks_only plan commands actions.Ask s act o asks needs begins = refl
-asks_only plan commands actions.Prepare s act o asks needs begins = absurd (not_both (has_begun s.progress) needs.1 begins)
-asks_only plan commands actions.Send s act o asks needs begins = absurd (not_both (has_begun s.progress) needs.1 begins)
-asks_only plan commands actions.Flush s act o asks needs begins = absurd (not_both (has_begun s.progress) needs.1 begins)
+asks_only plan commands actions.Prepare s act o asks needs begins = absurd (both_ways (has_begun s.progress) begins needs.1)
+asks_only plan commands actions.Send s act o asks needs begins = absurd (both_ways (has_begun s.progress) begins needs.1)
+asks_only plan commands actions.Flush s act o asks needs begins = absurd (both_ways (has_begun s.progress) begins needs.1)
 asks_only plan commands next s act o asks needs begins = absurd (asks_not plan commands next s act o (λ is. cc, λ is. cc, λ is. cc, λ is. cc) asks)
 
 -- if a request is sent, the phase is `Ready`

@@ -28,15 +28,15 @@ pub moved_reads : (plan : Plan) (commands : List Task) (action : Action) (s : Mo
 moved_reads plan commands action s act = ap (λ (x : Model). x.reads) (moved_changed plan commands action s act)
 
 -- the loss of what is outstanding doesn't change what replies say
-pub ended_reads : (b : Bool) (s : Model) → (losing b s).reads ≡ s.reads
-ended_reads true s = refl
-ended_reads false s = refl
+pub losing_reads : (b : Bool) (s : Model) → (losing b s).reads ≡ s.reads
+losing_reads true s = refl
+losing_reads false s = refl
 
 -- an act doesn't change what replies say
 pub after_reads : (plan : Plan) (commands : List Task) (s : Model) (act : Act) → (after plan commands s act).reads ≡ s.reads
 after_reads plan commands s act =
     let t = moved plan commands (action_at plan s) (with_progress turned s) act in
-    ended_reads (loses_all t.progress) t ∙ moved_reads plan commands (action_at plan s) (with_progress turned s) act
+    losing_reads (loses_all t.progress) t ∙ moved_reads plan commands (action_at plan s) (with_progress turned s) act
 
 -- acts don't change what replies say
 all_reads : (plan : Plan) (commands : List Task) (s : Model) (acts : List Act) → (after_all plan commands s acts).reads ≡ s.reads

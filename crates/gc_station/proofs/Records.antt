@@ -126,8 +126,9 @@ listed-append reads (Some mark ∷ marks) (x ∷ xs) ys b =
 
 -- `listed_by` of the first i + 1 settlements is that of s, the one at place i, with its mark, from that of the first i on
 pub listed_more : (reads : Asked → List ℕ → Reading) (a b c : Bool) (marks : List (Option Mark)) (ss : List (Settlement Asked)) (i : ℕ) (s : Settlement Asked) (mark : Option Mark)
-    → i < length ss → s ≡ get_or ss i s → b ≡ listed_by reads a marks (map settlement_seen (take i ss)) → c ≡ listed_by reads b (mark ∷ []) (settlement_seen s ∷ [])
-    → ((x : Bool) → listed_by reads x (drop i marks) (settlement_seen s ∷ []) ≡ listed_by reads x (mark ∷ []) (settlement_seen s ∷ []))
+    → (below : i < length ss) → (here : s ≡ get_or ss i s) → (before : b ≡ listed_by reads a marks (map settlement_seen (take i ss)))
+    → (now : c ≡ listed_by reads b (mark ∷ []) (settlement_seen s ∷ []))
+    → (one_mark : (x : Bool) → listed_by reads x (drop i marks) (settlement_seen s ∷ []) ≡ listed_by reads x (mark ∷ []) (settlement_seen s ∷ []))
     → c ≡ listed_by reads a marks (map settlement_seen (take (i + 1) ss))
 listed_more reads a b c marks ss i s mark below is so more here =
     let front = map settlement_seen (take i ss) in

@@ -14,8 +14,6 @@ use Rattle.gc_station.specs.Silences.{IsNoReply}
 use Rattle.gc_station.specs.Model.{Model, line_came, lines_came, is_reply}
 use Rattle.gc_station.proofs.Walk.{lines_along}
 
--- The lines of a piece: none reads as a reply, or the line was alive at the moment of the piece.
-
 -- lines that are heard leave the moment read last
 pub lines_moment : (s : Model) (lines : List (List ℕ)) → (lines_came s lines).progress.moment ≡ s.progress.moment
 lines_moment s lines = lines_along (λ (t : Model). t.progress.moment ≡ s.progress.moment) (λ t line e. e) s lines refl

@@ -2,7 +2,7 @@
 -- link, with its result. A mark says which command an outstanding request is of, and what is expected of its answer.
 use Rattle.std.proofs.Common.{◌≡◌, ◌⊎◌, inl, inr, ℕ, ◌+◌, ◌-◌, ◌<◌, ◌≤◌, ◌||◌, Bool, true, false, List, [], ◌∷◌, ◌++◌, length, drop, Option, Some, None, if◌then◌else◌, nat_eq, nat_lt, refl, sym, ap, ◌∙◌, subst, arith, append-nil}
 use Rattle.std.specs.List.{AllByRecursion}
-use Rattle.std.proofs.lemmas.Bool.{ltb-true, ltb-false}
+use Rattle.std.proofs.lemmas.Bool.{ltb-true, ltb-false, both_ways}
 use Rattle.std.proofs.lemmas.List.{length-drop}
 use Rattle.gc_lines.specs.Frames.{rest_behind}
 use Rattle.gc_catalogue.specs.declared.answer.Reading.{Reading}
@@ -11,7 +11,7 @@ use Rattle.gc_catalogue.specs.declared.asked.Asked.TheVariants.{Table}
 use Rattle.gc_catalogue.specs.declared.call.Call.TheVariants.{NullProc}
 use Rattle.gc_client.specs.Rule
 use Rattle.gc_client.specs.Rule.{hears, heard, restarts}
-use Rattle.gc_texts.specs.Again.{is_named}
+use Rattle.gc_texts.specs.Again.{repeats_after}
 use Rattle.gc_texts.specs.Endings.{Skipped, Missed}
 use Rattle.gc_texts.specs.declared.again.Again.{Again}
 use Rattle.gc_texts.specs.declared.near.Expected.{Expected}
@@ -28,7 +28,7 @@ use Rattle.gc_station.specs.declared.progress.Action.TheVariants as actions
 use Rattle.gc_station.specs.declared.progress.Progress.{Progress}
 use Rattle.gc_station.specs.Attempts.{code_of, listed_after, listed_by}
 use Rattle.gc_station.specs.Marks.{commands_in, end_of, records_of}
-use Rattle.gc_station.specs.Model.{Model, Runs, opening, action_at, waiting_of, place_next, cycles_begun, cycle_length, mark_next, mark_setup, asks_or_null, asks_setup, expected_first, is_chained, others_in, others_after_next, others_after, commands_before, with_progress, with_moment, with_rest, asks, asks_first, line_came, lines_completed, is_heard, after_piece, losing, skips_first, moved, after, after_all}
+use Rattle.gc_station.specs.Model.{Model, Runs, opening, action_at, waiting_of, place_next, cycles_begun, cycle_length, mark_next, mark_setup, asks_or_null, asks_setup, expected_first, is_chained, others_in, others_after_next, others_after, commands_before, with_progress, with_moment, with_rest, asks, asks_first, line_came, lines_completed, is_heard, after_piece, losing, first_unsent_record, moved, after, after_all}
 use Rattle.gc_station.specs.Progressing.{turned, failing, moment_noted, loses_all}
 use Rattle.gc_station.specs.Reasons.{HoldsBefore}
 use Rattle.gc_station.specs.Records.{Record}
@@ -37,14 +37,14 @@ use Rattle.gc_station.specs.Runs.{state_after}
 use Rattle.gc_station.specs.Scopes.{Scope}
 use Rattle.gc_station.proofs.Always.{always_of_progress}
 use Rattle.gc_station.proofs.Chaining.{chained_as_text_says, none_behind}
-use Rattle.gc_station.proofs.Parted.{drop_past}
+use Rattle.gc_station.proofs.Interleaving.{drop_past}
 use Rattle.gc_station.proofs.EachRun.{invariant_after, invariant_opening, invariant_holds}
 use Rattle.gc_station.proofs.Facts.{action_for}
 use Rattle.gc_station.proofs.Invariant.{Invariant}
 use Rattle.gc_station.proofs.Lists.{all_append, all_drop}
 use Rattle.gc_station.proofs.Walk.{lines_along, moved_changed, sending, is_sent}
 use Rattle.gc_station.proofs.Listed.{code_there, named_by, any_listed, any_append, listed_has, has_listed, expected_as, turn_expected, rule_expected}
-use Rattle.gc_station.proofs.Ticking.{not_none, not_both}
+use Rattle.gc_station.proofs.Ticking.{not_none}
 use Rattle.gc_station.proofs.Closings.{needs_of}
 
 module _ (plan : Plan) (commands : List Task) (scope : Scope) where
@@ -82,8 +82,8 @@ module _ (plan : Plan) (commands : List Task) (scope : Scope) where
       let code = code_of scope.reads x.call x.outcome in
       let kept = if nat_eq mark.expected.turn.link 0 then false else b in
       let same = named_by scope.reads mark.expected.again x.call code end (λ q said l e. code_there scope.reads mark.expected x.call x.outcome q said l e)
-      ∙ ap (λ (k : Again). is_named k (code_of_end scope.reads x.call end) end) (rule_so mark all.0) in
-      lists_so utc marks xs (kept || is_named mark.expected.again code end) all.1
+      ∙ ap (λ (k : Again). repeats_after k (code_of_end scope.reads x.call end) end) (rule_so mark all.0) in
+      lists_so utc marks xs (kept || repeats_after mark.expected.again code end) all.1
       ∙ ap (λ y. any_listed scope.reads commands (kept || y) (records_of scope.reads utc marks xs)) same
 
   -- the records of settlements whose marks are `ExpectsAsText` are all `HasItsTurn`
@@ -160,24 +160,24 @@ module _ (plan : Plan) (commands : List Task) (scope : Scope) where
 
   -- the end of a command that isn't sent is named, whatever its code
   unsent_named : (again : Again) (call : Asked) (b : Bool)
-      → is_named again None (if b then Missed else Skipped) ≡ is_named again (code_of_end scope.reads call (if b then Missed else Skipped)) (if b then Missed else Skipped)
+      → repeats_after again None (if b then Missed else Skipped) ≡ repeats_after again (code_of_end scope.reads call (if b then Missed else Skipped)) (if b then Missed else Skipped)
   unsent_named again call true = refl
   unsent_named again call false = refl
 
   -- the record of a command that isn't sent has the turn of its command
-  skips_so : (p : Progress) (m : Moment) (mark : Mark) (left : List Task) → ExpectsAsText (Some mark) → AllByRecursion HasItsTurn (skips_first p m mark left)
+  skips_so : (p : Progress) (m : Moment) (mark : Mark) (left : List Task) → ExpectsAsText (Some mark) → AllByRecursion HasItsTurn (first_unsent_record p m mark left)
   skips_so p m mark [] placed = tt
   skips_so p m mark (task ∷ others) placed = (turn_so mark placed, tt)
 
   -- `listed_after` of a command that isn't sent is `any_listed` of its record
   skips_listed : (b : Bool) (p : Progress) (m : Moment) (left : List Task) → 0 < cycles_begun plan p → 0 < length left
-      → listed_after b (mark_next plan commands p).expected None (if p.missed then Missed else Skipped) ≡ any_listed scope.reads commands b (skips_first p m (mark_next plan commands p) left)
+      → listed_after b (mark_next plan commands p).expected None (if p.missed then Missed else Skipped) ≡ any_listed scope.reads commands b (first_unsent_record p m (mark_next plan commands p) left)
   skips_listed b p m [] many some = absurd (omega (arith, some))
   skips_listed b p m (task ∷ others) many some =
       let mark = mark_next plan commands p in
       let end = if p.missed then Missed else Skipped in
       ap (λ x. (if nat_eq mark.expected.turn.link 0 then false else b) || x)
-      (unsent_named mark.expected.again task.command.call p.missed ∙ ap (λ (k : Again). is_named k (code_of_end scope.reads task.command.call end) end) (rule_so mark (next_placed p many)))
+      (unsent_named mark.expected.again task.command.call p.missed ∙ ap (λ (k : Again). repeats_after k (code_of_end scope.reads task.command.call end) end) (rule_so mark (next_placed p many)))
 
   -- if the next command has its turn, a cycle has begun, and there is such a command
   abbrev IsThere : Action → Model → Type 0
@@ -197,7 +197,7 @@ module _ (plan : Plan) (commands : List Task) (scope : Scope) where
   moved_so actions.Skip s (Told m) some k =
       let left = drop (place_next commands s.progress) commands in
       let p = s.progress in
-      let rs = skips_first p m (mark_next plan commands p) left in
+      let rs = first_unsent_record p m (mark_next plan commands p) left in
       record {
         reads = k.reads;
         marks = k.marks;
@@ -264,8 +264,9 @@ module _ (plan : Plan) (commands : List Task) (scope : Scope) where
       (λ above. others ∙ ap (λ (n : ℕ). others_in (drop n commands)) at, λ none. absurd (omega (arith, at, none, some, within)))
 
   -- `Follows` holds after attempts that are left out
-  follows_past : (p q : Progress) → q.unsent ≡ p.unsent - p.next_others → q.next_others ≡ others_after p.next_others commands p → 0 < p.unsent → 0 < p.next_others
-      → p.unsent ≤ length commands - plan.setup → Follows q
+  follows_past : (p q : Progress) → (unsent : q.unsent ≡ p.unsent - p.next_others) → (others : q.next_others ≡ others_after p.next_others commands p) → (some : 0 < p.unsent)
+      → (more : 0 < p.next_others)
+      → (within : p.unsent ≤ length commands - plan.setup) → Follows q
   follows_past p q unsent others some more within =
       let at : drop (place_next commands p + p.next_others) commands ≡ drop (place_next commands q) commands =
       drop_past commands p.unsent p.next_others (omega (arith, within)) ∙ ap (λ (n : ℕ). drop (length commands - n) commands) (sym unsent) in
@@ -308,7 +309,8 @@ module _ (plan : Plan) (commands : List Task) (scope : Scope) where
       moved_follows (action_at plan s) s (waiting_of s) act (action_for plan s.progress (waiting_of s)) (invariant_holds plan commands scope done).unsent h)
       (λ above. sym (ap others_in (none_behind commands)), λ none. refl) acts runs
 
-  -- the law of further attempts that are sent
+  -- if the next command begins a further attempt and is sent, each command before it is settled, and one of the attempt before
+  -- ended as its rule names (`HasListed`)
   goes_again : (acts : List Act) → Runs plan commands (opening plan scope) acts → action_at plan (state_after plan commands scope acts) ≡ actions.Send
       → IsFurtherAttempt plan commands (state_after plan commands scope acts)
       → (commands_in (state_after plan commands scope acts).marks ≡ 0) × HasListed scope.reads commands (state_after plan commands scope acts).records
@@ -322,7 +324,8 @@ module _ (plan : Plan) (commands : List Task) (scope : Scope) where
     by_may (inl none) = let others = (follows_holds acts runs).0 further.0 in let more = further.1 in absurd (omega (arith, none, others, more))
     by_may (inr may) = (may.0, listed_has scope.reads commands s.records (sym (kept_all acts).listed ∙ may.1))
 
-  -- the law of further attempts that are left out
+  -- if attempts are left out, they are further ones and each command before them is settled; and none of the attempt before
+  -- ended as its rule names, or the cycle is missed, or the next command is chained
   passes_over : (acts : List Act) → Runs plan commands (opening plan scope) acts → action_at plan (state_after plan commands scope acts) ≡ actions.Pass
       → IsFurtherAttempt plan commands (state_after plan commands scope acts) × (commands_in (state_after plan commands scope acts).marks ≡ 0)
       × ((HasListed scope.reads commands (state_after plan commands scope acts).records → ⊥)
@@ -332,11 +335,11 @@ module _ (plan : Plan) (commands : List Task) (scope : Scope) where
     s : Model
     s = state_after plan commands scope acts
 
-    -- what has to hold where attempts are left out
+    -- the conditions of leaving attempts out hold
     needs : HoldsBefore plan s.progress (waiting_of s) actions.Pass
     needs = needs_of plan (state_after plan commands scope acts) actions.Pass is
 
-    -- what is said of the next command is true
+    -- `Follows` holds after these acts
     follows : Follows s.progress
     follows = follows_holds acts runs
 
@@ -361,7 +364,7 @@ module _ (plan : Plan) (commands : List Task) (scope : Scope) where
     -- why the attempt is left out
     by_why : ((s.listed ≡ false) ⊎ (s.progress.next_is_chained ≡ true))
         → (HasListed scope.reads commands s.records → ⊥) ⊎ ((s.progress.missed ≡ true) ⊎ (is_chained (drop (place_next commands s.progress) commands) ≡ true))
-    by_why (inl none) = inl (λ h. not_both s.listed ((kept_all acts).listed ∙ has_listed scope.reads commands s.records false h) none)
+    by_why (inl none) = inl (λ h. both_ways s.listed none ((kept_all acts).listed ∙ has_listed scope.reads commands s.records false h))
     by_why (inr bound) =
         inr (by_missed s.progress.missed (is_chained (drop (place_next commands s.progress) commands)) refl (sym (chained_as_text_says plan commands scope acts runs above) ∙ bound))
 

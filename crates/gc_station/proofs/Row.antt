@@ -3,6 +3,7 @@
 -- the setup.
 use Rattle.std.proofs.Common.{◌≡◌, ℕ, ◌-◌, ◌<◌, Bool, true, false, List, [], ◌∷◌, ◌++◌, length, drop, map, Some, None, refl, sym, ap, ◌∙◌, subst, arith, append_assoc, append-nil}
 use Rattle.std.proofs.lemmas.List.{length-drop, map-append}
+use Rattle.std.proofs.lemmas.Bool.{both_ways}
 use Rattle.gc_catalogue.specs.declared.asked.Asked.TheVariants.{Table}
 use Rattle.gc_catalogue.specs.declared.call.Call.TheVariants.{NullProc}
 use Rattle.gc_client.specs.Rule.{heard, hears, lost, pending_of}
@@ -19,13 +20,15 @@ use Rattle.gc_station.specs.declared.progress.Action.TheVariants as action
 use Rattle.gc_station.specs.declared.progress.Progress.{Progress}
 use Rattle.gc_station.specs.declared.progress.Until.{Until}
 use Rattle.gc_station.specs.Deciding.{later}
-use Rattle.gc_station.specs.EachOnce.{Request, of_record, of_cycles, cycle_with, of_text, in_text}
+use Rattle.gc_station.specs.Lists.{with_unless}
+use Rattle.gc_station.specs.EachOnce.{Request, of_record, of_cycles, of_text, in_text}
 use Rattle.gc_station.specs.Marks.{commands_in}
 use Rattle.gc_station.specs.Progressing.{moment_noted, turned, loses_all}
 use Rattle.gc_station.specs.Reasons.{HoldsBefore}
 use Rattle.gc_station.specs.Runs.{state_after}
 use Rattle.gc_station.specs.Scopes.{Scope}
-use Rattle.gc_station.specs.Model.{Model, opening, action_at, waiting_of, cycles_begun, place_next, mark_next, Performs, Puts, ReadsClock, IsOpening, Runs, is_heard, asks_first, asks_null, after_piece, line_came, losing, moved, piece_at, with_progress, with_moment, null_text, text_or_null, first_text, request_text}
+use Rattle.gc_station.specs.ActKinds.{Puts, ReadsClock, IsOpening}
+use Rattle.gc_station.specs.Model.{Model, opening, action_at, waiting_of, cycles_begun, place_next, mark_next, Performs, Runs, is_heard, asks_first, asks_null, after_piece, line_came, losing, moved, piece_at, with_progress, with_moment, null_text, text_or_null, first_text, request_text}
 use Rattle.gc_station.proofs.Always.{always}
 use Rattle.gc_station.proofs.Each.{row, row_moment, row_settles, more_waiting, marked_none, waiting_marked, cycles_append}
 use Rattle.gc_station.proofs.EachRun.{invariant_holds}
@@ -33,7 +36,7 @@ use Rattle.gc_station.proofs.Facts.{action_for}
 use Rattle.gc_station.proofs.Invariant.{Invariant}
 use Rattle.gc_station.proofs.Midway.{client_behind}
 use Rattle.gc_station.proofs.Walk.{came_along, closed_along, moved_changed, walk}
-use Rattle.gc_station.proofs.Ticking.{not_both, not_none}
+use Rattle.gc_station.proofs.Ticking.{not_none}
 
 -- the row of a model
 abbrev pub row_of : Model → List Request
@@ -158,7 +161,7 @@ module _ (plan : Plan) (commands : List Task) where
       )
   last_moved (action.Close why) s act fine is o h =
       walk plan commands (λ a (u : Model). LastIsOfCycle u) (action.Close why) (with_progress turned s) act o
-      (λ e. absurd (not_both _ e (closed_along (λ (q : Progress). q.chain_unbroken ≡ false) plan (waiting_of s) why (turned s.progress) refl refl)))
+      (λ e. absurd (both_ways _ (closed_along (λ (q : Progress). q.chain_unbroken ≡ false) plan (waiting_of s) why (turned s.progress) refl refl) e))
   last_moved (action.Stop why) s act fine is o h = absurd o
 
   -- `LastIsOfCycle` holds after every run
@@ -187,7 +190,7 @@ last_of_cycle plan commands scope acts runs none whole xs x is =
 
 -- of requests, the last of which is of a cycle, those that are of a cycle have it last
 cycles_last : (xs : List Request) (x : Request) → 0 < x.cycle → of_cycles (xs ++ x ∷ []) ≡ of_cycles xs ++ x ∷ []
-cycles_last xs x many = cycles_append xs (x ∷ []) ∙ ap (λ b. of_cycles xs ++ cycle_with b x []) (not_none x.cycle many)
+cycles_last xs x many = cycles_append xs (x ∷ []) ∙ ap (λ b. of_cycles xs ++ with_unless b x []) (not_none x.cycle many)
 
 -- of requests, the last of which is of a cycle, those that are of a cycle have it last, as the text has them
 pub listed_last : (commands : List Task) (xs : List Request) (x : Request) → 0 < x.cycle → of_text commands (xs ++ x ∷ []) ≡ of_text commands xs ++ in_text commands x ∷ []

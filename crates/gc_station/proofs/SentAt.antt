@@ -4,7 +4,8 @@
 use Rattle.std.proofs.Common.{◌≡◌, ◌⊎◌, inl, inr, ℕ, zero, suc, ◌+◌, Bool, true, false, List, [], ◌∷◌, ◌++◌, length, drop, Some, None, refl, sym, ◌∙◌, ap, subst, arith}
 use Rattle.std.specs.Prelude.{slice_get}
 use Rattle.std.proofs.lemmas.List.{length-append}
-use Rattle.gc_texts.proofs.Cutting.{some_injective}
+use Rattle.std.proofs.lemmas.Option.{none-some, same_Some}
+use Rattle.std.proofs.lemmas.Bool.{cond_both}
 use Rattle.gc_texts.specs.declared.tasks.Task.{Task}
 use Rattle.gc_station.specs.declared.mark.Mark.{Mark}
 use Rattle.gc_station.specs.declared.plan.Plan.{Plan}
@@ -13,21 +14,16 @@ use Rattle.gc_station.specs.declared.progress.Action.TheVariants.{Ask, Send, Flu
 use Rattle.gc_links.specs.Acts.{Act, Put, Cut, Gave}
 use Rattle.gc_station.specs.Deciding.{has_begun}
 use Rattle.gc_station.specs.Links.{RecordsStay}
-use Rattle.gc_station.specs.Parts.{Part, nothing, joined, asking_first, putting, doing, beginning, acting, ends_part, in_front, parts_of, asking_or_null}
+use Rattle.gc_station.specs.Parts.{Part, nothing, joined, first_request_part, put_part, client_part, sync_part, part_of_act, ends_part, in_front, parts_of, request_or_null_part}
 use Rattle.gc_station.specs.Progressing.{turned, loses_all}
 use Rattle.gc_station.specs.Runs.{state_after}
 use Rattle.gc_station.proofs.Outs.{SendsMarked}
 use Rattle.gc_station.specs.Model.{Model, opening, action_at, place_next, mark_next, with_progress, moved, after, after_all, mark_setup}
-use Rattle.gc_station.proofs.Facts.{either}
 use Rattle.gc_station.proofs.Going.{after_all-append}
 use Rattle.gc_station.proofs.Growing.{losing_records, moved_grew}
 use Rattle.gc_station.proofs.Records.{Grew, grew_none, grew_then}
 
 -- Lists.
-
--- `None` isn't `Some`
-pub none_is_not : {A : Type 0} (a : A) → None ≡ Some a → ⊥
-none_is_not a e = cc
 
 -- what is at a place of two lists in a row is in the first list, or at a place of the second
 pub get_split : {A : Type 0} (xs ys : List A) (n : ℕ) (x : A) → slice_get (xs ++ ys) n ≡ Some x → (slice_get xs n ≡ Some x) ⊎ ((k : ℕ) × (n ≡ length xs + k) × (slice_get ys k ≡ Some x))
@@ -62,21 +58,21 @@ records_stay plan commands scope before rest =
 -- Which act sends the request of a command.
 
 -- a mark in the part of the first of some commands is that command's, at place 0
-pub put_mark : (now : ℕ) (its : Mark) (left : List Task) (n : ℕ) (mark : Mark) → slice_get (asking_first now its left).marks n ≡ Some (Some mark) → (n ≡ 0) × (mark ≡ its)
-put_mark now its [] n mark e = absurd (none_is_not (Some mark) e)
-put_mark now its (task ∷ others) zero mark e = (refl, sym (some_injective its mark (some_injective (Some its) (Some mark) e)))
-put_mark now its (task ∷ others) (suc n) mark e = absurd (none_is_not (Some mark) e)
+pub put_mark : (now : ℕ) (its : Mark) (left : List Task) (n : ℕ) (mark : Mark) → slice_get (first_request_part now its left).marks n ≡ Some (Some mark) → (n ≡ 0) × (mark ≡ its)
+put_mark now its [] n mark e = absurd (none-some (Some mark) e)
+put_mark now its (task ∷ others) zero mark e = (refl, sym (same_Some its mark (same_Some (Some its) (Some mark) e)))
+put_mark now its (task ∷ others) (suc n) mark e = absurd (none-some (Some mark) e)
 
 -- a null procedure has no mark
 pub null_mark : (n : ℕ) (mark : Mark) → slice_get (None ∷ []) n ≡ Some (Some mark) → ⊥
 null_mark zero mark e = cc
-null_mark (suc n) mark e = none_is_not (Some mark) e
+null_mark (suc n) mark e = none-some (Some mark) e
 
 -- a mark in the part of the first of some commands of the setup is that command's, at place 0
-pub setup_mark : (plan : Plan) (now : ℕ) (its : Mark) (left : List Task) (n : ℕ) (mark : Mark) → slice_get (asking_or_null plan now its left).marks n ≡ Some (Some mark) → (n ≡ 0) × (mark ≡ its)
+pub setup_mark : (plan : Plan) (now : ℕ) (its : Mark) (left : List Task) (n : ℕ) (mark : Mark) → slice_get (request_or_null_part plan now its left).marks n ≡ Some (Some mark) → (n ≡ 0) × (mark ≡ its)
 setup_mark plan now its [] n mark e = absurd (null_mark n mark e)
-setup_mark plan now its (task ∷ others) zero mark e = (refl, sym (some_injective its mark (some_injective (Some its) (Some mark) e)))
-setup_mark plan now its (task ∷ others) (suc n) mark e = absurd (none_is_not (Some mark) e)
+setup_mark plan now its (task ∷ others) zero mark e = (refl, sym (same_Some its mark (same_Some (Some its) (Some mark) e)))
+setup_mark plan now its (task ∷ others) (suc n) mark e = absurd (none-some (Some mark) e)
 
 -- this action sends the command with this mark, as the only request of its part
 abbrev pub IsSend : Plan → List Task → Model → Action → ℕ → Mark → Type 0
@@ -84,35 +80,35 @@ IsSend plan commands s o n mark = (n ≡ 0) × SendsMarked plan commands s o mar
 
 -- a mark in the part of bytes that are put is of a command that the action sends
 pub putting_mark : (plan : Plan) (commands : List Task) (s : Model) (o : Action) (n : ℕ) (mark : Mark)
-    → slice_get (putting plan commands s o).marks n ≡ Some (Some mark) → IsSend plan commands s o n mark
+    → slice_get (put_part plan commands s o).marks n ≡ Some (Some mark) → IsSend plan commands s o n mark
 putting_mark plan commands s Prepare n mark e =
     let h = setup_mark plan s.progress.moment.elapsed (mark_setup commands s.progress) (drop s.progress.prepared commands) n mark e in (h.0, inr (refl, h.1))
 putting_mark plan commands s Send n mark e =
     let h = put_mark s.progress.moment.elapsed (mark_next plan commands s.progress) (drop (place_next commands s.progress) commands) n mark e in (h.0, inl (refl, h.1))
 putting_mark plan commands s Flush n mark e = absurd (null_mark n mark e)
-putting_mark plan commands s o n mark e = absurd (none_is_not (Some mark) e)
+putting_mark plan commands s o n mark e = absurd (none-some (Some mark) e)
 
 -- a mark in the part of an act is of a command that is sent, once the station has synchronized
 pub doing_mark : (plan : Plan) (commands : List Task) (s : Model) (o : Action) (act : Act) (n : ℕ) (mark : Mark)
-    → slice_get (doing plan commands s o act).marks n ≡ Some (Some mark) → IsSend plan commands s o n mark
+    → slice_get (client_part plan commands s o act).marks n ≡ Some (Some mark) → IsSend plan commands s o n mark
 doing_mark plan commands s o (Put bytes) n mark e = putting_mark plan commands s o n mark e
 doing_mark plan commands s o (Cut bytes count) n mark e = putting_mark plan commands s o n mark e
-doing_mark plan commands s o act n mark e = absurd (none_is_not (Some mark) e)
+doing_mark plan commands s o act n mark e = absurd (none-some (Some mark) e)
 
 -- while the station synchronizes no request is a command's
-pub beginning_mark : (s : Model) (o : Action) (act : Act) (n : ℕ) (mark : Mark) → slice_get (beginning s o act).marks n ≡ Some (Some mark) → ⊥
-beginning_mark s Ask (Put bytes) n mark e = none_is_not (Some mark) e
-beginning_mark s Ask (Cut bytes count) n mark e = none_is_not (Some mark) e
-beginning_mark s Ask act n mark e = none_is_not (Some mark) e
-beginning_mark s (Read until) (Gave piece m) n mark e = none_is_not (Some mark) e
-beginning_mark s (Read until) act n mark e = none_is_not (Some mark) e
-beginning_mark s o act n mark e = none_is_not (Some mark) e
+pub beginning_mark : (s : Model) (o : Action) (act : Act) (n : ℕ) (mark : Mark) → slice_get (sync_part s o act).marks n ≡ Some (Some mark) → ⊥
+beginning_mark s Ask (Put bytes) n mark e = none-some (Some mark) e
+beginning_mark s Ask (Cut bytes count) n mark e = none-some (Some mark) e
+beginning_mark s Ask act n mark e = none-some (Some mark) e
+beginning_mark s (Read until) (Gave piece m) n mark e = none-some (Some mark) e
+beginning_mark s (Read until) act n mark e = none-some (Some mark) e
+beginning_mark s o act n mark e = none-some (Some mark) e
 
 -- a mark in the part of an act is of a command that is sent
 pub acting_mark : (plan : Plan) (commands : List Task) (s : Model) (o : Action) (act : Act) (n : ℕ) (mark : Mark)
-    → slice_get (acting plan commands s o act).marks n ≡ Some (Some mark) → IsSend plan commands s o n mark
+    → slice_get (part_of_act plan commands s o act).marks n ≡ Some (Some mark) → IsSend plan commands s o n mark
 acting_mark plan commands s o act n mark =
-    either (λ (p : Part). slice_get p.marks n ≡ Some (Some mark) → IsSend plan commands s o n mark) (doing plan commands s o act) (beginning s o act) (has_begun s.progress)
+    cond_both (has_begun s.progress) (client_part plan commands s o act) (sync_part s o act) (λ (p : Part). slice_get p.marks n ≡ Some (Some mark) → IsSend plan commands s o n mark)
     (λ begun e. doing_mark plan commands s o act n mark e) (λ begins e. absurd (beginning_mark s o act n mark e))
 
 -- among these acts the command with this mark is sent, as request n of part i, both counted from 0: after the acts `before`, part
@@ -130,12 +126,12 @@ pub record SentAt (plan : Plan) (commands : List Task) (s : Model) (acts : List 
 
 -- a part that is joined to the first of these is the front of the first
 pub joined_at : (p : Part) (ps : List Part) (q : Part) → slice_get ps 0 ≡ Some q → slice_get (in_front p false ps) 0 ≡ Some (joined p q)
-joined_at p [] q e = absurd (none_is_not q e)
-joined_at p (x ∷ ps) q e = ap (λ y. Some (joined p y)) (some_injective x q e)
+joined_at p [] q e = absurd (none-some q e)
+joined_at p (x ∷ ps) q e = ap (λ y. Some (joined p y)) (same_Some x q e)
 
 -- the parts after the first stay at their places where a part is joined to the first
 pub joined_on : (p : Part) (ps : List Part) (i : ℕ) (q : Part) → slice_get ps (suc i) ≡ Some q → slice_get (in_front p false ps) (suc i) ≡ Some q
-joined_on p [] i q e = absurd (none_is_not q e)
+joined_on p [] i q e = absurd (none-some q e)
 joined_on p (x ∷ ps) i q e = e
 
 -- there are as many parts if a part is joined to the first
@@ -146,7 +142,7 @@ joined_length p (x ∷ ps) i e = e
 module _ (plan : Plan) (commands : List Task) where
   -- if the part of the first act has the mark of a command, the first act sends the command
   pub sent_here : (s : Model) (act : Act) (acts : List Act) (n : ℕ) (mark : Mark)
-      → slice_get (acting plan commands s (action_at plan s) act).marks n ≡ Some (Some mark) → SentAt plan commands s (act ∷ acts) 0 n mark
+      → slice_get (part_of_act plan commands s (action_at plan s) act).marks n ≡ Some (Some mark) → SentAt plan commands s (act ∷ acts) 0 n mark
   sent_here s act acts n mark e =
       let h = acting_mark plan commands s (action_at plan s) act n mark e in
       record { before = []; act = act; rest = acts; order = refl; its = h.1; first = nothing; of_parts = refl; last = refl; count = sym h.0 }
@@ -155,7 +151,7 @@ module _ (plan : Plan) (commands : List Task) where
   pub sent_cut : (s : Model) (act : Act) (acts : List Act) (i n : ℕ) (mark : Mark) → ends_part plan commands s act ≡ true
       → SentAt plan commands (after plan commands s act) acts i n mark → SentAt plan commands s (act ∷ acts) (suc i) n mark
   sent_cut s act acts i n mark is h =
-      let p = acting plan commands s (action_at plan s) act in
+      let p = part_of_act plan commands s (action_at plan s) act in
       let ps = parts_of plan commands (after plan commands s act) h.before in
       record {
         before = act ∷ h.before;
@@ -170,10 +166,10 @@ module _ (plan : Plan) (commands : List Task) where
       }
 
   -- an act after the first one sends the command in the first part: so the command is after the requests of the first act
-  pub sent_on : (s : Model) (act : Act) (acts : List Act) (n k : ℕ) (mark : Mark) → ends_part plan commands s act ≡ false → n ≡ length (acting plan commands s (action_at plan s) act).marks + k
+  pub sent_on : (s : Model) (act : Act) (acts : List Act) (n k : ℕ) (mark : Mark) → ends_part plan commands s act ≡ false → n ≡ length (part_of_act plan commands s (action_at plan s) act).marks + k
       → SentAt plan commands (after plan commands s act) acts 0 k mark → SentAt plan commands s (act ∷ acts) 0 n mark
   sent_on s act acts n k mark is at h =
-      let p = acting plan commands s (action_at plan s) act in
+      let p = part_of_act plan commands s (action_at plan s) act in
       let ps = parts_of plan commands (after plan commands s act) h.before in
       let size : length (p.marks ++ h.first.marks) ≡ length p.marks + length h.first.marks = length-append p.marks h.first.marks in
       let count : length h.first.marks ≡ k = h.count in
@@ -193,7 +189,7 @@ module _ (plan : Plan) (commands : List Task) where
   pub sent_later : (s : Model) (act : Act) (acts : List Act) (i n : ℕ) (mark : Mark) → ends_part plan commands s act ≡ false
       → SentAt plan commands (after plan commands s act) acts (suc i) n mark → SentAt plan commands s (act ∷ acts) (suc i) n mark
   sent_later s act acts i n mark is h =
-      let p = acting plan commands s (action_at plan s) act in
+      let p = part_of_act plan commands s (action_at plan s) act in
       let ps = parts_of plan commands (after plan commands s act) h.before in
       record {
         before = act ∷ h.before;
@@ -210,16 +206,16 @@ module _ (plan : Plan) (commands : List Task) where
   -- a request of a command, with its mark in the parts of acts, was sent among them, whether the first act ends a part (b) or not
   pub sent_by : (s : Model) (act : Act) (acts : List Act) (b : Bool) (ps : List Part) (i n : ℕ) (part : Part) (mark : Mark) → ends_part plan commands s act ≡ b
       → ((j k : ℕ) (p : Part) → slice_get ps j ≡ Some p → slice_get p.marks k ≡ Some (Some mark) → SentAt plan commands (after plan commands s act) acts j k mark)
-      → slice_get (in_front (acting plan commands s (action_at plan s) act) b ps) i ≡ Some part → slice_get part.marks n ≡ Some (Some mark) → SentAt plan commands s (act ∷ acts) i n mark
+      → slice_get (in_front (part_of_act plan commands s (action_at plan s) act) b ps) i ≡ Some part → slice_get part.marks n ≡ Some (Some mark) → SentAt plan commands s (act ∷ acts) i n mark
   sent_by s act acts true ps zero n part mark is again e f =
-      sent_here s act acts n mark (subst (λ (p : Part). slice_get p.marks n ≡ Some (Some mark)) (sym (some_injective (acting plan commands s (action_at plan s) act) part e)) f)
+      sent_here s act acts n mark (subst (λ (p : Part). slice_get p.marks n ≡ Some (Some mark)) (sym (same_Some (part_of_act plan commands s (action_at plan s) act) part e)) f)
   sent_by s act acts true ps (suc i) n part mark is again e f = sent_cut s act acts i n mark is (again i n part e f)
   sent_by s act acts false [] zero n part mark is again e f =
-      sent_here s act acts n mark (subst (λ (p : Part). slice_get p.marks n ≡ Some (Some mark)) (sym (some_injective (acting plan commands s (action_at plan s) act) part e)) f)
-  sent_by s act acts false [] (suc i) n part mark is again e f = absurd (none_is_not part e)
+      sent_here s act acts n mark (subst (λ (p : Part). slice_get p.marks n ≡ Some (Some mark)) (sym (same_Some (part_of_act plan commands s (action_at plan s) act) part e)) f)
+  sent_by s act acts false [] (suc i) n part mark is again e f = absurd (none-some part e)
   sent_by s act acts false (q ∷ ps) zero n part mark is again e f =
-      let p = acting plan commands s (action_at plan s) act in
-      elim (get_split p.marks q.marks n (Some mark) (subst (λ (x : Part). slice_get x.marks n ≡ Some (Some mark)) (sym (some_injective (joined p q) part e)) f)) [
+      let p = part_of_act plan commands s (action_at plan s) act in
+      elim (get_split p.marks q.marks n (Some mark) (subst (λ (x : Part). slice_get x.marks n ≡ Some (Some mark)) (sym (same_Some (joined p q) part e)) f)) [
         | inl l ↦ sent_here s act acts n mark l
         | inr r ↦ sent_on s act acts n r.0 mark is r.1 (again 0 r.0 q refl r.2)
       ]
@@ -228,8 +224,8 @@ module _ (plan : Plan) (commands : List Task) where
   -- a request of a command in a run's parts was sent among the run's acts
   pub sent_at : (s : Model) (acts : List Act) (i n : ℕ) (part : Part) (mark : Mark) → slice_get (parts_of plan commands s acts) i ≡ Some part
       → slice_get part.marks n ≡ Some (Some mark) → SentAt plan commands s acts i n mark
-  sent_at s [] zero n part mark e f = absurd (none_is_not (Some mark) (subst (λ (p : Part). slice_get p.marks n ≡ Some (Some mark)) (sym (some_injective nothing part e)) f))
-  sent_at s [] (suc i) n part mark e f = absurd (none_is_not part e)
+  sent_at s [] zero n part mark e f = absurd (none-some (Some mark) (subst (λ (p : Part). slice_get p.marks n ≡ Some (Some mark)) (sym (same_Some nothing part e)) f))
+  sent_at s [] (suc i) n part mark e f = absurd (none-some part e)
   sent_at s (act ∷ acts) i n part mark e f =
       sent_by s act acts (ends_part plan commands s act) (parts_of plan commands (after plan commands s act) acts) i n part mark refl
       (λ j k p g h. sent_at (after plan commands s act) acts j k p mark g h) e f

@@ -1,6 +1,6 @@
 -- Each command of the setup that was sent has one record, or is outstanding; and its attempts count over the run. The row of a
 -- station has its records and, after them, the outstanding commands. An act leaves the row, or adds the command that is sent or
--- isn't sent.
+-- left out.
 use Rattle.std.proofs.Common.{◌≡◌, ◌⊎◌, inl, inr, ℕ, ◌+◌, ◌-◌, ◌<◌, ◌≤◌, Bool, true, false, if◌then◌else◌, nat_eq, min, List, [], ◌∷◌, ◌++◌, length, drop, map, Option, Some, None, refl, sym, ap, ◌∙◌, subst, arith, append_assoc, append-nil}
 use Rattle.std.proofs.lemmas.List.{length-drop, map-append}
 use Rattle.gc_catalogue.specs.declared.answer.Reading.{Reading}
@@ -22,8 +22,9 @@ use Rattle.gc_station.specs.Reasons.{HoldsBefore}
 use Rattle.gc_station.specs.Records.{Record}
 use Rattle.gc_station.specs.Runs.{state_after}
 use Rattle.gc_station.specs.Scopes.{Scope}
-use Rattle.gc_station.specs.Model.{Model, opening, action_at, waiting_of, cycles_begun, place_next, mark_next, mark_setup, is_heard, asks_first, asks_or_null, after_piece, line_came, losing, moved, piece_at, skips_first, with_progress, with_moment, with_rest, after, after_all}
-use Rattle.gc_station.specs.Setups.{Dispatch, dispatch_of_record, dispatch_of_mark, dispatches_of, setup_with, of_setup, sent_first, sent_as, setup_sent_by, EachSetUpOnce, GoOn, AreInOrder, SetUpsGoOn}
+use Rattle.gc_station.specs.Model.{Model, opening, action_at, waiting_of, cycles_begun, place_next, mark_next, mark_setup, is_heard, asks_first, asks_or_null, after_piece, line_came, losing, moved, piece_at, first_unsent_record, with_progress, with_moment, with_rest, after, after_all}
+use Rattle.gc_station.specs.Lists.{with_if}
+use Rattle.gc_station.specs.Setups.{Dispatch, dispatch_of_record, dispatch_of_mark, dispatches_of, of_setup, sent_first, sent_as, setup_sent_by, EachSetUpOnce, GoOn, AreInOrder, SetUpsGoOn}
 use Rattle.gc_station.proofs.Counts.{ended_progress}
 use Rattle.gc_station.proofs.EachRun.{invariant_all, invariant_opening, invariant_holds, stopped}
 use Rattle.gc_station.proofs.Facts.{action_for}
@@ -90,15 +91,15 @@ first_row mark [] s = sym (append-nil (dispatch_row s))
 first_row mark (task ∷ others) s = row_more s.records s.marks (Some mark)
 
 -- the first of these commands of the setup adds itself to the row if it is sent; a null procedure adds nothing
-null_row : (plan : Plan) (mark : Mark) (left : List Task) (s : Model) → dispatch_row (asks_or_null plan mark left s) ≡ dispatch_row s ++ sent_first mark left
-null_row plan mark [] s = row_more s.records s.marks None
-null_row plan mark (task ∷ others) s = row_more s.records s.marks (Some mark)
+setup_row : (plan : Plan) (mark : Mark) (left : List Task) (s : Model) → dispatch_row (asks_or_null plan mark left s) ≡ dispatch_row s ++ sent_first mark left
+setup_row plan mark [] s = row_more s.records s.marks None
+setup_row plan mark (task ∷ others) s = row_more s.records s.marks (Some mark)
 
 module _ (plan : Plan) (commands : List Task) where
   -- an act that sends the next command of the setup adds it to the row
   pub row_prepared : (s : Model) (act : Act) → dispatch_row (moved plan commands action.Prepare s act) ≡ dispatch_row s ++ sent_as action.Prepare commands s
-  row_prepared s (Cut bytes n) = null_row plan (mark_setup commands s.progress) (drop s.progress.prepared commands) s
-  row_prepared s act = null_row plan (mark_setup commands s.progress) (drop s.progress.prepared commands) s
+  row_prepared s (Cut bytes n) = setup_row plan (mark_setup commands s.progress) (drop s.progress.prepared commands) s
+  row_prepared s act = setup_row plan (mark_setup commands s.progress) (drop s.progress.prepared commands) s
 
   -- an act that sends the next command of a cycle adds it to the row
   row_sent : (s : Model) (act : Act) → dispatch_row (moved plan commands action.Send s act)
@@ -131,13 +132,13 @@ setup_append : (xs ys : List Dispatch) → of_setup (xs ++ ys) ≡ of_setup xs +
 setup_append [] ys = refl
 setup_append (x ∷ xs) ys = by_cycle (nat_eq x.cycle 0) (setup_append xs ys) where
   -- the lemma above, whether the first one is of the setup (`true`) or of a cycle
-  by_cycle : (b : Bool) → of_setup (xs ++ ys) ≡ of_setup xs ++ of_setup ys → setup_with b x (of_setup (xs ++ ys)) ≡ setup_with b x (of_setup xs) ++ of_setup ys
+  by_cycle : (b : Bool) → of_setup (xs ++ ys) ≡ of_setup xs ++ of_setup ys → with_if b x (of_setup (xs ++ ys)) ≡ with_if b x (of_setup xs) ++ of_setup ys
   by_cycle true others = ap (λ zs. x ∷ zs) others
   by_cycle false others = others
 
 -- a command of a cycle isn't one of the setup
 none_one : (x : Dispatch) → 0 < x.cycle → of_setup (x ∷ []) ≡ []
-none_one x many = ap (λ b. setup_with b x []) (not_none x.cycle many)
+none_one x many = ap (λ b. with_if b x []) (not_none x.cycle many)
 
 -- a command of a cycle that is sent isn't one of the setup
 none_sent : (mark : Mark) (left : List Task) → 0 < mark.cycle → of_setup (sent_first mark left) ≡ []
@@ -145,7 +146,7 @@ none_sent mark [] many = refl
 none_sent mark (task ∷ others) many = none_one (dispatch_of_mark mark) many
 
 -- the record of a command of a cycle that isn't sent isn't one of the setup
-none_skipped : (p : Progress) (m : Moment) (mark : Mark) (left : List Task) → 0 < mark.cycle → of_setup (map dispatch_of_record (skips_first p m mark left)) ≡ []
+none_skipped : (p : Progress) (m : Moment) (mark : Mark) (left : List Task) → 0 < mark.cycle → of_setup (map dispatch_of_record (first_unsent_record p m mark left)) ≡ []
 none_skipped p m mark [] many = refl
 none_skipped p m mark (task ∷ others) many = none_one (record { cycle = mark.cycle; place = mark.place; attempt = mark.expected.turn.attempt; sent = None }) many
 
@@ -189,7 +190,7 @@ module _ (plan : Plan) (commands : List Task) where
   setup_moved action.Skip s (Told m) fine is =
       let p = turned s.progress in
       let left = drop (place_next commands p) commands in
-      between_none s.records (skips_first p m (mark_next plan commands p) left) s.marks (none_skipped p m (mark_next plan commands p) left (some_cycle s fine is.2)) ∙ sym
+      between_none s.records (first_unsent_record p m (mark_next plan commands p) left) s.marks (none_skipped p m (mark_next plan commands p) left (some_cycle s fine is.2)) ∙ sym
       (append-nil (of_setup (dispatch_row s)))
   setup_moved action.Skip s act fine is = between_none s.records [] s.marks refl ∙ sym (append-nil (of_setup (dispatch_row s)))
   setup_moved action.ReadClock s act fine is = ap of_setup (row_kept plan commands action.ReadClock (with_progress turned s) act tt) ∙ sym (append-nil (of_setup (dispatch_row s)))
@@ -279,7 +280,7 @@ next_kept x p q (inl same) (inl is) = inl (same.0 ∙ is.0, same.1 ∙ is.1)
 next_kept x p q (inl same) (inr is) = inr (same.0 ∙ is.0, same.1 ∙ is.1)
 next_kept x p q (inr anew) is = restarted_next x p q anew.0 anew.1 is
 
--- whether an action sends a command of the setup
+-- an action sends a command of the setup, or it isn't `Prepare`
 is_prepare_or_not : (o : Action) → (o ≡ action.Prepare) ⊎ (o ≡ action.Prepare → ⊥)
 is_prepare_or_not action.Prepare = inl refl
 is_prepare_or_not action.ReadClock = inr (λ e. cc)

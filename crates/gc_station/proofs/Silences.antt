@@ -17,10 +17,9 @@ use Rattle.gc_station.specs.Quiet.{TellsMoment}
 use Rattle.gc_station.specs.Reasons.{IsAtItsEnd}
 use Rattle.gc_station.specs.Runs.{state_after}
 use Rattle.gc_station.specs.Scopes.{Scope}
-use Rattle.gc_station.specs.Model.{Model, opening, action_at, waiting_of, with_progress, with_moment, lines_completed, is_heard, Performs, moved, Runs}
+use Rattle.gc_station.specs.Model.{Model, opening, action_at, waiting_of, with_progress, with_moment, lines_completed, is_heard, Runs}
 use Rattle.gc_station.proofs.Closings.{closing_shown, needs_of}
-use Rattle.gc_station.proofs.Always.{always_of_progress}
-use Rattle.gc_station.proofs.Connected.{is_in_use, OnLine, on_line}
+use Rattle.gc_station.proofs.Connected.{is_in_use, OnLine, on_line_always}
 use Rattle.gc_station.proofs.Facts.{Awake}
 use Rattle.gc_station.proofs.Walk.{asked_along, came_along}
 
@@ -99,15 +98,9 @@ module _ (plan : Plan) (commands : List Task) where
 
   -- `Fresh` holds after every run
   fresh_holds : (scope : Scope) (acts : List Act) → Runs plan commands (opening plan scope) acts → FreshAt (state_after plan commands scope acts).progress acts
-  fresh_holds scope acts runs = always_of_progress plan commands (opening plan scope) FreshAt step tt acts runs where
-    -- one act of a run preserves `FreshAt`
-    step : (done : List Act) (act : Act) → Runs plan commands (opening plan scope) done
-        → Performs commands (state_after plan commands scope done) (action_at plan (state_after plan commands scope done)) act
-        → FreshAt (state_after plan commands scope done).progress done
-        → FreshAt (moved plan commands (action_at plan (state_after plan commands scope done)) (with_progress turned (state_after plan commands scope done)) act).progress (done ++ act ∷ [])
-    step done act runs o h =
-        let s = state_after plan commands scope done in
-        on_line plan commands FreshAt (λ p acts none. fresh_none p.clock_due p.moment.elapsed p.phase acts none) (action_at plan s) s act done o (fresh_line (action_at plan s) s done)
+  fresh_holds scope acts runs =
+      on_line_always plan commands FreshAt (λ p acts none. fresh_none p.clock_due p.moment.elapsed p.phase acts none) scope
+      (λ done runs held. let s = state_after plan commands scope done in fresh_line (action_at plan s) s done) tt acts runs
 
   -- where requests may be sent, and the moment was read, the last act read it
   pub awake_last : (scope : Scope) (acts : List Act) → Runs plan commands (opening plan scope) acts → Awake (state_after plan commands scope acts).progress

@@ -1,24 +1,16 @@
--- A progress that stays in its cycle, at the same command. The chain's fields of a progress are `next_is_chained`, whether the next
--- command waits for the answer of the one before it, and `chain_unbroken`.
-use Rattle.std.proofs.Common.{◌≡◌, ◌⊎◌, inl, inr, Bool, false, ◌∙◌}
+-- A progress that stays in its cycle, at the same command, and whose cycle is due as before.
+use Rattle.std.proofs.Common.{◌≡◌, ◌⊎◌, inl, inr, false}
 use Rattle.gc_station.specs.declared.progress.Progress.{Progress}
+use Rattle.gc_station.proofs.ChainSteps.{Still, still, broken}
 
--- q is in the same cycle as p, at the same command, with its chain as it was or broken
+-- q is in the same cycle as p, at the same command, with its chain as it was or broken (`Still`), and its cycle is due as before
 pub record Stays (p q : Progress) : Type 0 where
-  pub left : q.left ≡ p.left
-  pub unsent : q.unsent ≡ p.unsent
-  pub missed : q.missed ≡ p.missed
+  pub still : Still p q
   pub due : q.due ≡ p.due
-  pub next_is_chained : q.next_is_chained ≡ p.next_is_chained
-  pub chain_unbroken : (q.chain_unbroken ≡ p.chain_unbroken) ⊎ (q.chain_unbroken ≡ false)
 
--- `Stays`, from its parts
-pub stays : (p q : Progress) → q.left ≡ p.left → q.unsent ≡ p.unsent → q.missed ≡ p.missed → q.due ≡ p.due → q.next_is_chained ≡ p.next_is_chained
-    → (q.chain_unbroken ≡ p.chain_unbroken) ⊎ (q.chain_unbroken ≡ false) → Stays p q
-stays p q left unsent missed due next_is_chained chain_unbroken = record
-    { left = left; unsent = unsent; missed = missed; due = due; next_is_chained = next_is_chained; chain_unbroken = chain_unbroken }
-
--- a chain that was broken still is, if it is as it was or broken
-pub broken : (a b : Bool) → (b ≡ a) ⊎ (b ≡ false) → a ≡ false → b ≡ false
-broken a b (inl same) e = same ∙ e
-broken a b (inr none) e = none
+-- `Stays` holds if these fields are the same, but for a chain that may be broken in q
+pub stays : (p q : Progress) → (left : q.left ≡ p.left) → (unsent : q.unsent ≡ p.unsent) → (missed : q.missed ≡ p.missed) → (due : q.due ≡ p.due)
+    → (next_is_chained : q.next_is_chained ≡ p.next_is_chained)
+    → (chain_unbroken : (q.chain_unbroken ≡ p.chain_unbroken) ⊎ (q.chain_unbroken ≡ false)) → Stays p q
+stays p q left unsent missed due next_is_chained (inl same) = record { still = still p q left unsent missed next_is_chained same; due = due }
+stays p q left unsent missed due next_is_chained (inr none) = record { still = (broken p q left unsent missed next_is_chained none).0; due = due }

@@ -1,7 +1,7 @@
 -- How a run ends that is stale, and one whose end was asked for. `TracksFresh` says of an act which records it recorded, and what
 -- became of the moment from which on the run may become stale. An act is one call on the link, with its result.
 use Rattle.std.proofs.Common.{◌≡◌, inl, inr, ◌⊎◌, ℕ, ◌-◌, ◌<◌, ◌≤◌, ◌||◌, min, Bool, true, false, List, [], ◌∷◌, ◌++◌, drop, map, Option, Some, None, nat_lt, nat_le, nat_eq, refl, sym, ap, ◌∙◌, subst, append-nil, append_assoc, arith}
-use Rattle.std.proofs.lemmas.Bool.{ltb-true, leb-true}
+use Rattle.std.proofs.lemmas.Bool.{ltb-true, leb-true, and_parts, cond-true, cond-false}
 use Rattle.std.proofs.lemmas.Bool.Decides.{nat_tests}
 use Rattle.std.specs.List.{AllByRecursion}
 use Rattle.gc_catalogue.specs.declared.answer.Reading.{Reading}
@@ -25,7 +25,7 @@ use Rattle.gc_station.specs.declared.progress.Waiting.{Waiting}
 use Rattle.gc_station.specs.Closing.{Shows, EndsAfter, Ends}
 use Rattle.gc_station.specs.Deciding.{is_stale, action_of, action_in, action_on}
 use Rattle.gc_station.specs.Marks.{records_of, is_well, fresh_after}
-use Rattle.gc_station.specs.Model.{Model, opening, action_at, waiting_of, place_next, mark_next, skips, skips_first, with_progress, with_moment, with_rest, is_heard, line_came, lines_completed, after_piece, piece_at, Performs, moved, losing, after, after_all, Runs}
+use Rattle.gc_station.specs.Model.{Model, opening, action_at, waiting_of, place_next, mark_next, unsent_record, first_unsent_record, with_progress, with_moment, with_rest, is_heard, line_came, lines_completed, after_piece, piece_at, Performs, moved, losing, after, after_all, Runs}
 use Rattle.gc_station.specs.Progressing.{turned, moment_noted, quieted, time_passed, loses_all}
 use Rattle.gc_station.specs.Records.{Record}
 use Rattle.gc_station.specs.Runs.{state_after}
@@ -35,12 +35,10 @@ use Rattle.gc_station.specs.Quiet.{IsListening}
 use Rattle.gc_station.proofs.Always.{always, always_of_progress}
 use Rattle.gc_station.proofs.Closings.{end_of, Decided, after_decided, runs_split, stopped_for, needs_of, done_sent}
 use Rattle.gc_station.proofs.Counts.{ended_progress}
-use Rattle.gc_station.proofs.Facts.{both_true}
 use Rattle.gc_station.proofs.Going.{after_all-append, runs_behind}
 use Rattle.gc_station.proofs.Lists.{all_append}
 use Rattle.gc_station.proofs.Records.{fresh-append}
 use Rattle.gc_station.proofs.Silences.{end_here, not_closing}
-use Rattle.gc_station.proofs.Ticking.{picks, picks_other}
 use Rattle.gc_station.proofs.Turns.{over_stops}
 use Rattle.gc_station.proofs.Unbroken.{unbroken_holds, resting_none}
 use Rattle.gc_station.proofs.Walk.{asked_along, came_along, quieted_along, closed_along, walk}
@@ -51,14 +49,14 @@ use Rattle.gc_station.proofs.Walk.{asked_along, came_along, quieted_along, close
 abbrev HasWell : List Record → Type 0
 HasWell rs = (front : List Record) × (r : Record) × (later : List Record) × (rs ≡ front ++ r ∷ later) × (is_well r.end ≡ true)
 
--- records of which none is of a command that was answered well leave the moment
+-- records of which none is of a command that was answered well leave `fresh`, the moment at which one was answered well last
 unwell_same : (now fresh : ℕ) (rs : List Record) → AllByRecursion IsNotWell rs → fresh_after now fresh rs ≡ fresh
 unwell_same now fresh [] all = refl
 unwell_same now fresh (r ∷ rs) all =
-    ap (λ x. fresh_after now x rs) (picks_other (is_well r.end) now fresh all.0) ∙ unwell_same now fresh rs all.1
+    ap (λ x. fresh_after now x rs) (cond-false (is_well r.end) now fresh all.0) ∙ unwell_same now fresh rs all.1
 
--- of records that are recorded at one moment none is of a command that was answered well, and they leave the moment that was;
--- or one is
+-- of records that are recorded at the moment `now`, none is of a command that was answered well, and `fresh` stays; or one is, and
+-- `fresh` becomes `now`
 fresh_cases : (now fresh : ℕ) (rs : List Record) → (AllByRecursion IsNotWell rs × (fresh_after now fresh rs ≡ fresh)) ⊎ (HasWell rs × (fresh_after now fresh rs ≡ now))
 fresh_cases now fresh [] = inl (tt, refl)
 fresh_cases now fresh (r ∷ rs) = by_first (fresh_cases now now rs) (fresh_cases now fresh rs) (is_well r.end) refl where
@@ -70,22 +68,22 @@ fresh_cases now fresh (r ∷ rs) = by_first (fresh_cases now now rs) (fresh_case
     -- what is left of the records after one that is of such a command
     on_well : ((AllByRecursion IsNotWell rs × (fresh_after now now rs ≡ now)) ⊎ (HasWell rs × (fresh_after now now rs ≡ now)))
         → (AllByRecursion IsNotWell (r ∷ rs) × (fresh_after now fresh (r ∷ rs) ≡ fresh)) ⊎ (HasWell (r ∷ rs) × (fresh_after now fresh (r ∷ rs) ≡ now))
-    on_well (inl none) = inr (([], r, rs, refl, well), ap (λ x. fresh_after now x rs) (picks (is_well r.end) now fresh well) ∙ none.1)
-    on_well (inr some) = inr (([], r, rs, refl, well), ap (λ x. fresh_after now x rs) (picks (is_well r.end) now fresh well) ∙ some.1)
+    on_well (inl none) = inr (([], r, rs, refl, well), ap (λ x. fresh_after now x rs) (cond-true (is_well r.end) now fresh well) ∙ none.1)
+    on_well (inr some) = inr (([], r, rs, refl, well), ap (λ x. fresh_after now x rs) (cond-true (is_well r.end) now fresh well) ∙ some.1)
   by_first here there false unwell = on_unwell there where
     -- what is left of the records after one that isn't of such a command
     on_unwell : ((AllByRecursion IsNotWell rs × (fresh_after now fresh rs ≡ fresh)) ⊎ (HasWell rs × (fresh_after now fresh rs ≡ now)))
         → (AllByRecursion IsNotWell (r ∷ rs) × (fresh_after now fresh (r ∷ rs) ≡ fresh)) ⊎ (HasWell (r ∷ rs) × (fresh_after now fresh (r ∷ rs) ≡ now))
-    on_unwell (inl none) = inl ((unwell, none.0), ap (λ x. fresh_after now x rs) (picks_other (is_well r.end) now fresh unwell) ∙ none.1)
+    on_unwell (inl none) = inl ((unwell, none.0), ap (λ x. fresh_after now x rs) (cond-false (is_well r.end) now fresh unwell) ∙ none.1)
     on_unwell (inr ((front, x, later, order, well), e)) =
-        inr ((r ∷ front, x, later, ap (λ xs. r ∷ xs) order, well), ap (λ x. fresh_after now x rs) (picks_other (is_well r.end) now fresh unwell) ∙ e)
+        inr ((r ∷ front, x, later, ap (λ xs. r ∷ xs) order, well), ap (λ x. fresh_after now x rs) (cond-false (is_well r.end) now fresh unwell) ∙ e)
 
 -- the record of the first of these commands, if it isn't sent, isn't of one that was answered well
-skips_unwell : (p : Progress) (m : Moment) (mark : Mark) (list : List Task) → AllByRecursion IsNotWell (skips_first p m mark list)
+skips_unwell : (p : Progress) (m : Moment) (mark : Mark) (list : List Task) → AllByRecursion IsNotWell (first_unsent_record p m mark list)
 skips_unwell p m mark [] = tt
 skips_unwell p m mark (task ∷ others) = by_test p.missed where
   -- the lemma above, by whether the cycle is missed
-  by_test : (b : Bool) → AllByRecursion IsNotWell (skips_first (record p { missed = b }) m mark (task ∷ others))
+  by_test : (b : Bool) → AllByRecursion IsNotWell (first_unsent_record (record p { missed = b }) m mark (task ∷ others))
   by_test true = (refl, tt)
   by_test false = (refl, tt)
 
@@ -152,7 +150,7 @@ gave_fresh plan until s bytes m =
 moved_fresh : (plan : Plan) (commands : List Task) (next : Action) (s : Model) (act : Act) → Performs commands s next act → TracksFresh s act (moved plan commands next (with_progress turned s) act)
 moved_fresh plan commands actions.Skip s act o =
     walk plan commands (TracksFresh s) actions.Skip (with_progress turned s) act o (
-      λ m. inl (skips plan commands s.progress (Told m), refl, skips_unwell (turned s.progress) m (mark_next plan commands s.progress) (drop (place_next commands s.progress) commands), refl),
+      λ m. inl (unsent_record plan commands s.progress (Told m), refl, skips_unwell (turned s.progress) m (mark_next plan commands s.progress) (drop (place_next commands s.progress) commands), refl),
       λ n. inl ([], refl, tt, refl),
     )
 moved_fresh plan commands (actions.Read until) s act o =
@@ -270,13 +268,13 @@ since_holds plan commands scope acts runs =
     (after_fresh plan commands (state_after plan commands scope done) act o)))
     (record { before = []; behind = []; order = refl; from = 0; start = inl (refl, refl); records = []; written = refl; unwell = tt; fresh = refl }) acts runs
 
--- if a connection is closed, or a run ends, because it is stale, it is
+-- a connection is closed, and a run ends without one, for `Stale` only if the run is stale (`IsStaleAt`)
 pub closes_stale : ClosesStale
 closes_stale plan commands scope acts runs is =
     let s = state_after plan commands scope acts in
     let u = since_holds plan commands scope acts runs in
     let stale = end_here plan s cause.Stale is (not_closing plan commands scope acts cause.Stale runs (λ act shows. shows)) in
-    let it = both_true (nat_lt 0 plan.stale) (nat_le plan.stale (s.progress.moment.elapsed - s.fresh)) stale in
+    let it = and_parts (nat_lt 0 plan.stale) (nat_le plan.stale (s.progress.moment.elapsed - s.fresh)) stale in
     record {
       since = u;
       wanted = ltb-true 0 plan.stale it.0;
@@ -367,7 +365,7 @@ stale_next plan p w at is none some stale = ap (λ x. action_in x plan p w) is �
 
   -- the action if the end isn't decided yet
   on : action_on plan p w ≡ actions.Close cause.Stale
-  on = picks_other (nat_eq p.turns 0) _ _ turns ∙ picks (is_stale plan p w) _ _ stale
+  on = cond-false (nat_eq p.turns 0) _ _ turns ∙ cond-true (is_stale plan p w) _ _ stale
 
   -- the lemma above, in each phase
   by_phase : (at : Phase) → end_of at ≡ None → action_in at plan p w ≡ actions.Close cause.Stale
@@ -465,7 +463,7 @@ goes_on_in_its_chain plan commands scope acts runs asked =
       λ is. let needs = needs_of plan s actions.Prepare is in let never : true ≡ false = sym stops ∙ needs.5 in cc,
     )
 
--- if a connection is closed, or a run ends, because that was asked for, it was, and the run may end there
+-- a connection is closed, and a run ends without one, for `Stopped` only if the end was asked for, and the run may end there
 pub closes_between_chains : ClosesBetweenChains
 closes_between_chains plan commands scope acts runs is =
     let s = state_after plan commands scope acts in

@@ -1,45 +1,17 @@
--- Tests of numbers, and a clock that goes on from act to act. An act is one call on the link, with its result.
-use Rattle.std.proofs.Common.{◌≡◌, inl, inr, ℕ, ◌<◌, ◌≤◌, ◌&&◌, ◌||◌, Bool, true, false, not, List, [], ◌∷◌, ◌++◌, min, nat_eq, nat_le, if◌then◌else◌, refl, sym, ap, ◌∙◌, arith}
-use Rattle.std.proofs.lemmas.Bool.Decides.{leb_tells, nat_tests}
+-- Tests, and a clock that goes on from act to act. An act is one call on the link, with its result.
+use Rattle.std.proofs.Common.{◌≡◌, ℕ, ◌<◌, ◌≤◌, ◌&&◌, ◌||◌, Bool, true, false, List, [], ◌∷◌, ◌++◌, min, nat_eq, refl, ap, ◌∙◌, arith}
+use Rattle.std.proofs.lemmas.Bool.Decides.{nat_tests}
 use Rattle.gc_links.specs.Acts.{Act, Told, Gave, Silent}
 use Rattle.gc_links.specs.declared.link.Moment.{Moment}
 use Rattle.gc_station.specs.Cycles.{ClockRises}
 use Rattle.gc_station.specs.Silences.{latest}
 use Rattle.gc_station.specs.declared.progress.Progress.{Progress}
 
--- Tests of numbers.
-
--- if the test says that a is at most b, it is
-pub le_of : (a b : ℕ) → nat_le a b ≡ true → a ≤ b
-le_of a b e = elim (leb_tells a b) as (λ _. a ≤ b) [ inl is ↦ is.1 | inr is ↦ let bad : true ≡ false = sym e ∙ is.0 in cc ]
-
--- if the test says that a isn't at most b, b is below a
-pub lt_of : (a b : ℕ) → nat_le a b ≡ false → b < a
-lt_of a b e = elim (leb_tells a b) as (λ _. b < a) [ inl is ↦ let bad : true ≡ false = sym is.0 ∙ e in cc | inr is ↦ is.1 ]
-
--- a cycle that isn't the first is due only by its moment
-pub due_since : (first due : Bool) → first ≡ false → (if first then true else due) ≡ true → due ≡ true
-due_since first due e d = sym (ap (λ (b : Bool). if b then true else due) e) ∙ d
+-- Tests.
 
 -- a number above 0 isn't 0
 pub not_none : (n : ℕ) → 0 < n → nat_eq n 0 ≡ false
 not_none n some = grind (arith, nat_tests, some)
-
--- if the test b holds, the first of two values is chosen
-pub picks : {A : Type 0} (b : Bool) (x y : A) → b ≡ true → (if b then x else y) ≡ x
-picks b x y e = ap (λ (c : Bool). if c then x else y) e
-
--- if the test b doesn't hold, the second of two values is chosen
-pub picks_other : {A : Type 0} (b : Bool) (x y : A) → b ≡ false → (if b then x else y) ≡ y
-picks_other b x y e = ap (λ (c : Bool). if c then x else y) e
-
--- if neither of two tests holds, the test for at least one fails
-pub or_none : (a b : Bool) → a ≡ false → b ≡ false → (a || b) ≡ false
-or_none a b e f = ap (λ (c : Bool). c || b) e ∙ f
-
--- if the first of two tests holds, the test for at least one holds
-pub or_some : (a b : Bool) → a ≡ true → (a || b) ≡ true
-or_some a b e = ap (λ (c : Bool). c || b) e
 
 -- if one of two tests holds, and the first doesn't, the second does
 pub or_second : (a b : Bool) → (a || b) ≡ true → a ≡ false → b ≡ true
@@ -49,15 +21,6 @@ or_second false b e none = e
 -- if the first of two tests holds, both do exactly if the second does
 pub and_second : (a b : Bool) → a ≡ true → (a && b) ≡ b
 and_second a b e = ap (λ (c : Bool). c && b) e
-
--- if the negation of a test holds, the test doesn't
-pub not_true : (b : Bool) → not b ≡ true → b ≡ false
-not_true true e = cc
-not_true false e = refl
-
--- a test isn't true and false
-pub not_both : (b : Bool) → b ≡ true → b ≡ false → ⊥
-not_both b e f = let bad : true ≡ false = sym e ∙ f in cc
 
 -- Clocks.
 

@@ -1,10 +1,11 @@
 -- A run stops for want of tries only where enough connections ended, or couldn't be made, since a read settled a command.
 -- `up_count` is 1 if there is a connection, and 0 if there is none. An act is one call on the link, with its result. A piece is
 -- the bytes that one read gave. `Trying` says how many tries are left, by the connections that ended since the last read that
--- settled a command. `Hears` says what a piece does to the tries: they are all given back if it settles a command, and stay if
+-- settled a command. `TriesAfterPiece` says what a piece does to the tries: they are all given back if it settles a command, and stay if
 -- it doesn't; `Settling` says the same of a whole read, by the records.
 use Rattle.std.proofs.Common.{◌≡◌, ◌≢◌, ◌⊎◌, inl, inr, ℕ, suc, ◌+◌, ◌-◌, ◌<◌, ◌≤◌, Bool, true, false, not, List, [], ◌∷◌, ◌++◌, length, map, Option, Some, None, refl, sym, ap, ◌∙◌, subst, arith, append_assoc, append-nil}
 use Rattle.std.proofs.lemmas.List.{length-map, length-append, nil_from_length}
+use Rattle.std.proofs.lemmas.Bool.{not-true, false_from_ne_true, both_ways}
 use Rattle.gc_catalogue.specs.declared.asked.Asked.{Asked}
 use Rattle.gc_client.specs.declared.pending.Pending.{Pending}
 use Rattle.gc_client.specs.Rule.{ById}
@@ -32,17 +33,16 @@ use Rattle.gc_station.proofs.Closings.{runs_split, needs_of, end_of, Decided, af
 use Rattle.gc_station.proofs.Counts.{ended_progress}
 use Rattle.gc_station.proofs.Always.{always}
 use Rattle.gc_station.proofs.EachRun.{invariant_after, invariant_holds}
-use Rattle.gc_station.proofs.Facts.{either_true, action_for, never_true}
+use Rattle.gc_station.proofs.Facts.{or_first, action_for}
 use Rattle.gc_station.proofs.Invariant.{Invariant}
 use Rattle.gc_station.proofs.Going.{after_all-append}
 use Rattle.gc_station.proofs.Opens.{Counted, Quits, counted_moved}
-use Rattle.gc_station.proofs.Ticking.{not_both, not_true}
 use Rattle.gc_station.proofs.Records.{Grew}
 use Rattle.gc_station.proofs.Row.{row_of, row_losing, row_read}
 use Rattle.gc_station.proofs.Turns.{over_stays, up_count, up_least}
 use Rattle.gc_station.proofs.Walk.{moved_changed}
 use Rattle.gc_station.specs.Scopes.{Scope}
-use Rattle.gc_station.proofs.TriesTaken.{Hears, Took, took_moved, untook}
+use Rattle.gc_station.proofs.TriesTaken.{TriesAfterPiece, Took, took_moved, untook}
 use Rattle.gc_station.proofs.Stopping.{behind_one}
 use Rattle.gc_station.proofs.SentAt.{after_grew}
 
@@ -108,14 +108,14 @@ kept_marks : (plan : Plan) (commands : List Task) (s t : Model) (b : Bool) → l
     → (commands_in (losing b t).marks ≡ commands_in t.marks) ⊎ (commands_in s.marks ≡ 0)
 kept_marks plan commands s t false e goes begins fine = inl refl
 kept_marks plan commands s t true e goes begins fine =
-    let new = fine.begins (begins (not_true (has_begun t.progress) (either_true (not (has_begun t.progress)) (is_over t.progress) e goes))) in
+    let new = fine.begins (begins (not-true (has_begun t.progress) (or_first (not (has_begun t.progress)) (is_over t.progress) e goes))) in
     let none : length s.marks ≡ 0 = fine.paired ∙ ap (λ (c : ById Asked). length c.waiting) new in
     inr (ap commands_in (nil_from_length s.marks none))
 
 -- a read that gave bytes does what `Settling` says
-gave_settles : (plan : Plan) (commands : List Task) (s t u : Model) → Invariant plan commands s → Invariant plan commands u → Hears plan s t → Grew s.records u.records
-    → u.progress ≡ t.progress → row_of u ≡ row_of s
-    → (commands_in u.marks ≡ commands_in t.marks) ⊎ (commands_in s.marks ≡ 0) → Settling plan s u
+gave_settles : (plan : Plan) (commands : List Task) (s t u : Model) → Invariant plan commands s → Invariant plan commands u → TriesAfterPiece plan s t → (grew : Grew s.records u.records)
+    → (same : u.progress ≡ t.progress) → (same_row : row_of u ≡ row_of s)
+    → (kept : (commands_in u.marks ≡ commands_in t.marks) ⊎ (commands_in s.marks ≡ 0)) → Settling plan s u
 gave_settles plan commands s t u fine fine' h grew same row kept =
     settling_by plan s u (commands_in t.marks) (commands_in s.marks) grew (same_out plan commands s u fine fine' row) kept
     (subst (λ (p : Progress). ((commands_in t.marks < commands_in s.marks) × (p.preparing ≡ false) × (p.tries ≡ plan.retries))
@@ -214,10 +214,10 @@ abbrev TryingUnlessOver : Plan → List Task → Scope → List Act → Model �
 TryingUnlessOver plan commands scope acts s = is_over s.progress ≡ false → Trying plan commands scope s.progress.tries (is_up s.progress.phase) acts
 
 -- `Trying` is preserved by one act, from the model s to u; t is the model before what is outstanding is lost
-try_step : (plan : Plan) (commands : List Task) (scope : Scope) (acts : List Act) (act : Act) (s u : Model) (t : Model) → state_after plan commands scope acts ≡ s
-    → state_after plan commands scope (acts ++ act ∷ []) ≡ u → u ≡ after plan commands s act
-    → u.progress ≡ t.progress → Took plan s act t → Counted (is_up s.progress.phase) act (is_up t.progress.phase)
-    → (((bytes : List ℕ) × (m : Moment) × (act ≡ Gave bytes m)) → Hears plan s t → Settling plan s u)
+try_step : (plan : Plan) (commands : List Task) (scope : Scope) (acts : List Act) (act : Act) (s u : Model) (t : Model) → (before : state_after plan commands scope acts ≡ s)
+    → (behind : state_after plan commands scope (acts ++ act ∷ []) ≡ u) → (does : u ≡ after plan commands s act)
+    → (same : u.progress ≡ t.progress) → (took : Took plan s act t) → Counted (is_up s.progress.phase) act (is_up t.progress.phase)
+    → (settling : ((bytes : List ℕ) × (m : Moment) × (act ≡ Gave bytes m)) → TriesAfterPiece plan s t → Settling plan s u)
     → Trying plan commands scope s.progress.tries (is_up s.progress.phase) acts → Trying plan commands scope u.progress.tries (is_up u.progress.phase) (acts ++ act ∷ [])
 try_step plan commands scope acts (Gave bytes m) s u t before behind does same took counted settling trying = by_settling (settling (bytes, m, refl) took) where
   -- the loss of what is outstanding changes nothing of the connection
@@ -262,12 +262,12 @@ try_after plan commands scope done act o trying not_over =
     let u = after plan commands s act in
     let t = moved plan commands (action_at plan s) (with_progress turned s) act in
     let same = ended_progress t in
-    let goes = never_true (is_over s.progress) (λ over. over_stays plan commands s act over o) in
+    let goes = false_from_ne_true (is_over s.progress) (λ over. over_stays plan commands s act over o) in
     let fine = invariant_holds plan commands scope done in
     let not_over_mid : is_over t.progress ≡ false = sym (ap is_over same) ∙ not_over in
     try_step plan commands scope done act s u t refl (behind_one plan commands scope done act) refl same (untook plan s t act (took_moved plan commands (action_at plan s) s act o))
     (counted_moved plan commands (action_at plan s) s act o (action_for plan s.progress (waiting_of s))
-    (λ quits. absurd (not_both (is_over t.progress) (quits_over plan commands (action_at plan s) s act quits) not_over_mid)))
+    (λ quits. absurd (both_ways (is_over t.progress) not_over_mid (quits_over plan commands (action_at plan s) s act quits))))
     (λ gave h. gave_settles plan commands s t u fine (invariant_after plan commands s act fine) h (after_grew plan commands s act) same
     (row_losing (loses_all t.progress) t ∙ row_read plan commands (action_at plan s) (with_progress turned s) act gave.0 gave.1 o gave.2)
     (kept_marks plan commands s t (loses_all t.progress) refl not_over_mid h.begins fine))
@@ -405,7 +405,7 @@ stop_tried plan commands scope acts last why runs stop tried ending = by_decided
 
   -- before the last act the run wasn't over
   goes : is_over s.progress ≡ false
-  goes = never_true (is_over s.progress) (λ gone. over_stays plan commands s last gone split.1)
+  goes = false_from_ne_true (is_over s.progress) (λ gone. over_stays plan commands s last gone split.1)
 
   -- the connection that the last act ends, or couldn't make, is counted
   counted : (Quits (action_at plan s) → ⊥) → Counted (is_up s.progress.phase) last false

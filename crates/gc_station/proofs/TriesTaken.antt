@@ -7,7 +7,6 @@ use Rattle.gc_links.specs.declared.link.Moment.{Moment}
 use Rattle.gc_station.specs.declared.plan.Plan.{Plan}
 use Rattle.gc_station.specs.declared.cause.Cause.{Cause}
 use Rattle.gc_station.specs.declared.progress.Phase.{Phase}
-use Rattle.gc_station.specs.declared.progress.Phase.TheVariants as phase
 use Rattle.gc_station.specs.declared.progress.Action.{Action}
 use Rattle.gc_station.specs.declared.progress.Action.TheVariants as actions
 use Rattle.gc_station.specs.declared.progress.Progress.{Progress}
@@ -22,22 +21,20 @@ use Rattle.gc_station.specs.Tries.{endings_in}
 use Rattle.gc_station.proofs.Words.{begins_before}
 use Rattle.gc_station.proofs.Walk.{asked_along, came_along, closed_along, moved_changed, quieted_along, walk}
 
--- Each end of a connection takes a try at most, and only a read gives tries back.
-
 -- what a piece does, from s to t: as many commands had their turn; the station doesn't resynchronize by it; and either fewer
 -- commands are outstanding, the setup is done, and all tries are left, or as many are outstanding or more, or the setup isn't
 -- done, and the tries stay
-pub record Hears (plan : Plan) (s t : Model) : Type 0 where
+pub record TriesAfterPiece (plan : Plan) (s t : Model) : Type 0 where
   pub left : t.progress.left ≡ s.progress.left
   pub unsent : t.progress.unsent ≡ s.progress.unsent
   pub begins : has_begun t.progress ≡ false → has_begun s.progress ≡ false
   pub tries : ((commands_in t.marks < commands_in s.marks) × (t.progress.preparing ≡ false) × (t.progress.tries ≡ plan.retries))
       ⊎ (((commands_in s.marks ≤ commands_in t.marks) ⊎ (t.progress.preparing ≡ true)) × (t.progress.tries ≡ s.progress.tries))
 
--- what an act does to the tries, from s to t: a read that gave bytes does what `Hears` says; any other act takes at most one
+-- what an act does to the tries, from s to t: a read that gave bytes does what `TriesAfterPiece` says; any other act takes at most one
 -- try for each connection that ends by it or couldn't be made
 abbrev pub Took : Plan → Model → Act → Model → Type 0
-Took plan s (Gave bytes m) t = Hears plan s t
+Took plan s (Gave bytes m) t = TriesAfterPiece plan s t
 Took plan s act t = s.progress.tries ≤ t.progress.tries + endings_in (act ∷ [])
 
 -- after a read either fewer commands are outstanding, the setup is done, and all tries are left; or as many or more are
@@ -48,8 +45,8 @@ given_back true false after before retries new old e same = inl (ltb-true after 
 given_back true true after before retries new old e same = inr (inr refl, same)
 given_back false on after before retries new old e same = inr (inl (ltb-false after before e), same)
 
--- a read that gave bytes does to the tries what `Hears` says
-gave_took : (plan : Plan) (until : Until) (s : Model) (bytes : List ℕ) (m : Moment) → Hears plan s (piece_at plan until bytes m s)
+-- a read that gave bytes does to the tries what `TriesAfterPiece` says
+gave_took : (plan : Plan) (until : Until) (s : Model) (bytes : List ℕ) (m : Moment) → TriesAfterPiece plan s (piece_at plan until bytes m s)
 gave_took plan until s bytes m =
     let heard = is_heard s.progress.phase in
     let mid = with_moment m (with_progress (moment_noted m) s) in

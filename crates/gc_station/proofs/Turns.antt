@@ -91,7 +91,7 @@ less_stepped plan commands s w act obeys =
     let e : left_to_do (stepped plan commands action s act).progress ≡ left_to_do mid.progress = ap left_to_do same in
     omega (arith, e, fewer)
 
--- If it is over no act follows.
+-- If the run is over no act follows.
 
 module _ (plan : Plan) (commands : List Task) where
   -- no act is performed in the phase `Over`

@@ -1,6 +1,7 @@
 -- A chain that isn't broken goes on over a connection, once the station has synchronized. An act is one call on the link, with
 -- its result.
 use Rattle.std.proofs.Common.{◌≡◌, ◌<◌, Bool, true, false, List, [], inl, inr, ◌⊎◌, if◌then◌else◌, refl, sym, ap, ◌∙◌, subst, arith}
+use Rattle.std.proofs.lemmas.Bool.{and_parts, false_from_ne_true, both_ways}
 use Rattle.gc_texts.specs.declared.tasks.Task.{Task}
 use Rattle.gc_links.specs.Acts.{Act, Told, Cut, Opened}
 use Rattle.gc_station.specs.declared.cause.Cause.{Cause}
@@ -18,10 +19,9 @@ use Rattle.gc_station.specs.Reasons.{HoldsBefore, IsResting}
 use Rattle.gc_station.specs.Runs.{state_after}
 use Rattle.gc_station.specs.Scopes.{Scope}
 use Rattle.gc_station.proofs.Always.{always_of_progress}
-use Rattle.gc_station.proofs.Closings.{came_phase}
-use Rattle.gc_station.proofs.Facts.{action_for, never_true, both_true}
+use Rattle.gc_station.proofs.Closings.{came_phase, cleared_up}
+use Rattle.gc_station.proofs.Facts.{action_for}
 use Rattle.gc_station.proofs.Silences.{quieted_up}
-use Rattle.gc_station.proofs.Ticking.{not_both}
 use Rattle.gc_station.proofs.Walk.{asked_along, came_along, quieted_along, closed_along, is_sent, moved_changed, walk}
 use Rattle.gc_station.proofs.Words.{begun_kept}
 
@@ -33,11 +33,6 @@ IsOnLineIfUnbroken p = p.chain_unbroken ≡ true → (is_up p.phase ≡ true) ×
 pub failure_keeps_line : (up : Bool) (why : Cause) → is_up (if up then phase.Closing why else phase.Over why) ≡ up
 failure_keeps_line true why = refl
 failure_keeps_line false why = refl
-
--- after a line feed that was sent there is a connection
-pub cleared_up : (begun : Bool) → is_up (if begun then phase.Draining else phase.Ready) ≡ true
-cleared_up true = refl
-cleared_up false = refl
 
 module _ (plan : Plan) (commands : List Task) where
   -- a chain that isn't broken after an act of the model s wasn't broken before it
@@ -76,7 +71,7 @@ module _ (plan : Plan) (commands : List Task) where
   abbrev UpIfUnbroken : Act → Model → Type 0
   UpIfUnbroken a t = t.progress.chain_unbroken ≡ true → is_up t.progress.phase ≡ true
 
-  -- a failure preserves `UpIfUnbroken`
+  -- after a failure there is still a connection, if there was one: it is to be closed
   failed_up : (s : Model) (why : Cause) → is_up s.progress.phase ≡ true → is_up (with_progress (failing why) s).progress.phase ≡ true
   failed_up s why up = failure_keeps_line (is_up s.progress.phase) why ∙ up
 
@@ -160,11 +155,11 @@ unbroken_holds plan commands scope acts runs =
 
 -- if the run may end (`IsResting`), no command of a chain that has begun is left that may be sent
 pub resting_none : (p : Progress) (w : Waiting) → IsOnLineIfUnbroken p → IsResting p w → 0 < p.unsent → p.next_is_chained ≡ true → may_go p w ≡ false
-resting_none p w on rests some chained = never_true (may_go p w) (λ may. by_rest (both_true w.well p.chain_unbroken may).1 rests) where
+resting_none p w on rests some chained = false_from_ne_true (may_go p w) (λ may. by_rest (and_parts w.well p.chain_unbroken may).1 rests) where
   -- the lemma above, by why the run may end there
   by_rest : p.chain_unbroken ≡ true → IsResting p w → ⊥
-  by_rest c (inl down) = not_both (is_up p.phase) (on c).0 down
-  by_rest c (inr (inl begins)) = not_both (has_begun p) (on c).1 begins
+  by_rest c (inl down) = both_ways (is_up p.phase) down (on c).0
+  by_rest c (inr (inl begins)) = both_ways (has_begun p) begins (on c).1
   by_rest c (inr (inr (none, inl all))) = omega (arith, all, some)
-  by_rest c (inr (inr (none, inr (inl free)))) = not_both p.next_is_chained chained free
-  by_rest c (inr (inr (none, inr (inr prepares)))) = not_both p.preparing prepares (on c).2
+  by_rest c (inr (inr (none, inr (inl free)))) = both_ways p.next_is_chained free chained
+  by_rest c (inr (inr (none, inr (inr prepares)))) = both_ways p.preparing (on c).2 prepares

@@ -1,8 +1,9 @@
 -- Each record of a missed or a skipped command is of one that was missed or skipped for its cause, where cycles have due
 -- moments and the clock doesn't go back. An act is one call on the link, with its result. A piece is the bytes that one read
 -- gave.
-use Rattle.std.proofs.Common.{◌≡◌, ◌⊎◌, inl, inr, ℕ, ◌<◌, Bool, true, false, List, [], ◌∷◌, ◌++◌, drop, Option, Some, None, if◌then◌else◌, refl, sym, ap, ◌∙◌, subst, arith, append_assoc}
+use Rattle.std.proofs.Common.{◌≡◌, inl, inr, ℕ, ◌<◌, Bool, true, false, List, [], ◌∷◌, ◌++◌, drop, Option, Some, None, if◌then◌else◌, refl, sym, ap, ◌∙◌, subst, arith, append_assoc}
 use Rattle.std.specs.List.{AllByRecursion}
+use Rattle.std.proofs.lemmas.Bool.{leb-true, cond-true, cond-false, both_ways}
 use Rattle.gc_lines.specs.Frames.{rest_behind}
 use Rattle.gc_catalogue.specs.declared.answer.Reading.{Reading}
 use Rattle.gc_catalogue.specs.declared.asked.Asked.{Asked}
@@ -19,7 +20,7 @@ use Rattle.gc_station.specs.Progressing.{turned, moment_noted, cycle_begun, skip
 use Rattle.gc_station.specs.Records.{Record}
 use Rattle.gc_station.specs.Runs.{state_after}
 use Rattle.gc_station.specs.Scopes.{Scope}
-use Rattle.gc_station.specs.Model.{Model, opening, action_at, cycles_begun, place_next, mark_next, is_chained, is_heard, with_progress, with_moment, with_rest, skips_first, lines_came, lines_completed, after_piece, moved, losing, Performs, Runs}
+use Rattle.gc_station.specs.Model.{Model, opening, action_at, cycles_begun, place_next, mark_next, is_chained, is_heard, with_progress, with_moment, with_rest, first_unsent_record, lines_came, lines_completed, after_piece, moved, losing, Performs, Runs}
 use Rattle.gc_station.specs.declared.mark.Mark.{Mark}
 use Rattle.gc_station.specs.declared.plan.Plan.{Plan}
 use Rattle.gc_station.specs.declared.progress.Action.{Action}
@@ -31,16 +32,12 @@ use Rattle.gc_station.proofs.Always.{always}
 use Rattle.gc_station.proofs.Going.{after_all-append}
 use Rattle.gc_station.proofs.Lists.{all_append, all_on}
 use Rattle.gc_station.proofs.Walk.{lines_along, moved_changed}
-use Rattle.gc_station.proofs.Ticking.{le_of, picks, picks_other, not_both, rises_front}
-use Rattle.gc_station.proofs.Cycles.{Begun, late_more, begun_if_clock_rises, last_began}
+use Rattle.gc_station.proofs.Ticking.{rises_front}
+use Rattle.gc_station.proofs.Cycles.{Begun, late_more, begun_if_clock_rises, last_began, WaitsForAnswer}
 
 module _ (plan : Plan) (commands : List Task) (scope : Scope) (some : 0 < plan.every) where
-  -- the record is justified by these acts: if it says that its command was missed or skipped, that was for its cause
-  abbrev IsUnsentJustified : List Act → Record → Type 0
-  IsUnsentJustified acts r = UnsentIsJustified plan commands scope acts r
-
   -- a record that is justified by these acts is justified by these and more
-  truly_more : (acts more : List Act) (r : Record) → IsUnsentJustified acts r → IsUnsentJustified (acts ++ more) r
+  truly_more : (acts more : List Act) (r : Record) → UnsentIsJustified plan commands scope acts r → UnsentIsJustified plan commands scope (acts ++ more) r
   truly_more acts more r h = (missed_more, skipped_more) where
     -- the record of a missed command is justified by these acts and more
     missed_more : r.end ≡ Missed → IsMissedIn plan commands scope (acts ++ more) r
@@ -79,34 +76,37 @@ module _ (plan : Plan) (commands : List Task) (scope : Scope) (some : 0 < plan.e
           utc = x.utc;
         }
 
-  -- the record of a command that was sent says nothing of being missed or skipped, so it is justified (`IsUnsentJustified`)
-  sent_truly : (acts : List Act) (r : Record) → went_out r.end ≡ true → IsUnsentJustified acts r
-  sent_truly acts r out = (λ e. absurd (not_both (went_out r.end) out (ap went_out e)), λ e. absurd (not_both (went_out r.end) out (ap went_out e)))
+  -- the record of a command that was sent says nothing of being missed or skipped, so it is justified (`UnsentIsJustified`)
+  sent_truly : (acts : List Act) (r : Record) → went_out r.end ≡ true → UnsentIsJustified plan commands scope acts r
+  sent_truly acts r out = (λ e. absurd (both_ways (went_out r.end) (ap went_out e) out), λ e. absurd (both_ways (went_out r.end) (ap went_out e) out))
 
   -- the records of settlements say nothing of being missed or skipped
   settled_truly : (acts : List Act) (reads : Asked → List ℕ → Reading) (utc : ℕ) (marks : List (Option Mark)) (settlements : List (Rule.Settlement Asked))
-      → AllByRecursion (IsUnsentJustified acts) (records_of reads utc marks settlements)
+      → AllByRecursion (UnsentIsJustified plan commands scope acts) (records_of reads utc marks settlements)
   settled_truly acts reads utc [] settlements = tt
   settled_truly acts reads utc (mark ∷ marks) [] = tt
   settled_truly acts reads utc (None ∷ marks) (x ∷ others) = settled_truly acts reads utc marks others
   settled_truly acts reads utc (Some mark ∷ marks) (x ∷ others) = (sent_truly acts _ (ended_sent reads mark.expected x.call x.outcome), settled_truly acts reads utc marks others)
 
   -- lines add records that say nothing of being missed or skipped
-  lines_truly : (acts : List Act) (s : Model) (lines : List (List ℕ)) → AllByRecursion (IsUnsentJustified acts) s.records → AllByRecursion (IsUnsentJustified acts) (lines_came s lines).records
+  lines_truly : (acts : List Act) (s : Model) (lines : List (List ℕ)) → AllByRecursion (UnsentIsJustified plan commands scope acts) s.records
+      → AllByRecursion (UnsentIsJustified plan commands scope acts) (lines_came s lines).records
   lines_truly acts s lines h =
-      lines_along (λ (x : Model). AllByRecursion (IsUnsentJustified acts) x.records)
-      (λ x line all. all_append (IsUnsentJustified acts) x.records _ all (settled_truly acts x.reads x.progress.moment.utc x.marks (hears x.client line (heard line)).settlements)) s lines h
+      lines_along (λ (x : Model). AllByRecursion (UnsentIsJustified plan commands scope acts) x.records)
+      (λ x line all. all_append (UnsentIsJustified plan commands scope acts) x.records _ all
+      (settled_truly acts x.reads x.progress.moment.utc x.marks (hears x.client line (heard line)).settlements)) s lines h
 
   -- a piece adds records that say nothing of being missed or skipped
-  came_truly : (acts : List Act) (b : Bool) (word piece : List ℕ) (s : Model) → AllByRecursion (IsUnsentJustified acts) s.records
-      → AllByRecursion (IsUnsentJustified acts) (after_piece b word piece s).records
+  came_truly : (acts : List Act) (b : Bool) (word piece : List ℕ) (s : Model) → AllByRecursion (UnsentIsJustified plan commands scope acts) s.records
+      → AllByRecursion (UnsentIsJustified plan commands scope acts) (after_piece b word piece s).records
   came_truly acts true (asked ∷ others) piece s h = h
   came_truly acts true [] piece s h = lines_truly acts (with_rest (rest_behind s.rest piece) s) (lines_completed s.rest piece) h
   came_truly acts false word piece s h = h
 
   -- the loss of what is outstanding adds records that say nothing of being missed or skipped
-  losing_truly : (acts : List Act) (b : Bool) (s : Model) → AllByRecursion (IsUnsentJustified acts) s.records → AllByRecursion (IsUnsentJustified acts) (losing b s).records
-  losing_truly acts true s h = all_append (IsUnsentJustified acts) s.records _ h (settled_truly acts s.reads s.progress.moment.utc s.marks (restarts s.client).settlements)
+  losing_truly : (acts : List Act) (b : Bool) (s : Model) → AllByRecursion (UnsentIsJustified plan commands scope acts) s.records
+      → AllByRecursion (UnsentIsJustified plan commands scope acts) (losing b s).records
+  losing_truly acts true s h = all_append (UnsentIsJustified plan commands scope acts) s.records _ h (settled_truly acts s.reads s.progress.moment.utc s.marks (restarts s.client).settlements)
   losing_truly acts false s h = h
 
   -- whether a command that isn't sent is missed or skipped, by whether its cycle is missed
@@ -115,8 +115,9 @@ module _ (plan : Plan) (commands : List Task) (scope : Scope) (some : 0 < plan.e
   unsent_end false = (λ e. cc, λ e. refl)
 
   -- a command of a missed cycle, which is left out, is missed for its cause
-  skip_missed : (acts : List Act) (m : Moment) (p : Progress) (r : Record) → (Begun plan commands scope some) acts p → 0 < p.unsent → r.cycle ≡ cycles_begun plan p → r.sent ≡ None
-      → r.utc ≡ skipped_at m p → p.missed ≡ true → IsMissedIn plan commands scope (acts ++ Told m ∷ []) r
+  skip_missed : (acts : List Act) (m : Moment) (p : Progress) (r : Record) → (Begun plan commands scope some) acts p → (here : 0 < p.unsent) → (cycle : r.cycle ≡ cycles_begun plan p)
+      → (sent : r.sent ≡ None)
+      → (utc : r.utc ≡ skipped_at m p) → (missed : p.missed ≡ true) → IsMissedIn plan commands scope (acts ++ Told m ∷ []) r
   skip_missed acts m p r (inl none) here cycle sent utc missed = let nothing = none.1 in absurd (omega (arith, nothing, here))
   skip_missed acts m p r (inr c) here cycle sent utc missed = record {
     n = c.earlier;
@@ -124,23 +125,23 @@ module _ (plan : Plan) (commands : List Task) (scope : Scope) (some : 0 < plan.e
     late = c.late;
     begins = (late_more plan commands scope some) acts (Told m ∷ []) c.earlier c.moment c.late c.begins;
     cycle = cycle ∙ c.count;
-    too_late = le_of plan.every c.late (sym c.missed ∙ missed);
+    too_late = leb-true plan.every c.late (sym c.missed ∙ missed);
     sent = sent;
-    due = utc ∙ picks p.missed p.due m.utc missed ∙ c.due;
+    due = utc ∙ cond-true p.missed p.due m.utc missed ∙ c.due;
   }
 
   -- in a cycle that isn't missed, a command that is left out is of a chain, and not its first
-  chain_of : (p : Progress) → ((p.missed ≡ true) ⊎ ((plan.setup < place_next commands p) × (is_chained (drop (place_next commands p) commands) ≡ true))) → p.missed ≡ false
+  chain_of : (p : Progress) → (WaitsForAnswer plan commands scope some) p → p.missed ≡ false
       → (plan.setup < place_next commands p) × (is_chained (drop (place_next commands p) commands) ≡ true)
-  chain_of p (inl missed) free = absurd (not_both p.missed missed free)
+  chain_of p (inl missed) free = absurd (both_ways p.missed free missed)
   chain_of p (inr chain) free = chain
 
   -- a command that is left out in a cycle that isn't missed is skipped for its cause
   skip_skipped : (acts : List Act) (m : Moment) (r : Record) → (Begun plan commands scope some) acts (state_after plan commands scope acts).progress
-      → action_at plan (state_after plan commands scope acts) ≡ actions.Skip
-      → r.cycle ≡ cycles_begun plan (state_after plan commands scope acts).progress → r.place ≡ place_next commands (state_after plan commands scope acts).progress
-      → r.sent ≡ None → r.utc ≡ skipped_at m (state_after plan commands scope acts).progress
-      → (state_after plan commands scope acts).progress.missed ≡ false → IsSkippedIn plan commands scope (acts ++ Told m ∷ []) r
+      → (is_next : action_at plan (state_after plan commands scope acts) ≡ actions.Skip)
+      → (cycle : r.cycle ≡ cycles_begun plan (state_after plan commands scope acts).progress) → (place : r.place ≡ place_next commands (state_after plan commands scope acts).progress)
+      → (sent : r.sent ≡ None) → (utc : r.utc ≡ skipped_at m (state_after plan commands scope acts).progress)
+      → (free : (state_after plan commands scope acts).progress.missed ≡ false) → IsSkippedIn plan commands scope (acts ++ Told m ∷ []) r
   skip_skipped acts m r cycle_begun is cycle place sent utc free = by_begun cycle_begun where
     -- the model before the act
     s : Model
@@ -167,13 +168,13 @@ module _ (plan : Plan) (commands : List Task) (scope : Scope) (some : 0 < plan.e
           last = last.0;
           in_time = last.1;
           sent = sent;
-          utc = utc ∙ picks_other (state_after plan commands scope acts).progress.missed (state_after plan commands scope acts).progress.due m.utc free;
+          utc = utc ∙ cond-false (state_after plan commands scope acts).progress.missed (state_after plan commands scope acts).progress.due m.utc free;
         }
 
   -- the record of a command that is left out is justified
   skips_truly : (acts : List Act) (m : Moment) (left : List Task) → (Begun plan commands scope some) acts (state_after plan commands scope acts).progress
       → action_at plan (state_after plan commands scope acts) ≡ actions.Skip
-      → AllByRecursion (IsUnsentJustified (acts ++ Told m ∷ [])) (skips_first (turned (state_after plan commands scope acts).progress) m
+      → AllByRecursion (UnsentIsJustified plan commands scope (acts ++ Told m ∷ [])) (first_unsent_record (turned (state_after plan commands scope acts).progress) m
       (mark_next plan commands (turned (state_after plan commands scope acts).progress)) left)
   skips_truly acts m [] cycle_begun is = tt
   skips_truly acts m (task ∷ others) cycle_begun is =
@@ -185,23 +186,23 @@ module _ (plan : Plan) (commands : List Task) (scope : Scope) (some : 0 < plan.e
   -- the records after an act, before what is outstanding is lost, are justified
   moved_truly : (acts : List Act) (next : Action) (act : Act) → (Begun plan commands scope some) acts (state_after plan commands scope acts).progress
       → action_at plan (state_after plan commands scope acts) ≡ next
-      → AllByRecursion (IsUnsentJustified (acts ++ act ∷ [])) (state_after plan commands scope acts).records
-      → AllByRecursion (IsUnsentJustified (acts ++ act ∷ [])) (moved plan commands next (with_progress turned (state_after plan commands scope acts)) act).records
+      → AllByRecursion (UnsentIsJustified plan commands scope (acts ++ act ∷ [])) (state_after plan commands scope acts).records
+      → AllByRecursion (UnsentIsJustified plan commands scope (acts ++ act ∷ [])) (moved plan commands next (with_progress turned (state_after plan commands scope acts)) act).records
   moved_truly acts actions.Skip (Told m) cycle_begun is all =
       let s = state_after plan commands scope acts in
-      all_append (IsUnsentJustified (acts ++ Told m ∷ [])) s.records _ all (skips_truly acts m (drop (place_next commands (turned s.progress)) commands) cycle_begun is)
-  moved_truly acts actions.Skip act cycle_begun is all = all_append (IsUnsentJustified (acts ++ act ∷ [])) (state_after plan commands scope acts).records [] all tt
+      all_append (UnsentIsJustified plan commands scope (acts ++ Told m ∷ [])) s.records _ all (skips_truly acts m (drop (place_next commands (turned s.progress)) commands) cycle_begun is)
+  moved_truly acts actions.Skip act cycle_begun is all = all_append (UnsentIsJustified plan commands scope (acts ++ act ∷ [])) (state_after plan commands scope acts).records [] all tt
   moved_truly acts (actions.Read until) (Gave bytes m) cycle_begun is all =
       let s = with_progress turned (state_after plan commands scope acts) in
       came_truly (acts ++ Gave bytes m ∷ []) (is_heard s.progress.phase) s.progress.word bytes (with_moment m (with_progress (moment_noted m) s)) all
   moved_truly acts (actions.Read until) act cycle_begun is all = all
   moved_truly acts next act cycle_begun is all =
       let t = with_progress turned (state_after plan commands scope acts) in
-      subst (λ (x : Model). AllByRecursion (IsUnsentJustified (acts ++ act ∷ [])) x.records) (sym (moved_changed plan commands next t act)) all
+      subst (λ (x : Model). AllByRecursion (UnsentIsJustified plan commands scope (acts ++ act ∷ [])) x.records) (sym (moved_changed plan commands next t act)) all
 
   -- if the clock doesn't go back in these acts, each record after them is justified
   abbrev JustifiedIfClockRises : List Act → Type 0
-  JustifiedIfClockRises acts = ClockRises 0 acts → AllByRecursion (IsUnsentJustified acts) (state_after plan commands scope acts).records
+  JustifiedIfClockRises acts = ClockRises 0 acts → AllByRecursion (UnsentIsJustified plan commands scope acts) (state_after plan commands scope acts).records
 
   -- one act of a run more preserves `JustifiedIfClockRises`
   written_step : (done : List Act) (act : Act) → Runs plan commands (opening plan scope) done
@@ -210,9 +211,9 @@ module _ (plan : Plan) (commands : List Task) (scope : Scope) (some : 0 < plan.e
       let s = state_after plan commands scope done in
       let front = rises_front 0 done act rises in
       let cycle_begun = ((begun_if_clock_rises plan commands scope some) done runs front).1 in
-      let old = all_on (IsUnsentJustified done) (IsUnsentJustified (done ++ act ∷ [])) s.records (λ r x. truly_more done (act ∷ []) r x) (h front) in
+      let old = all_on (UnsentIsJustified plan commands scope done) (UnsentIsJustified plan commands scope (done ++ act ∷ [])) s.records (λ r x. truly_more done (act ∷ []) r x) (h front) in
       let t = moved plan commands (action_at plan s) (with_progress turned s) act in
-      subst (λ (x : Model). AllByRecursion (IsUnsentJustified (done ++ act ∷ [])) x.records) (sym (after_all-append plan commands (opening plan scope) done (act ∷ [])))
+      subst (λ (x : Model). AllByRecursion (UnsentIsJustified plan commands scope (done ++ act ∷ [])) x.records) (sym (after_all-append plan commands (opening plan scope) done (act ∷ [])))
       (losing_truly (done ++ act ∷ []) (loses_all t.progress) t (moved_truly done (action_at plan s) act cycle_begun refl old))
 
   -- `JustifiedIfClockRises` holds after every run

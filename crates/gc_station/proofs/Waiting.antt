@@ -21,15 +21,16 @@ use Rattle.gc_station.specs.Ends.{ReadsAtOrPast, OneReadsPast, LateIsJustified, 
 use Rattle.gc_station.specs.Quiet.{IsAsking}
 use Rattle.gc_station.specs.Records.{Record}
 use Rattle.gc_station.specs.Runs.{state_after}
-use Rattle.gc_station.specs.Model.{Model, IsSending, action_at, cycle_out, place_out, request_text, Puts, Performs}
+use Rattle.gc_station.specs.ActKinds.{Puts}
+use Rattle.gc_station.specs.Model.{Model, IsSending, action_at, cycle_to_send, place_to_send, request_text, Performs}
 use Rattle.gc_station.proofs.Lists.{all_append, all_on, Rows, rows_follow, rows_map}
 use Rattle.gc_station.specs.Scopes.{Scope}
 
 -- after these acts, the command with this mark is sent
 pub record Marked (plan : Plan) (commands : List Task) (scope : Scope) (acts : List Act) (mark : Mark) : Type 0 where
   pub sends : IsSending plan (state_after plan commands scope acts)
-  pub cycle : mark.cycle ≡ cycle_out plan (state_after plan commands scope acts)
-  pub place : mark.place ≡ place_out plan commands (state_after plan commands scope acts)
+  pub cycle : mark.cycle ≡ cycle_to_send plan (state_after plan commands scope acts)
+  pub place : mark.place ≡ place_to_send plan commands (state_after plan commands scope acts)
   pub sent : mark.sent ≡ (state_after plan commands scope acts).progress.moment.utc
 
 -- the request p that waits at the place `at`, with this id and mark, was put among these acts; `number` acts came before it,
@@ -288,7 +289,7 @@ expired_waits plan commands scope acts now c marks all =
     (rows_map (Waits plan commands scope acts c.next (length c.waiting)) (WaitsAt plan commands scope acts c now c.next (length c.waiting)) (expired now) 0 0 c.waiting marks
     (λ n j p mark low w. let below : j < length c.waiting = omega (arith, low) in (at_moment plan commands scope acts now n j _ p mark w, (j, below, refl))) all)
 
--- after a moment the client's window is still one
+-- a moment preserves `IsWithinLimits`
 pub expired_window : (c : ById Asked) (now : ℕ) → IsWithinLimits c → IsWithinLimits (at_expired c now)
 expired_window c now w = record { digit = w.digit; few = let n : length (map (expired now) c.waiting) ≡ length c.waiting = length-map c.waiting (expired now) in omega (arith, n, w.few) }
 

@@ -21,8 +21,9 @@ use Rattle.gc_station.specs.declared.progress.Waiting.{Waiting}
 use Rattle.gc_links.specs.Acts.{Act, Told, Untold, Put, Cut, Gave, Silent, Ended, Broke, Closed, Opened, Unopened}
 use Rattle.gc_station.specs.Deciding.{is_quiet}
 use Rattle.gc_station.specs.Marks.{commands_in}
-use Rattle.gc_station.specs.Progressing.{moment_noted, cycle_begun, skipped, failing, opened, after_failure, cleared, request_noted, null_sent, renewed, sent, line_synchronizing, lines_synchronizing, pause_ended, drained, quieted, time_passed, reckoned_early, ended_for, closed, setup_sent}
-use Rattle.gc_station.specs.Model.{Model, waiting_of, place_next, mark_next, commands_before, request_text, null_text, first_text, is_chained_after_next, others_after_next, skip_listed, with_listed, after_pass, Puts, Performs, is_heard, with_progress, with_moment, with_rest, with_records, asks_null, asks_first, asks_next, skips, line_came, lines_came, lines_completed, piece_synchronizing, after_piece, reckoned, piece_at, after_read, after_put, after_close, moved, cycle_length, mark_setup, text_or_null, asks_or_null, asks_setup}
+use Rattle.gc_station.specs.Progressing.{moment_noted, cycle_begun, skipped, failing, opened, after_failure, cleared, request_noted, null_sent, renewed, sent, line_synchronizing, lines_synchronizing, pause_ended, drained, quieted, time_passed, early_noted, ended_for, closed, setup_sent}
+use Rattle.gc_station.specs.ActKinds.{Puts}
+use Rattle.gc_station.specs.Model.{Model, waiting_of, place_next, mark_next, commands_before, request_text, null_text, first_text, is_chained_after_next, others_after_next, listed_after_skip, with_listed, after_pass, Performs, is_heard, with_progress, with_moment, with_rest, with_records, asks_null, asks_first, asks_next, unsent_record, line_came, lines_came, lines_completed, piece_synchronizing, after_piece, piece_noted, piece_at, after_read, after_put, after_close, moved, cycle_length, mark_setup, text_or_null, asks_or_null, asks_setup}
 
 -- Parts of an act.
 
@@ -209,7 +210,7 @@ gave_changed plan until s bytes m =
     let n = commands_in s.marks in
     let is = came_along (λ (t : Model). t ≡ piece_of mid t) (λ t line e. subst (λ (u : Model). line_came u line ≡ piece_of mid (line_came u line))
     (sym e) refl) heard s.progress.word bytes mid refl (begins mid (lines_completed s.rest bytes) (rest_behind s.rest bytes)) refl in
-    subst (λ (u : Model). reckoned plan until n u ≡ changed (Read until) s (reckoned plan until n u)) (sym is) refl where
+    subst (λ (u : Model). piece_noted plan until n u ≡ changed (Read until) s (piece_noted plan until n u)) (sym is) refl where
       -- the lemma above for a piece that is heard while the station synchronizes
       begins : (t : Model) (lines : List (List ℕ)) (rest : List ℕ) → record t { progress = lines_synchronizing t.progress lines; rest = rest } ≡ piece_of t
           (record t { progress = lines_synchronizing t.progress lines; rest = rest })
@@ -271,9 +272,9 @@ Putting P requests bytes t = ((m : Moment) → P (Put bytes) t) × ((n : ℕ) �
 -- what has to hold for P to hold after an act of this action: P in each case that there may be
 abbrev pub Behind : Plan → List Task → (Act → Model → Type 0) → Action → Model → Type 0
 Behind plan commands P ReadClock s =
-    ((m : Moment) → P (Told m) (with_moment m (with_progress (λ p. reckoned_early plan (commands_in s.marks) (moment_noted m p)) s))) × ((n : ℕ) → P Untold (with_progress (failing cause.Clock) s))
+    ((m : Moment) → P (Told m) (with_moment m (with_progress (λ p. early_noted plan (commands_in s.marks) (moment_noted m p)) s))) × ((n : ℕ) → P Untold (with_progress (failing cause.Clock) s))
 Behind plan commands P Renew s = ((m : Moment) → P (Told m) (with_moment m
-    (with_progress (λ p. reckoned_early plan 0 (renewed plan m p)) s))) × ((n : ℕ) → P Untold (with_progress (failing cause.Clock) s))
+    (with_progress (λ p. early_noted plan 0 (renewed plan m p)) s))) × ((n : ℕ) → P Untold (with_progress (failing cause.Clock) s))
 Behind plan commands P Begin s = ((m : Moment) → P (Told m) (with_moment m (with_progress (cycle_begun plan (cycle_length plan commands) m) s)))
     × ((n : ℕ) → P Untold (with_progress (failing cause.Clock) s))
 Behind plan commands P Open s = ((m : Moment) → P Opened (with_progress opened s)) × ((n : ℕ) → P Unopened (with_progress (after_failure plan (commands_in s.marks) cause.Open) s))
@@ -283,9 +284,9 @@ Behind plan commands P Prepare s = Putting P (commands_before plan commands s.pr
 Behind plan commands P Send s =
     Putting P (commands_before plan commands s.progress) (first_text s.progress.moment.utc s.client (drop (place_next commands s.progress) commands)) (sending plan commands s)
 Behind plan commands P Skip s =
-    ((m : Moment) → P (Told m) (with_moment m (with_progress (λ p. reckoned_early plan (commands_in s.marks)
-    (skipped (is_chained_after_next commands s.progress) (others_after_next commands s.progress) m p)) (with_listed (skip_listed plan commands s (Told m))
-    (with_records (skips plan commands s.progress (Told m)) s)))))
+    ((m : Moment) → P (Told m) (with_moment m (with_progress (λ p. early_noted plan (commands_in s.marks)
+    (skipped (is_chained_after_next commands s.progress) (others_after_next commands s.progress) m p)) (with_listed (listed_after_skip plan commands s (Told m))
+    (with_records (unsent_record plan commands s.progress (Told m)) s)))))
     × ((n : ℕ) → P Untold (with_progress (failing cause.Clock) (with_records [] s)))
 Behind plan commands P Pass s = ((m : Moment) → P (Told m) (after_pass plan commands s (Told m))) × ((n : ℕ) → P Untold (with_progress (failing cause.Clock) s))
 Behind plan commands P Flush s = Putting P (commands_before plan commands s.progress) (request_text s.client (Table NullProc)) (with_progress request_noted (asks_null plan s))

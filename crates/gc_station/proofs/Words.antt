@@ -3,6 +3,7 @@
 -- one read gave.
 use Rattle.std.proofs.Common.{◌≡◌, ℕ, Bool, true, false, List, [], ◌∷◌, length, if◌then◌else◌, refl, sym, ap, ◌∙◌, subst, arith}
 use Rattle.std.proofs.lemmas.List.{nil_from_length}
+use Rattle.std.proofs.lemmas.Bool.{both_ways}
 use Rattle.gc_lines.specs.Frames.{rest_behind}
 use Rattle.gc_client.specs.Rule.{deadlines}
 use Rattle.gc_client.specs.declared.window.TheConstants.{WINDOW}
@@ -20,7 +21,6 @@ use Rattle.gc_station.specs.Reasons.{HoldsBefore}
 use Rattle.gc_station.specs.Model.{Model, waiting_of, with_progress, with_moment, with_rest, lines_completed, is_heard, after_piece, Performs, moved}
 use Rattle.gc_station.proofs.Invariant.{Invariant}
 use Rattle.gc_station.proofs.Walk.{lines_along, quieted_along, closed_along, walk}
-use Rattle.gc_station.proofs.Ticking.{not_both}
 
 -- if all ids are answered, lines leave none
 pub left_none : (lines : List (List ℕ)) → unanswered_after [] lines ≡ []
@@ -42,7 +42,7 @@ word_came false word piece s e = e
 -- if a station synchronizes after a piece, it was synchronizing before it
 pub begins_before : (h : Bool) (word piece : List ℕ) (s : Model) → s.progress.word ≡ word → has_begun (after_piece h word piece s).progress ≡ false → is_none_left word ≡ false
 begins_before h [] piece s e f =
-    let lines = if h then lines_completed s.rest piece else [] in absurd (not_both (has_begun (after_piece h [] piece s).progress) (ap is_none_left (word_came h [] piece s e ∙ left_none lines)) f)
+    let lines = if h then lines_completed s.rest piece else [] in absurd (both_ways (has_begun (after_piece h [] piece s).progress) f (ap is_none_left (word_came h [] piece s e ∙ left_none lines)))
 begins_before h (asked ∷ others) piece s e f = refl
 
 module _ (plan : Plan) (commands : List Task) where
@@ -88,8 +88,8 @@ module _ (plan : Plan) (commands : List Task) where
   pub renews_only : (s : Model) (o : Action) (act : Act) → Performs commands s o act → has_begun s.progress ≡ true → has_begun (moved plan commands o (with_progress turned s) act).progress ≡ false
       → (o ≡ actions.Renew) × (m : Moment) × (act ≡ Told m)
   renews_only s actions.Renew (Told m) obeys begun begins = (refl, m, refl)
-  renews_only s actions.Renew act obeys begun begins = absurd (not_both (has_begun s.progress) begun begins)
-  renews_only s o act obeys begun begins = absurd (not_both (has_begun (moved plan commands o (with_progress turned s) act).progress) (begun_other s o act obeys (λ e. cc) begun) begins)
+  renews_only s actions.Renew act obeys begun begins = absurd (both_ways (has_begun s.progress) begins begun)
+  renews_only s o act obeys begun begins = absurd (both_ways (has_begun (moved plan commands o (with_progress turned s) act).progress) begins (begun_other s o act obeys (λ e. cc) begun))
 
 -- if a station resynchronizes, seven are outstanding, which have all timed out
 pub renews_needs : (plan : Plan) (commands : List Task) (s : Model) (o : Action) → Invariant plan commands s → o ≡ actions.Renew

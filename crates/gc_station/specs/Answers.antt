@@ -11,7 +11,8 @@ use Rattle.gc_links.specs.Acts.{Act, Told, Gave, Silent}
 use Rattle.gc_station.specs.Deciding.{later}
 use Rattle.gc_station.specs.Records.{Record}
 use Rattle.gc_station.specs.Runs.{state_after}
-use Rattle.gc_station.specs.Model.{Puts, IsSending, cycle_out, place_out, request_text, lines_completed}
+use Rattle.gc_station.specs.ActKinds.{Puts}
+use Rattle.gc_station.specs.Model.{IsSending, cycle_to_send, place_to_send, request_text, lines_completed}
 use Rattle.gc_station.specs.Scopes.{Scope}
 
 -- the act reads no moment, or one before `deadline`
@@ -30,14 +31,14 @@ first_deadline (task ∷ others) = task.deadline
 abbrev pub deadline_after : Plan → List Task → Scope → List Act → ℕ
 deadline_after plan commands scope acts =
     let s = state_after plan commands scope acts in
-    later s.progress.moment.elapsed (first_deadline (drop (place_out plan commands s) commands))
+    later s.progress.moment.elapsed (first_deadline (drop (place_to_send plan commands s) commands))
 
 -- the act `act`, made after `acts`, writes the request of the record `r`, all of it or a part: a command is sent next; it has
 -- the cycle and the place of `r`; the moment read last is `r.sent`; and the bytes are the line of the call of `r`
 pub record IsOwnRequest (plan : Plan) (commands : List Task) (scope : Scope) (acts : List Act) (act : Act) (r : Record) : Type 0 where
   pub sends : IsSending plan (state_after plan commands scope acts)
-  pub cycle : r.cycle ≡ cycle_out plan (state_after plan commands scope acts)
-  pub place : r.place ≡ place_out plan commands (state_after plan commands scope acts)
+  pub cycle : r.cycle ≡ cycle_to_send plan (state_after plan commands scope acts)
+  pub place : r.place ≡ place_to_send plan commands (state_after plan commands scope acts)
   pub sent : r.sent ≡ Some (state_after plan commands scope acts).progress.moment.utc
   pub put : Puts (request_text (state_after plan commands scope acts).client r.command.call) act
 

@@ -5,7 +5,7 @@ use Rattle.gc_catalogue.specs.declared.answer.Reading.{Reading}
 use Rattle.gc_catalogue.specs.declared.answer.Reading.TheVariants as reading
 use Rattle.gc_catalogue.specs.declared.asked.Asked.{Asked}
 use Rattle.gc_client.specs.Rule.{Settlement, Outcome, Answered, Late, Lost}
-use Rattle.gc_texts.specs.Again.{is_named}
+use Rattle.gc_texts.specs.Again.{repeats_after}
 use Rattle.gc_texts.specs.Endings.{End}
 use Rattle.gc_texts.specs.declared.near.Expected.{Expected}
 use Rattle.gc_station.specs.Marks.{end_of}
@@ -27,7 +27,7 @@ code_of reads call Lost = None
 -- `code` other than 0, if any. That is this command itself, or one before it (`listed`), unless the attempt begins with this
 -- command
 abbrev pub listed_after : Bool → Expected → Option ℕ → End → Bool
-listed_after listed expected code end = (if nat_eq expected.turn.link 0 then false else listed) || is_named expected.again code end
+listed_after listed expected code end = (if nat_eq expected.turn.link 0 then false else listed) || repeats_after expected.again code end
 
 -- whether a command of the current attempt has ended as its rule names, after these settlements of the requests with these
 -- marks, the oldest first. `listed` says whether one had before them, and `reads` gives what a line says of a call

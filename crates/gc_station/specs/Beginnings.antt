@@ -5,7 +5,8 @@
 -- link, with its result.
 use Rattle.std.specs.Prelude.{◌≡◌, ℕ, true, false, List, [], ◌∷◌, ◌++◌, if◌then◌else◌}
 use Rattle.std.specs.List.{AllByRecursion, filter_map}
-use Rattle.gc_client.specs.Beginning.{IsSubsequence, the_word, left_by}
+use Rattle.gc_client.specs.Beginning.{IsSubsequence, the_word}
+pub use Rattle.gc_client.specs.Beginning.{unanswered_after}
 use Rattle.gc_client.specs.Rule.{fresh, heard}
 use Rattle.gc_texts.specs.declared.tasks.Task.{Task}
 use Rattle.gc_station.specs.declared.plan.Plan.{Plan}
@@ -15,7 +16,8 @@ use Rattle.gc_station.specs.Ends.{Resynchronizes}
 use Rattle.gc_station.specs.Quiet.{IsAsking, IsRequest, IsQuietFirst, StaysConnected}
 use Rattle.gc_station.specs.Runs.{state_after}
 use Rattle.gc_station.specs.Scopes.{Scope}
-use Rattle.gc_station.specs.Model.{Model, Puts, Runs, after, is_heard, lines_completed, null_text, opening, action_at}
+use Rattle.gc_station.specs.ActKinds.{Puts}
+use Rattle.gc_station.specs.Model.{Model, Runs, after, is_heard, lines_completed, null_text, opening, action_at}
 
 -- the lines that the act completes and the station hears, if it has the model `s` before the act; none in a phase in which what
 -- comes is discarded
@@ -27,12 +29,6 @@ lines_heard_at s act = []
 abbrev pub lines_heard : Plan → List Task → Model → List Act → List (List ℕ)
 lines_heard plan commands s [] = []
 lines_heard plan commands s (act ∷ acts) = lines_heard_at s act ++ lines_heard plan commands (after plan commands s act) acts
-
--- which of the ids `word` are still unanswered after these lines: each line answers the first id that is left if it has that
--- id, and otherwise none
-abbrev pub unanswered_after : List ℕ → List (List ℕ) → List ℕ
-unanswered_after word [] = word
-unanswered_after word (line ∷ others) = unanswered_after (left_by word (heard line)) others
 
 -- if after the acts `earlier` and then `between` a command is sent next, or a null procedure that isn't of a synchronization:
 -- the ids that weren't answered after `earlier` are, in order, among the ids of the lines that were heard in `between`. So if

@@ -24,8 +24,9 @@ abbrev pub IsChained : Plan → List Task → Model → Type 0
 IsChained plan commands s = (plan.setup < place_next commands s.progress) × (is_chained (drop (place_next commands s.progress) commands) ≡ true)
 
 -- among `acts` the act `request` sent the command before the cycle's next one, in the same cycle. No connection was closed
--- since (`stays`), and the last record of all is of that command (`answer`): a reply that came in time, with the id of
--- `request`, and of a good quality. `said` are the values that the record has, and `line` is the reply
+-- since (`stays`), and the last record of all is of that command, by its cycle and place (`answer`): of a reply that came in time,
+-- with the id of the record's own request (`IsAnsweredIn`), and of a good quality. `said` are the values that the record has, and
+-- `line` is the reply
 pub record IsLinked (plan : Plan) (commands : List Task) (scope : Scope) (acts : List Act) : Type 0 where
   pub before : List Act
   pub request : Act

@@ -82,7 +82,7 @@ pub record IsMissedIn (plan : Plan) (commands : List Task) (scope : Scope) (acts
 
 -- the command of the record `r` is skipped: it is of a chain, and not its first; its cycle began before the next one was due;
 -- it wasn't sent, because the one before it wasn't answered well, or a connection was closed or the station resynchronized
--- since that one was sent (`broken`); and the record has the moment at which the command was left out
+-- since that one was sent (`broken`); and the record has the moment that was read to record it
 pub record IsSkippedIn (plan : Plan) (commands : List Task) (scope : Scope) (acts : List Act) (r : Record) : Type 0 where
   pub before : List Act
   pub moment : Moment

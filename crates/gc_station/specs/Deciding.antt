@@ -2,8 +2,8 @@
 -- outstanding: in all, of those that haven't timed out, and of commands. The phases are: without a connection (`Down`), in the
 -- pause before the next attempt (`Pausing`), before the line feed that clears a connection (`Clearing`), until a connection is
 -- quiet (`Draining`), with a connection for requests (`Ready`), before a close (`Closing`), and at the end (`Over`). Of the
--- progress, `left` counts the cycles that haven't begun, and `unsent` the commands of the cycle that were neither sent nor left
--- out.
+-- progress, `left` counts the cycles that haven't begun, and `unsent` the commands of the cycle that are left: neither sent, nor
+-- recorded without being sent, nor left out.
 use Rattle.std.specs.Prelude.{ℕ, ◌+◌, ◌-◌, ◌&&◌, ◌||◌, Bool, true, false, not, if◌then◌else◌, nat_lt, nat_le, nat_eq, min, max, List, [], ◌∷◌}
 use Rattle.gc_client.specs.declared.window.TheConstants.{WINDOW}
 use Rattle.gc_station.specs.declared.plan.Plan.{Plan}
@@ -42,7 +42,7 @@ is_past wait p = nat_le wait (p.moment.elapsed - p.since)
 abbrev pub is_quiet : Plan → Progress → Bool
 is_quiet plan p = is_past plan.quiet p
 
--- whether there is no id in this list, which is of the null procedures of a synchronization that aren't answered
+-- whether this list is empty. It is of the ids of those null procedures of a synchronization that aren't answered
 abbrev pub is_none_left : List ℕ → Bool
 is_none_left [] = true
 is_none_left (asked ∷ others) = false
@@ -55,18 +55,19 @@ has_begun p = is_none_left p.word
 abbrev pub dead_after : Plan → ℕ
 dead_after plan = later plan.deadline plan.deadline
 
--- whether the line is dead: a request is outstanding, or a null procedure of the synchronization was sent on this connection;
--- and for `dead_after` no reply line came, since the last one or since the first request after it
+-- whether the line is dead: a request is outstanding, or the null procedure of the first id that isn't answered was sent on this
+-- connection (`again`); and no reply line came for `dead_after`, counted from `alive`
 abbrev pub is_dead : Plan → Progress → Waiting → Bool
 is_dead plan p w = (nat_lt 0 w.all || nat_lt 0 p.again) && nat_le (dead_after plan) (p.moment.elapsed - p.alive)
 
--- whether the run is stale: no answer of a good quality was recorded for as long as the plan allows
+-- whether the run is stale: no answer of a good quality was recorded for as long as the plan allows; false if the plan sets no
+-- limit (`stale` is 0)
 abbrev pub is_stale : Plan → Progress → Waiting → Bool
 is_stale plan p w = nat_lt 0 plan.stale && nat_le plan.stale (p.moment.elapsed - w.fresh)
 
--- whether the station is between two chains: no command of the cycle is left, or the next one begins a chain; or since the
--- connection was made and the station synchronized no command of a cycle had its turn (`preparing`), so that no chain goes on.
--- In a missed cycle all commands count as one chain
+-- whether the station is between two chains: no command of the cycle is left, or the next one begins a chain or a further attempt of
+-- one; or there is a setup, and since the connection was made and the station synchronized no cycle began or went on (`preparing`),
+-- so that no chain goes on. In a missed cycle all commands count as one chain
 abbrev pub is_between : Progress → Bool
 is_between p = (nat_eq p.unsent 0 || not p.next_is_chained) || p.preparing
 
@@ -84,13 +85,13 @@ is_stopping p w = p.stops && is_resting p w
 abbrev pub is_held_back : Progress → Waiting → Bool
 is_held_back p w = (p.stops && is_between p) && nat_lt 0 w.current
 
--- the next action if nothing may be sent: to read, as a reply may still come; to close a dead line; or to resynchronize, if all
--- outstanding requests have timed out
+-- the next action if nothing may be sent: to close a dead line; to resynchronize, if all outstanding requests have timed out; and
+-- else to read, as a reply may still come
 abbrev pub action_waiting : Plan → Progress → Waiting → Action
 action_waiting plan p w = if is_dead plan p w then Close Dead else if nat_eq w.current 0 then Renew else Read Limit
 
--- whether the next cycle is due: the first one is at once, and each other one `every` milliseconds after the one before it
--- began
+-- whether the next cycle is due: the first one is at once, and each other one `every` milliseconds after `began`, the moment that
+-- counts as the beginning of the one before it. Whether a cycle is left (`left`) isn't looked at
 abbrev pub is_due : Plan → Progress → Bool
 is_due plan p = if nat_eq p.left plan.cycles then true else nat_le plan.every (p.moment.elapsed - p.began)
 
@@ -98,7 +99,8 @@ is_due plan p = if nat_eq p.left plan.cycles then true else nat_le plan.every (p
 abbrev pub is_idle : Plan → Progress → Bool
 is_idle plan p = p.early && not (is_due plan p)
 
--- whether commands are left that needn't wait for a due moment: some of this cycle, or the next cycle is due
+-- whether the station goes on without waiting for a due moment: some commands of this cycle are left, or the next cycle is due
+-- (`is_due`, which doesn't look whether there is one)
 abbrev pub goes_on : Plan → Progress → Bool
 goes_on plan p = nat_lt 0 p.unsent || is_due plan p
 
@@ -106,8 +108,10 @@ goes_on plan p = nat_lt 0 p.unsent || is_due plan p
 abbrev pub is_finished : ℕ → Progress → Bool
 is_finished commands p = nat_eq p.left 0 && nat_eq p.unsent 0 && nat_eq commands 0
 
--- the next action while the station synchronizes: the null procedure of the first id that isn't answered is sent, and again at
--- its deadline, but not between cycles, nor if no command is left to be sent after the synchronization
+-- the next action while the station synchronizes: to send the null procedure of the first id that isn't answered, for the first
+-- time or again at its deadline, and to read until then. Nothing is sent if no command is left to be sent or is outstanding (the
+-- connection is closed: the run is done), nor between cycles (it reads until the next is due), nor over a dead line (the connection
+-- is closed)
 abbrev pub action_beginning : Plan → Progress → Waiting → Action
 action_beginning plan p w =
     if is_finished w.commands p then Close Done
@@ -121,8 +125,8 @@ action_beginning plan p w =
 abbrev pub action_done : Plan → Progress → Action
 action_done plan p = if nat_eq p.left 0 then Close Done else if is_due plan p then Begin else Read Due
 
--- whether another request may be sent: fewer are in flight than `width_of` allows, and fewer are outstanding in all than the
--- window has places
+-- whether another request may be sent: fewer that haven't timed out are in flight than `width_of` allows, and fewer are outstanding
+-- in all than the window has places
 abbrev pub has_room : Plan → Waiting → Bool
 has_room plan w = nat_lt w.current (width_of plan) && nat_lt w.all WINDOW
 
@@ -130,9 +134,9 @@ has_room plan w = nat_lt w.current (width_of plan) && nat_lt w.all WINDOW
 abbrev pub action_room : Plan → Progress → Waiting → Action → Action
 action_room plan p w action = if has_room plan w then action else action_waiting plan p w
 
--- the next action when the next command may be sent, of a cycle (`action` is `Send`) or of the setup (`Prepare`): `action`, if
--- there is room and one of the seven requests before it is a call of the table that a reply ended (`behind`). Else a null
--- procedure is sent first (`Flush`), once no request is in flight that hasn't timed out
+-- the next action when the next command may be sent, of a cycle (`action` is `Send`) or of the setup (`Prepare`): `action`, if one
+-- of the seven requests before it is a call of the table that a reply ended (`behind`). Else a null procedure is sent first
+-- (`Flush`), once no request is in flight that hasn't timed out. Without room for either it is the action of a station that waits
 abbrev pub action_next : Plan → Progress → Waiting → Action → Action
 action_next plan p w action =
     if nat_lt p.behind WINDOW then action_room plan p w action
@@ -166,27 +170,28 @@ action_settled plan p w =
 
 -- the next action if no command may be sent before those that are outstanding are settled: each of the cycle was sent, or the
 -- next one is chained or begins a further attempt. If some are outstanding, and all outstanding requests have timed out, a null
--- procedure is sent, whose reply settles them
+-- procedure is sent, if there is room; its reply settles them. If none is, that of `action_settled`
 abbrev pub action_sent : Plan → Progress → Waiting → Action
 action_sent plan p w =
     if nat_eq w.commands 0 then action_settled plan p w
     else if nat_eq w.current 0 then action_room plan p w Flush
     else action_waiting plan p w
 
--- the next action when the setup's next command has its turn: that of `action_next`. There always is such a command, since the
--- setup is done once its last one was answered well; without one the action would be to read
-abbrev pub action_turn : Plan → Progress → Waiting → Action
-action_turn plan p w = if nat_lt p.prepared plan.setup then action_next plan p w Prepare else Read Limit
+-- the next action when the next command of the setup may be sent: that of `action_next`. There always is such a command, since
+-- the setup is done once its last one was answered well; without one the action would be to read
+abbrev pub action_next_of_setup : Plan → Progress → Waiting → Action
+action_next_of_setup plan p w = if nat_lt p.prepared plan.setup then action_next plan p w Prepare else Read Limit
 
 -- the next action while the setup isn't done: nothing is sent if no command is left to be sent after it, nor between cycles.
--- Its first command is sent as soon as there is room, and each other one once the one before it was answered well. If it
--- wasn't, the connection is closed, and the setup begins with its first command on the next one
+-- Its first command may be sent at once (`action_next`), and each other one once the one before it was answered well. If it
+-- wasn't, the connection is closed, and the setup begins with its first command on the next one. If commands are outstanding, and
+-- all outstanding requests have timed out, a null procedure is sent, if there is room; its reply settles them
 abbrev pub action_preparing : Plan → Progress → Waiting → Action
 action_preparing plan p w =
     if is_finished w.commands p then Close Done
     else if is_idle plan p then Read Due
-    else if nat_eq p.prepared 0 then action_turn plan p w
-    else if nat_eq w.commands 0 then (if w.well then action_turn plan p w else Close SetUp)
+    else if nat_eq p.prepared 0 then action_next_of_setup plan p w
+    else if nat_eq w.commands 0 then (if w.well then action_next_of_setup plan p w else Close SetUp)
     else if nat_eq w.current 0 then action_room plan p w Flush
     else action_waiting plan p w
 
@@ -195,9 +200,9 @@ action_preparing plan p w =
 abbrev pub action_cycle : Plan → Progress → Waiting → Action
 action_cycle plan p w = if nat_lt 0 p.unsent && not (waits_for_all p) then action_next plan p w Send else action_sent plan p w
 
--- whether the setup is still to be done: no command of a cycle had its turn since the connection was made and the station
--- synchronized (`preparing`), and a command of the setup wasn't sent yet, or the last one sent is outstanding, or wasn't
--- answered well
+-- whether the setup is still to be done: no cycle began or went on since the connection was made and the station synchronized
+-- (`preparing`), and a command of the setup wasn't sent yet, or a command is outstanding, or the one recorded last wasn't answered
+-- well. False if there is no setup
 abbrev pub is_preparing : Plan → Progress → Waiting → Bool
 is_preparing plan p w = p.preparing && not (nat_le plan.setup p.prepared && nat_eq w.commands 0 && w.well)
 

@@ -1,7 +1,7 @@
 -- Each command once, this project's own: the commands that had their turn, cycle by cycle and in order, are the records of a
 -- run that are of cycles, and after them the outstanding commands, but for those of attempts that were left out, each once. An
 -- act is one call on the link, with its result.
-use Rattle.std.specs.Prelude.{◌≡◌, ◌⊎◌, ◌<◌, ℕ, zero, suc, List, [], ◌∷◌, ◌++◌, take, drop, Bool, true, false, nat_eq, map, Option, Some, None}
+use Rattle.std.specs.Prelude.{◌≡◌, ◌⊎◌, ◌<◌, ℕ, zero, suc, List, [], ◌∷◌, ◌++◌, take, drop, nat_eq, map, Option, Some, None}
 use Rattle.gc_catalogue.specs.declared.asked.Asked.{Asked}
 use Rattle.gc_client.specs.declared.pending.Pending.{Pending}
 use Rattle.gc_client.specs.OneForOne.{of_pending}
@@ -12,6 +12,7 @@ use Rattle.gc_station.specs.declared.cause.Cause.TheVariants.{Done}
 use Rattle.gc_station.specs.declared.mark.Mark.{Mark}
 use Rattle.gc_station.specs.declared.progress.Action.TheVariants.{Stop}
 use Rattle.gc_links.specs.Acts.{Act}
+use Rattle.gc_station.specs.Lists.{with_unless}
 use Rattle.gc_station.specs.Records.{Record}
 pub use Rattle.gc_station.specs.Requests.{Request, requests, of_command, of_task, in_text}
 use Rattle.gc_station.specs.Runs.{state_after}
@@ -30,15 +31,10 @@ abbrev pub commands_reached : ℕ → List Task → ℕ → ℕ → List Request
 commands_reached setup commands zero place = []
 commands_reached setup commands (suc n) place = all_cycles setup commands n ++ requests (suc n) setup (map of_task (drop setup (take place commands)))
 
--- `xs`, with `x` before them unless `x` is of the setup (`true`)
-abbrev pub cycle_with : Bool → Request → List Request → List Request
-cycle_with true x xs = xs
-cycle_with false x xs = x ∷ xs
-
 -- those of these requests that are of a cycle: the others are of the setup, which has cycle 0
 abbrev pub of_cycles : List Request → List Request
 of_cycles [] = []
-of_cycles (x ∷ xs) = cycle_with (nat_eq x.cycle 0) x (of_cycles xs)
+of_cycles (x ∷ xs) = with_unless (nat_eq x.cycle 0) x (of_cycles xs)
 
 -- the request that the record `r` is of
 abbrev pub of_record : Record → Request
@@ -58,9 +54,9 @@ still_waiting (Some mark ∷ marks) (p ∷ others) = of_waiting mark p ∷ still
 
 -- the third list consists of the elements of `xs` and those of `ys`, mixed: each element of it is the next one of `xs` or the
 -- next one of `ys`
-abbrev pub Parted : {A : Type 0} → List A → List A → List A → Type 0
-Parted xs ys [] = (xs ≡ []) × (ys ≡ [])
-Parted {A} xs ys (z ∷ zs) = ((others : List A) × (xs ≡ z ∷ others) × Parted others ys zs) ⊎ ((others : List A) × (ys ≡ z ∷ others) × Parted xs others zs)
+abbrev pub Interleave : {A : Type 0} → List A → List A → List A → Type 0
+Interleave xs ys [] = (xs ≡ []) × (ys ≡ [])
+Interleave {A} xs ys (z ∷ zs) = ((others : List A) × (xs ≡ z ∷ others) × Interleave others ys zs) ⊎ ((others : List A) × (ys ≡ z ∷ others) × Interleave xs others zs)
 
 -- those of the requests `xs` that are of a cycle, as the text has them: commands that set the clock are without their moments
 abbrev pub of_text : List Task → List Request → List Request
@@ -70,7 +66,7 @@ of_text commands xs = map (in_text commands) (of_cycles xs)
 -- that was left out (`passes`). This holds if the station has the model `s`
 abbrev pub IsEachOnce : Plan → List Task → Model → Type 0
 IsEachOnce plan commands s =
-    Parted (of_text commands (map of_record s.records ++ still_waiting s.marks s.client.waiting)) s.passes
+    Interleave (of_text commands (map of_record s.records ++ still_waiting s.marks s.client.waiting)) s.passes
     (commands_reached plan.setup commands (cycles_begun plan s.progress) (place_next commands s.progress))
 
 -- after `acts`, which begin a run, `IsEachOnce` holds. If the run stopped there, the records and the attempts that were left
@@ -78,10 +74,10 @@ IsEachOnce plan commands s =
 pub record EachOnce (plan : Plan) (commands : List Task) (scope : Scope) (acts : List Act) : Type 0 where
   pub each : IsEachOnce plan commands (state_after plan commands scope acts)
   pub settled : (cause : Cause) → action_at plan (state_after plan commands scope acts) ≡ Stop cause
-      → Parted (of_text commands (map of_record (state_after plan commands scope acts).records)) (state_after plan commands scope acts).passes
+      → Interleave (of_text commands (map of_record (state_after plan commands scope acts).records)) (state_after plan commands scope acts).passes
       (commands_reached plan.setup commands (cycles_begun plan (state_after plan commands scope acts).progress) (place_next commands (state_after plan commands scope acts).progress))
   pub done : action_at plan (state_after plan commands scope acts) ≡ Stop Done
-      → Parted (of_text commands (map of_record (state_after plan commands scope acts).records)) (state_after plan commands scope acts).passes (all_cycles plan.setup commands plan.cycles)
+      → Interleave (of_text commands (map of_record (state_after plan commands scope acts).records)) (state_after plan commands scope acts).passes (all_cycles plan.setup commands plan.cycles)
 
 -- with the model `t` a station is further than with `s`: in a later cycle, or at a later place in the same cycle
 abbrev pub IsFurther : Plan → List Task → Model → Model → Type 0

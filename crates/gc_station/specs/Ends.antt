@@ -18,7 +18,8 @@ use Rattle.gc_station.specs.Answers.{IsOwnRequest, IsWrittenAt, deadline_after}
 use Rattle.gc_station.specs.Quiet.{IsAsking}
 use Rattle.gc_station.specs.Records.{Record}
 use Rattle.gc_station.specs.Runs.{state_after}
-use Rattle.gc_station.specs.Model.{Puts, action_at, request_text, lines_completed}
+use Rattle.gc_station.specs.ActKinds.{Puts}
+use Rattle.gc_station.specs.Model.{action_at, request_text, lines_completed}
 use Rattle.gc_station.specs.Scopes.{Scope}
 
 -- the act reads a moment at or past `deadline`

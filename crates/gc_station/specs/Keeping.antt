@@ -12,7 +12,7 @@ use Rattle.gc_station.specs.declared.plan.Plan.{Plan}
 use Rattle.gc_station.specs.Records.{Record, texts_of}
 use Rattle.gc_station.specs.Model.{opening, Runs}
 use Rattle.gc_station.specs.Runs.{state_after}
-use Rattle.gc_station.specs.Scopes.{Scope}
+use Rattle.gc_station.specs.Scopes.{Scope, scoped, ForEachReadings, ForReadings}
 
 -- what contracts see of a link and a book before one act of a run. Such a moment is a turn of the run
 pub record Snapshot : Type 0 where
@@ -53,17 +53,30 @@ pub record KeepsUp (plan : Plan) (commands : List Task) (scope : Scope) (text : 
   pub saw : seen' ≡ seen ++ turns
   pub kept : AreKept plan commands scope text told taken [] acts turns
 
+-- `KeepsUp` of a run with at most `turns` acts, for each function that gives each line's reading for a call
+abbrev pub KeepsUpForEachReadings : Plan → List Task → (turns : ℕ) → (Record → List ℕ) → (told told' : Option (List Act)) → (taken : Option (List ℕ))
+    → (seen seen' : List Snapshot) → (others : List Act) → Type 0
+KeepsUpForEachReadings plan commands turns text told told' taken seen seen' others =
+    ForEachReadings (λ reads. KeepsUp plan commands (scoped turns reads) text told told' taken seen seen' others)
+
+-- `KeepsUp` of a run with at most `turns` acts, for each function that gives each line's reading for a call; and there is such a
+-- function
+abbrev pub KeepsUpForReadings : Plan → List Task → (turns : ℕ) → (Record → List ℕ) → (told told' : Option (List Act)) → (taken : Option (List ℕ))
+    → (seen seen' : List Snapshot) → (others : List Act) → Type 0
+KeepsUpForReadings plan commands turns text told told' taken seen seen' others =
+    ForReadings (λ reads. KeepsUp plan commands (scoped turns reads) text told told' taken seen seen' others)
+
 -- the acts of a link after a run with this result: a close if the book failed (`Err`); otherwise none
-abbrev pub closing : {X E : Type 0} → Result X E → List Act
-closing (Ok _) = []
-closing (Err _) = Closed ∷ []
+abbrev pub close_if_failed : {X E : Type 0} → Result X E → List Act
+close_if_failed (Ok _) = []
+close_if_failed (Err _) = Closed ∷ []
 
 -- the acts of a link after a run with this result: a close if the fault is `Output`, which means that the book failed;
 -- otherwise none
-abbrev pub closing_at : {X : Type 0} → Result X RunFault → List Act
-closing_at (Ok _) = []
-closing_at (Err Output) = Closed ∷ []
-closing_at (Err fault) = []
+abbrev pub close_at_output : {X : Type 0} → Result X RunFault → List Act
+close_at_output (Ok _) = []
+close_at_output (Err Output) = Closed ∷ []
+close_at_output (Err fault) = []
 
 -- How the logic stores what was seen.
 

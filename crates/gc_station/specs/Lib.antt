@@ -1,11 +1,13 @@
 pub mod Causes
 pub mod Scopes
+pub mod Lists
 pub mod Records
 pub mod Marks
 pub mod Zeros
 pub mod Lines
 pub mod Deciding
 pub mod Progressing
+pub mod ActKinds
 pub mod Model
 pub mod Tallies
 pub mod Writing

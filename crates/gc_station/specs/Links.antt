@@ -32,8 +32,8 @@ abbrev pub parts : Plan → List Task → Scope → List Act → List Part
 parts plan commands scope acts = parts_of plan commands (opening plan scope) acts
 
 -- after `acts` record number `k` is of the command at place `a` of this cycle, and is an answer of a good quality: with both
--- codes 0 and values that read, or with a return code that is accepted of that command. And request number `m` of `part` is of
--- that command
+-- codes 0 and values that read, or with a return code that is accepted of that command. Request number `m` of `part` is of that
+-- command, and each command that was sent after it in that part is of a cycle, and none of the setup
 pub record IsAnsweredEarlier (plan : Plan) (commands : List Task) (scope : Scope) (acts : List Act) (part : Part) (cycle a : ℕ) : Type 0 where
   pub k : ℕ
   pub answer : Record
@@ -49,7 +49,6 @@ pub record IsAnsweredEarlier (plan : Plan) (commands : List Task) (scope : Scope
   pub m : ℕ
   pub expected : Expected
   pub mark : slice_get part.marks m ≡ Some (Some (mark_of expected answer))
-  -- each command that was sent after it in that part is of a cycle, and none of the setup
   pub of_cycles : (x : ℕ) (mark : Mark) → m < x → slice_get part.marks x ≡ Some (Some mark) → 0 < mark.cycle
 
 -- the command of this cycle and place was sent as request number `n` of part number `i` of the run, both counted from 0: after

@@ -1,10 +1,9 @@
 -- What a station is after the acts of its link, this project's own: the client's rule over what really happened, and how far
 -- the station is. Each act is the one that the station was to make next. An act is one call on the link, with its result.
-use Rattle.std.specs.Prelude.{◌≡◌, ℕ, ◌+◌, ◌-◌, ◌<◌, ◌||◌, Bool, true, false, List, [], ◌∷◌, ◌++◌, length, drop, take, map, Option, Some, None, if◌then◌else◌, nat_eq, slice_get, min, ◌⊎◌}
-use Rattle.std.specs.List.{filter_map}
-use Rattle.gc_lines.specs.Frames.{line_in, rest_behind}
+use Rattle.std.specs.Prelude.{◌≡◌, ℕ, ◌+◌, ◌-◌, ◌||◌, Bool, true, false, List, [], ◌∷◌, ◌++◌, length, drop, take, map, Option, Some, None, if◌then◌else◌, nat_eq, slice_get, min, ◌⊎◌}
+use Rattle.gc_lines.specs.Frames.{rest_behind}
 use Rattle.gc_lines.specs.Lines.{with_end}
-use Rattle.gc_lines.specs.Passing.{frames_behind}
+pub use Rattle.gc_lines.specs.Passing.{lines_completed}
 use Rattle.gc_catalogue.specs.declared.answer.Reading.{Reading}
 use Rattle.gc_catalogue.specs.declared.asked.Asked.{Asked}
 use Rattle.gc_catalogue.specs.declared.asked.Asked.TheVariants.{Table}
@@ -32,12 +31,13 @@ use Rattle.gc_station.specs.declared.progress.Progress.{Progress}
 use Rattle.gc_station.specs.declared.progress.Until.{Until}
 use Rattle.gc_station.specs.declared.progress.Waiting.{Waiting}
 use Rattle.gc_station.specs.declared.mark.Mark.{Mark}
-use Rattle.gc_links.specs.Acts.{Act, Told, Untold, Put, Cut, Gave, Silent, Ended, Broke, Closed, Opened, Unopened}
+use Rattle.gc_links.specs.Acts.{Act, Told, Cut, Gave, Silent, Ended, Broke, Closed, Opened}
+use Rattle.gc_station.specs.ActKinds.{Puts, ReadsClock, IsOpening, IsReading}
 use Rattle.gc_station.specs.Deciding.{later, is_preparing, action_of}
 pub use Rattle.gc_station.specs.Lines.{is_reply}
 use Rattle.gc_station.specs.Attempts.{listed_after, listed_by}
 use Rattle.gc_station.specs.Marks.{commands_in, records_of, last_well, fresh_after}
-use Rattle.gc_station.specs.Progressing.{at_start, turned, moment_noted, cycle_begun, skipped, attempts_left_out, skipped_at, failing, opened, after_failure, cleared, request_noted, null_sent, renewed, sent, caught_up, line_noted, lines_synchronizing, bytes_noted, silent, reckoned_early, closed, loses_all, setup_sent}
+use Rattle.gc_station.specs.Progressing.{at_start, turned, moment_noted, cycle_begun, skipped, attempts_left_out, skipped_at, failing, opened, after_failure, cleared, request_noted, null_sent, renewed, sent, caught_up, line_noted, lines_synchronizing, bytes_noted, silent, early_noted, closed, loses_all, setup_sent}
 use Rattle.gc_station.specs.Records.{Record}
 use Rattle.gc_station.specs.Requests.{Request, requests, of_task}
 use Rattle.gc_station.specs.Scopes.{Scope}
@@ -89,7 +89,8 @@ abbrev pub action_at : Plan → Model → Action
 action_at plan s = action_of plan s.progress (waiting_of s)
 
 -- the place of the cycle's next command in the list `commands`, counted from 0, at the progress `p`. The setup is at the front
--- of the list, and the commands of a cycle are its end, of which `p.unsent` are left
+-- of the list, and the commands of a cycle are its end, of which `p.unsent` are left. If none is left, as before the first cycle,
+-- it is the length of the list
 abbrev pub place_next : List Task → Progress → ℕ
 place_next commands p = length commands - p.unsent
 
@@ -118,20 +119,20 @@ abbrev pub cycle_length : Plan → List Task → ℕ
 cycle_length plan commands = length commands - plan.setup
 
 -- the cycle of the command that is sent next: 0 while the setup isn't done
-abbrev pub cycle_out : Plan → Model → ℕ
-cycle_out plan s = if is_preparing plan s.progress (waiting_of s) then 0 else cycles_begun plan s.progress
+abbrev pub cycle_to_send : Plan → Model → ℕ
+cycle_to_send plan s = if is_preparing plan s.progress (waiting_of s) then 0 else cycles_begun plan s.progress
 
 -- the place in the station's list of the command that is sent next: the setup's next one, while that isn't done, and else the
 -- cycle's
-abbrev pub place_out : Plan → List Task → Model → ℕ
-place_out plan commands s = if is_preparing plan s.progress (waiting_of s) then s.progress.prepared else place_next commands s.progress
+abbrev pub place_to_send : Plan → List Task → Model → ℕ
+place_to_send plan commands s = if is_preparing plan s.progress (waiting_of s) then s.progress.prepared else place_next commands s.progress
 
 -- `expected` as it is for a command of the setup in the attempt `attempt` of the setup. No ending sends such a command again
 -- (`no_again`), and no attempt of a chain begins with it, so its link is 1
 abbrev pub in_attempt : ℕ → Expected → Expected
 in_attempt attempt expected = record expected { again = no_again; turn = record expected.turn { attempt = attempt; link = 1 } }
 
--- the mark of the setup's next command at the progress `p`: it has cycle 0, and the attempt of the setup
+-- the mark of the setup's next command at the progress `p`: it has cycle 0, and the attempt of the setup (`in_attempt`)
 abbrev pub mark_setup : List Task → Progress → Mark
 mark_setup commands p =
     record { cycle = 0; place = p.prepared; sent = p.moment.utc; expected = in_attempt p.attempt (expected_first (drop p.prepared commands)) }
@@ -195,33 +196,6 @@ others_after_next commands p = others_after 1 commands p
 -- a command is sent next, of a cycle or of the setup, by a station that has the model `s`
 abbrev pub IsSending : Plan → Model → Type 0
 IsSending plan s = (action_at plan s ≡ Send) ⊎ (action_at plan s ≡ Prepare)
-
--- the act writes `bytes` on the link: all of them (`Put`), or fewer (`Cut`)
-abbrev pub Puts : List ℕ → Act → Type 0
-Puts bytes (Put out) = out ≡ bytes
-Puts bytes (Cut out count) = (out ≡ bytes) × (count < length bytes)
-Puts bytes _ = ⊥
-
--- the act reads the clock alone, or fails to
-abbrev pub ReadsClock : Act → Type 0
-ReadsClock (Told m) = Unit {0}
-ReadsClock Untold = Unit {0}
-ReadsClock _ = ⊥
-
--- the act makes a connection, or fails to
-abbrev pub IsOpening : Act → Type 0
-IsOpening Opened = Unit {0}
-IsOpening Unopened = Unit {0}
-IsOpening _ = ⊥
-
--- the act is a read, whatever came of it: bytes, nothing, the end of the connection, a failure, or a clock that can't be read
-abbrev pub IsReading : Act → Type 0
-IsReading (Gave bytes m) = Unit {0}
-IsReading (Silent m) = Unit {0}
-IsReading Ended = Unit {0}
-IsReading Broke = Unit {0}
-IsReading Untold = Unit {0}
-IsReading _ = ⊥
 
 -- the act is the call of the link that `action` asks for, if the station has the model `s`. A call that sends writes the bytes
 -- that the model gives; no act performs `Stop`
@@ -298,16 +272,16 @@ abbrev pub with_client : ById Asked → Model → Model
 with_client client s = record s { client = client }
 
 -- the record of the first of these commands, which isn't sent: as missed if the cycle is missed at the progress `p`, otherwise
--- as skipped. It was left out at the moment `m`, and has `mark`. No record if there is no command
-abbrev pub skips_first : Progress → Moment → Mark → List Task → List Record
-skips_first p m mark [] = []
-skips_first p m mark (task ∷ others) =
+-- as skipped. `m` is the moment read for that record, and the command has `mark`. No record if there is no command
+abbrev pub first_unsent_record : Progress → Moment → Mark → List Task → List Record
+first_unsent_record p m mark [] = []
+first_unsent_record p m mark (task ∷ others) =
     record { sent = None; utc = skipped_at m p; cycle = mark.cycle; place = mark.place; turn = mark.expected.turn; command = task.command; end = if p.missed then Missed else Skipped } ∷ []
 
 -- the record of the cycle's next command, which isn't sent, if the act read the clock; no record if the clock couldn't be read
-abbrev pub skips : Plan → List Task → Progress → Act → List Record
-skips plan commands p (Told m) = skips_first p m (mark_next plan commands p) (drop (place_next commands p) commands)
-skips plan commands p _ = []
+abbrev pub unsent_record : Plan → List Task → Progress → Act → List Record
+unsent_record plan commands p (Told m) = first_unsent_record p m (mark_next plan commands p) (drop (place_next commands p) commands)
+unsent_record plan commands p _ = []
 
 -- whether a command of the attempt has ended as its rule names, once the cycle's next command was recorded without being sent;
 -- `listed` says whether one had before
@@ -316,14 +290,14 @@ listed_unsent plan commands p listed = listed_after listed (mark_next plan comma
 
 -- whether a command of the attempt has ended as its rule names, after an act that records the cycle's next command without
 -- sending it: `listed_unsent`, or as before if the clock couldn't be read
-abbrev pub skip_listed : Plan → List Task → Model → Act → Bool
-skip_listed plan commands s (Told m) = listed_unsent plan commands s.progress s.listed
-skip_listed plan commands s _ = s.listed
+abbrev pub listed_after_skip : Plan → List Task → Model → Act → Bool
+listed_after_skip plan commands s (Told m) = listed_unsent plan commands s.progress s.listed
+listed_after_skip plan commands s _ = s.listed
 
 -- the commands that are left out if the cycle's next one begins a further attempt: those of this attempt, and of the chain's
 -- later attempts
-abbrev pub passes_next : Plan → List Task → Progress → List Request
-passes_next plan commands p =
+abbrev pub next_left_out : Plan → List Task → Progress → List Request
+next_left_out plan commands p =
     requests (cycles_begun plan p) (place_next commands p) (map of_task (take p.next_others (drop (place_next commands p) commands)))
 
 -- the model `s` with `passes` added to the commands that were left out
@@ -374,10 +348,6 @@ abbrev pub lines_came : Model → List (List ℕ) → Model
 lines_came s [] = s
 lines_came s (line ∷ others) = lines_came (line_came s line) others
 
--- the lines that `piece` completes, if `rest` are the bytes before it since the last line feed
-abbrev pub lines_completed : List ℕ → List ℕ → List (List ℕ)
-lines_completed rest piece = filter_map line_in (frames_behind rest piece)
-
 -- the model `s` with `rest` in place of its bytes since the last line feed
 abbrev pub with_rest : List ℕ → Model → Model
 with_rest rest s = record s { rest = rest }
@@ -409,16 +379,16 @@ after_piece true (asked ∷ others) piece s = piece_synchronizing piece s
 after_piece false word piece s = s
 
 -- the model `s` once a piece was heard: all tries are available again if it settled a command after the setup (`bytes_noted`),
--- and it is noted if the cycle was done early (`reckoned_early`). `before` is how many commands were outstanding before the
+-- and it is noted if the cycle was done early (`early_noted`). `before` is how many commands were outstanding before the
 -- piece
-abbrev pub reckoned : Plan → Until → ℕ → Model → Model
-reckoned plan until before s = with_progress (λ p. reckoned_early plan (commands_in s.marks) (bytes_noted plan until before (waiting_of s) p)) s
+abbrev pub piece_noted : Plan → Until → ℕ → Model → Model
+piece_noted plan until before s = with_progress (λ p. early_noted plan (commands_in s.marks) (bytes_noted plan until before (waiting_of s) p)) s
 
 -- the model `s` after `piece`, which came by the moment `m`: requests whose deadline has come time out first, and then the
 -- piece is heard
 abbrev pub piece_at : Plan → Until → List ℕ → Moment → Model → Model
 piece_at plan until piece m s =
-    reckoned plan until (commands_in s.marks) (after_piece (is_heard s.progress.phase) s.progress.word piece (with_moment m (with_progress (moment_noted m) s)))
+    piece_noted plan until (commands_in s.marks) (after_piece (is_heard s.progress.phase) s.progress.word piece (with_moment m (with_progress (moment_noted m) s)))
 
 -- the model `s` after a read with this result. The end of the connection, a failed read and a clock that can't be read are
 -- causes to close the connection
@@ -441,7 +411,7 @@ after_pass plan commands s (Told m) =
     let n = s.progress.next_others in
     let is_chained = is_chained_after n commands s.progress in
     let others = others_after n commands s.progress in
-    with_moment m (with_progress (λ p. reckoned_early plan (commands_in s.marks) (attempts_left_out is_chained others m p)) (with_passes (passes_next plan commands s.progress) s))
+    with_moment m (with_progress (λ p. early_noted plan (commands_in s.marks) (attempts_left_out is_chained others m p)) (with_passes (next_left_out plan commands s.progress) s))
 after_pass plan commands s _ = with_progress (failing cause.Clock) s
 
 -- the model `s` after a write: `f` changes it. If the bytes were cut, the connection is to be closed besides, for a cause that
@@ -462,8 +432,8 @@ after_close plan cause s = with_progress (closed plan (waiting_of s) cause) (wit
 
 -- the model `s` after an act that performs `action`, but without the turn that each act takes
 abbrev pub moved : Plan → List Task → Action → Model → Act → Model
-moved plan commands ReadClock s act = after_clock (λ m p. reckoned_early plan (commands_in s.marks) (moment_noted m p)) s act
-moved plan commands Renew s act = after_clock (λ m p. reckoned_early plan 0 (renewed plan m p)) s act
+moved plan commands ReadClock s act = after_clock (λ m p. early_noted plan (commands_in s.marks) (moment_noted m p)) s act
+moved plan commands Renew s act = after_clock (λ m p. early_noted plan 0 (renewed plan m p)) s act
 moved plan commands Begin s act = after_clock (cycle_begun plan (cycle_length plan commands)) s act
 moved plan commands Open s act = after_open plan s act
 moved plan commands Clear s act = after_put (commands_before plan commands s.progress) (with_progress cleared) s act
@@ -472,8 +442,8 @@ moved plan commands Prepare s act = after_put (commands_before plan commands s.p
 moved plan commands Send s act = after_put (commands_before plan commands s.progress)
     (λ (s : Model). with_progress (sent (is_chained_after_next commands s.progress) (others_after_next commands s.progress)) (asks_next plan commands s)) s act
 moved plan commands Skip s act =
-    after_clock (λ m p. reckoned_early plan (commands_in s.marks) (skipped (is_chained_after_next commands s.progress) (others_after_next commands s.progress) m p))
-    (with_listed (skip_listed plan commands s act) (with_records (skips plan commands s.progress act) s)) act
+    after_clock (λ m p. early_noted plan (commands_in s.marks) (skipped (is_chained_after_next commands s.progress) (others_after_next commands s.progress) m p))
+    (with_listed (listed_after_skip plan commands s act) (with_records (unsent_record plan commands s.progress act) s)) act
 moved plan commands Pass s act = after_pass plan commands s act
 moved plan commands Flush s act = after_put (commands_before plan commands s.progress) (λ (s : Model). with_progress request_noted (asks_null plan s)) s act
 moved plan commands (Read until) s act = after_read plan until s act

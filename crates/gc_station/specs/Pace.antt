@@ -1,4 +1,5 @@
--- How long a read waits, and which overrun is reported: this project's own.
+-- How long a read waits, and which overrun is reported: this project's own. Moments are by the clock for deadlines, in
+-- milliseconds.
 use Rattle.std.specs.Prelude.{ℕ, ◌-◌, ◌&&◌, Bool, not, if◌then◌else◌, nat_lt, min, max, Option, Some, None}
 use Rattle.gc_station.specs.declared.plan.Plan.{Plan}
 use Rattle.gc_station.specs.declared.progress.Phase.{Phase}
@@ -10,11 +11,12 @@ use Rattle.gc_station.specs.Deciding.{later, has_begun, dead_after, is_due}
 use Rattle.gc_station.specs.Model.{cycles_begun}
 use Rattle.gc_station.specs.Progressing.{is_idle}
 
--- the moment from which on the line is dead, if no reply line comes until then
+-- the moment from which on the line is dead, if no reply line comes until then and something is outstanding (`is_dead`)
 abbrev pub dead_at : Plan → Progress → ℕ
 dead_at plan p = later p.alive (dead_after plan)
 
--- the moment at which the next cycle is due: `every` milliseconds after the last one began
+-- the moment at which the next cycle is due: `every` milliseconds after `began`, the moment that counts as the beginning of the last
+-- one. It isn't that of the first cycle, which is due at once
 abbrev pub due_at : Plan → Progress → ℕ
 due_at plan p = later p.began plan.every
 
@@ -29,31 +31,31 @@ abbrev pub stale_at : Plan → ℕ → ℕ
 stale_at plan fresh = if nat_lt 0 plan.stale then later fresh plan.stale else 18446744073709551615
 
 -- how many milliseconds a read waits at most: a second if somebody may ask for the end of the run, otherwise a minute
-abbrev pub longest : Plan → ℕ
-longest plan = if plan.watched then 1000 else 60000
+abbrev pub longest_timeout : Plan → ℕ
+longest_timeout plan = if plan.watched then 1000 else 60000
 
 -- the moment at which a read in this phase ends if nothing comes, leaving out the deadlines of the outstanding requests: at the
 -- end of a pause or a drain, when the line is dead, or when a null procedure of the synchronization is sent again
-abbrev pub ends_in : Phase → Plan → Progress → ℕ
-ends_in phase.Pausing plan p = retry_at plan p
-ends_in phase.Draining plan p = later p.since plan.quiet
-ends_in _ plan p = if has_begun p then dead_at plan p else min p.again (dead_at plan p)
+abbrev pub read_end_in : Phase → Plan → Progress → ℕ
+read_end_in phase.Pausing plan p = retry_at plan p
+read_end_in phase.Draining plan p = later p.since plan.quiet
+read_end_in _ plan p = if has_begun p then dead_at plan p else min p.again (dead_at plan p)
 
--- as `ends_in`, except that a read that only waits for the next cycle ends when that cycle is due
-abbrev pub ends_without_deadline : Plan → Progress → Until → ℕ
-ends_without_deadline plan p Due = due_at plan p
-ends_without_deadline plan p Limit = ends_in p.phase plan p
+-- as `read_end_in`, except that a read that only waits for the next cycle ends when that cycle is due
+abbrev pub read_end_without_deadline : Plan → Progress → Until → ℕ
+read_end_without_deadline plan p Due = due_at plan p
+read_end_without_deadline plan p Limit = read_end_in p.phase plan p
 
--- the moment at which a read ends if nothing comes: `ends_without_deadline`, or the next deadline of a request if that is earlier
-abbrev pub ends_at : Plan → Progress → Until → Option ℕ → ℕ
-ends_at plan p until (Some deadline) = min deadline (ends_without_deadline plan p until)
-ends_at plan p until None = ends_without_deadline plan p until
+-- the moment at which a read ends if nothing comes: `read_end_without_deadline`, or the next deadline of a request if that is earlier
+abbrev pub read_end : Plan → Progress → Until → Option ℕ → ℕ
+read_end plan p until (Some deadline) = min deadline (read_end_without_deadline plan p until)
+read_end plan p until None = read_end_without_deadline plan p until
 
--- how many milliseconds a read waits: until `ends_at`, or until the run is stale if that is earlier, but at least one and at
--- most `longest`. `fresh` is when the last answer of a good quality was recorded, and `deadline` is the next deadline of a
+-- how many milliseconds a read waits: until `read_end`, or until the run is stale if that is earlier, but at least one and at
+-- most `longest_timeout`. `fresh` is when the last answer of a good quality was recorded, and `deadline` is the next deadline of a
 -- request, if any
-abbrev pub patience : Plan → Progress → ℕ → Until → Option ℕ → ℕ
-patience plan p fresh until deadline = min (max (min (ends_at plan p until deadline) (stale_at plan fresh) - p.moment.elapsed) 1) (longest plan)
+abbrev pub read_timeout : Plan → Progress → ℕ → Until → Option ℕ → ℕ
+read_timeout plan p fresh until deadline = min (max (min (read_end plan p until deadline) (stale_at plan fresh) - p.moment.elapsed) 1) (longest_timeout plan)
 
 -- whether the cycle that began last has overrun: it isn't missed, and wasn't done when the next one, which hasn't begun, was due
 abbrev pub has_overrun : Plan → Progress → Bool

@@ -16,12 +16,13 @@ use Rattle.gc_station.specs.declared.progress.Action.{Action}
 use Rattle.gc_station.specs.declared.progress.Action.TheVariants as action
 use Rattle.gc_links.specs.Acts.{Act, Told, Put, Cut, Gave, Silent}
 use Rattle.gc_station.specs.Deciding.{later, has_begun}
+use Rattle.gc_station.specs.Lists.{with_if}
 use Rattle.gc_station.specs.Progressing.{loses_all}
 use Rattle.gc_station.specs.Records.{Record}
 use Rattle.gc_station.specs.Requests.{asked_at}
 use Rattle.gc_station.specs.Model.{Model, action_at, place_next, mark_next, mark_setup, lines_completed, is_heard, after}
 
--- what happens while a station synchronizes
+-- one thing that happens while a station synchronizes. (It is no turn of a run, which is an act, and not the turn of a command.)
 pub data Turn : Type 0 where
   -- the null procedure of the first id that isn't answered is sent, whole or in part
   Asks : Turn
@@ -54,57 +55,57 @@ abbrev pub joined : Part → Part → Part
 joined p q = record { turns = p.turns ++ q.turns; steps = p.steps ++ q.steps; marks = p.marks ++ q.marks }
 
 -- the part that consists of one request: for `target`, with `call`, `deadline` and `mark` (`None` for a null procedure)
-abbrev pub asking : ℕ → Asked → ℕ → Option Mark → Part
-asking target call deadline mark = record { turns = []; steps = Send target call deadline ∷ []; marks = mark ∷ [] }
+abbrev pub request_part : ℕ → Asked → ℕ → Option Mark → Part
+request_part target call deadline mark = record { turns = []; steps = Send target call deadline ∷ []; marks = mark ∷ [] }
 
 -- the part that consists of the request for the first of these commands, sent at the moment `now` with `mark`; nothing if there
 -- is no command
-abbrev pub asking_first : ℕ → Mark → List Task → Part
-asking_first now mark [] = nothing
-asking_first now mark (task ∷ others) = asking task.command.target (call_at task mark.sent) (later now task.deadline) (Some mark)
+abbrev pub first_request_part : ℕ → Mark → List Task → Part
+first_request_part now mark [] = nothing
+first_request_part now mark (task ∷ others) = request_part task.command.target (call_at task mark.sent) (later now task.deadline) (Some mark)
 
 -- the part that consists of the request for the first of these commands of the setup, sent at the moment `now` with `mark`; if
 -- there is no command, of a null procedure
-abbrev pub asking_or_null : Plan → ℕ → Mark → List Task → Part
-asking_or_null plan now mark [] = asking 0 (Table NullProc) (later now plan.deadline) None
-asking_or_null plan now mark (task ∷ others) = asking task.command.target (call_at task mark.sent) (later now task.deadline) (Some mark)
+abbrev pub request_or_null_part : Plan → ℕ → Mark → List Task → Part
+request_or_null_part plan now mark [] = request_part 0 (Table NullProc) (later now plan.deadline) None
+request_or_null_part plan now mark (task ∷ others) = request_part task.command.target (call_at task mark.sent) (later now task.deadline) (Some mark)
 
 -- the part of an action that writes bytes, all of them or some, if the station has the model `s`: one request for `Flush`,
 -- `Prepare` and `Send`; nothing otherwise, as the line feed of `Clear` is no request
-abbrev pub putting : Plan → List Task → Model → Action → Part
-putting plan commands s action.Flush = asking 0 (Table NullProc) (later s.progress.moment.elapsed plan.deadline) None
-putting plan commands s action.Prepare = asking_or_null plan s.progress.moment.elapsed (mark_setup commands s.progress) (drop s.progress.prepared commands)
-putting plan commands s action.Send =
-    asking_first s.progress.moment.elapsed (mark_next plan commands s.progress) (drop (place_next commands s.progress) commands)
-putting plan commands s _ = nothing
+abbrev pub put_part : Plan → List Task → Model → Action → Part
+put_part plan commands s action.Flush = request_part 0 (Table NullProc) (later s.progress.moment.elapsed plan.deadline) None
+put_part plan commands s action.Prepare = request_or_null_part plan s.progress.moment.elapsed (mark_setup commands s.progress) (drop s.progress.prepared commands)
+put_part plan commands s action.Send =
+    first_request_part s.progress.moment.elapsed (mark_next plan commands s.progress) (drop (place_next commands s.progress) commands)
+put_part plan commands s _ = nothing
 
 -- the client's steps for `piece`, if `rest` are the bytes before it since the last line feed: if the piece is heard (`true`),
 -- it hears the lines that the piece completes; otherwise there are none, as if these lines were lost on the way
-abbrev pub hearing : Bool → List ℕ → List ℕ → List (Step Asked)
-hearing true rest piece = map Hear (lines_completed rest piece)
-hearing false rest piece = []
+abbrev pub heard_steps : Bool → List ℕ → List ℕ → List (Step Asked)
+heard_steps true rest piece = map Hear (lines_completed rest piece)
+heard_steps false rest piece = []
 
 -- the part of an act that performs `action`, once the station has synchronized; it has the model `s` before the act. A moment
 -- that is read times out requests whose deadline has come, and then the piece that came with the moment is heard
-abbrev pub doing : Plan → List Task → Model → Action → Act → Part
-doing plan commands s action (Told m) = only_steps (Expire m.elapsed ∷ [])
-doing plan commands s action (Silent m) = only_steps (Expire m.elapsed ∷ [])
-doing plan commands s action (Gave piece m) = only_steps (Expire m.elapsed ∷ hearing (is_heard s.progress.phase) s.rest piece)
-doing plan commands s action (Put bytes) = putting plan commands s action
-doing plan commands s action (Cut bytes count) = putting plan commands s action
-doing plan commands s action _ = nothing
+abbrev pub client_part : Plan → List Task → Model → Action → Act → Part
+client_part plan commands s action (Told m) = only_steps (Expire m.elapsed ∷ [])
+client_part plan commands s action (Silent m) = only_steps (Expire m.elapsed ∷ [])
+client_part plan commands s action (Gave piece m) = only_steps (Expire m.elapsed ∷ heard_steps (is_heard s.progress.phase) s.rest piece)
+client_part plan commands s action (Put bytes) = put_part plan commands s action
+client_part plan commands s action (Cut bytes count) = put_part plan commands s action
+client_part plan commands s action _ = nothing
 
 -- the part of an act that performs `action` while the station synchronizes; it has the model `s` before the act. The null
 -- procedure of the first id that isn't answered is sent, whole or in part, or the lines of a piece are heard
-abbrev pub beginning : Model → Action → Act → Part
-beginning s action.Ask (Put bytes) = only_turns (Asks ∷ [])
-beginning s action.Ask (Cut bytes count) = only_turns (Asks ∷ [])
-beginning s (action.Read until) (Gave piece m) = only_turns (if is_heard s.progress.phase then map Hears (lines_completed s.rest piece) else [])
-beginning s action act = nothing
+abbrev pub sync_part : Model → Action → Act → Part
+sync_part s action.Ask (Put bytes) = only_turns (Asks ∷ [])
+sync_part s action.Ask (Cut bytes count) = only_turns (Asks ∷ [])
+sync_part s (action.Read until) (Gave piece m) = only_turns (if is_heard s.progress.phase then map Hears (lines_completed s.rest piece) else [])
+sync_part s action act = nothing
 
 -- the part of an act that performs `action`, if the station has the model `s` before it
-abbrev pub acting : Plan → List Task → Model → Action → Act → Part
-acting plan commands s action act = if has_begun s.progress then doing plan commands s action act else beginning s action act
+abbrev pub part_of_act : Plan → List Task → Model → Action → Act → Part
+part_of_act plan commands s action act = if has_begun s.progress then client_part plan commands s action act else sync_part s action act
 
 -- whether a part ends with the act, if the station has the model `s` before it: after the act all outstanding requests are
 -- lost, because the station resynchronizes or no act follows. An act of a synchronization ends no part, because nothing is
@@ -123,7 +124,7 @@ in_front p false (q ∷ parts) = joined p q ∷ parts
 abbrev pub parts_of : Plan → List Task → Model → List Act → List Part
 parts_of plan commands s [] = nothing ∷ []
 parts_of plan commands s (act ∷ acts) =
-    in_front (acting plan commands s (action_at plan s) act) (ends_part plan commands s act) (parts_of plan commands (after plan commands s act) acts)
+    in_front (part_of_act plan commands s (action_at plan s) act) (ends_part plan commands s act) (parts_of plan commands (after plan commands s act) acts)
 
 -- a request with this mark asks for `a`: what the command of the mark asks if it is sent at the moment of the mark; if there is
 -- no mark, a null procedure
@@ -147,15 +148,10 @@ went_out Lost = true
 went_out Skipped = false
 went_out Missed = false
 
--- `rs`, with the record `r` before them if its command was sent (`true`)
-abbrev pub sent_with : Bool → Record → List Record → List Record
-sent_with true r rs = r ∷ rs
-sent_with false r rs = rs
-
 -- those of these records whose command was sent, in order
 abbrev pub sent_of : List Record → List Record
 sent_of [] = []
-sent_of (r ∷ rs) = sent_with (went_out r.end) r (sent_of rs)
+sent_of (r ∷ rs) = with_if (went_out r.end) r (sent_of rs)
 
 -- when the command of the record `r` was sent; 0 if it wasn't
 abbrev pub sent_at : Record → ℕ

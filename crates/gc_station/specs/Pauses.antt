@@ -37,7 +37,8 @@ LeavesTries _ = Unit {0}
 pub record TriesAndPausesAreCounted : Type 0 where
   -- at the start all tries are left, and the pause is 0
   pub start : (plan : Plan) (turns : ℕ) → ((at_start plan turns).tries ≡ plan.retries) × ((at_start plan turns).pause ≡ pause_after plan 0)
-  -- a failure makes the pause that of one failure more
+  -- a failure, the loss of a connection that isn't spared (`is_spared`) or an attempt that failed, makes the pause that of one
+  -- failure more
   pub failed : (plan : Plan) (commands n : ℕ) (why : Cause) (p : Progress) → is_spared plan why p ≡ false → p.pause ≡ pause_after plan n
       → (after_failure plan commands why p).pause ≡ pause_after plan (suc n)
   -- a failure takes one try, if one is left

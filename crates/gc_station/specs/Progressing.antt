@@ -49,13 +49,13 @@ at_start plan turns = record {
   stops = false;
 }
 
--- the progress `p` with one turn fewer left
+-- the progress `p` with one turn fewer left; none if none was
 abbrev pub turned : Progress → Progress
 turned p = record p { turns = p.turns - 1 }
 
 -- the progress once the moment `m` was read, by any act but a read that gave nothing: the quiet time counts from `m`. If the
 -- clock went back, so that the cycle's beginning (`began`) or the moment from which a dead line counts (`alive`) lies after
--- `m`, it becomes `m`: so the next cycle isn't put off
+-- `m`, it becomes `m`: so the next cycle isn't put off. If `m` asks for the end of the run, that stays asked for
 abbrev pub moment_noted : Moment → Progress → Progress
 moment_noted m p = record p { moment = m; since = m.elapsed; alive = min p.alive m.elapsed; began = min p.began m.elapsed; clock_due = false; stops = p.stops || m.stops }
 
@@ -65,10 +65,11 @@ abbrev pub cycle_start : Plan → Moment → Progress → ℕ
 cycle_start plan m p = if nat_eq p.left plan.cycles || nat_eq plan.every 0 then m.elapsed else min (later p.began plan.every) m.elapsed
 
 -- whether a cycle that would begin at the moment `m` is missed: the one after it is due by then
-abbrev pub is_missing : Plan → Moment → Progress → Bool
-is_missing plan m p = nat_lt 0 plan.every && nat_le plan.every (m.elapsed - cycle_start plan m p)
+abbrev pub is_missed_at : Plan → Moment → Progress → Bool
+is_missed_at plan m p = nat_lt 0 plan.every && nat_le plan.every (m.elapsed - cycle_start plan m p)
 
--- when a cycle that begins at the moment `m` was due, by the clock of time stamps, in milliseconds since 1970-01-01
+-- when a cycle that begins at the moment `m` was due, by the clock of time stamps, in milliseconds since 1970-01-01: as much before
+-- `m` as by the clock for deadlines, at the earliest 0
 abbrev pub due_of : Plan → Moment → Progress → ℕ
 due_of plan m p = m.utc - (m.elapsed - cycle_start plan m p)
 
@@ -79,24 +80,24 @@ cycle_begun plan count m p =
     record q {
       began = cycle_start plan m p;
       due = due_of plan m p;
-      missed = is_missing plan m p;
+      missed = is_missed_at plan m p;
       early = false;
       left = p.left - 1;
       unsent = count;
-      next_is_chained = is_missing plan m p;
+      next_is_chained = is_missed_at plan m p;
       next_others = 0;
       chain_unbroken = false;
       preparing = false;
     }
 
--- the moment in the record of a command that is left out at the moment `m`: if its cycle is missed, the moment at which the
--- cycle was due; otherwise `m`
+-- the moment in the record of a command that isn't sent, by the clock of time stamps: if its cycle is missed, the moment at which
+-- the cycle was due; otherwise `m`, the moment read for that record
 abbrev pub skipped_at : Moment → Progress → ℕ
 skipped_at m p = if p.missed then p.due else m.utc
 
--- the progress after the next command was left out at the moment `m`. `next_is_chained`: whether the command after it is sent
--- only once this one was answered well. `others`: if that one begins a further attempt of its chain, how many commands this and
--- the chain's later attempts have together; otherwise 0
+-- the progress once the next command was recorded at the moment `m` without being sent. `next_is_chained`: whether the command
+-- after it is sent only once the one before it was answered well. `others`: if the command after it begins a further attempt of its
+-- chain, how many commands this and the chain's later attempts have together; otherwise 0
 abbrev pub skipped : Bool → ℕ → Moment → Progress → Progress
 skipped next_is_chained others m p =
     let q = moment_noted m p in record q { unsent = p.unsent - 1; next_is_chained = next_is_chained; next_others = others; chain_unbroken = false; preparing = false }
@@ -122,15 +123,15 @@ is_spared plan cause.Open p = false
 is_spared plan _ p = is_idle plan p
 
 -- the phase after the loss of a connection, or after an attempt that failed, while `commands` commands are outstanding: the run
--- is done, or it tries again, or without a try left it is over for this cause
+-- is done; or it tries again, if a try is left or none is needed (`is_spared`); or it is over for this cause
 abbrev pub phase_again : Plan → ℕ → Cause → Progress → Phase
 phase_again plan commands why p =
     if is_finished commands p then phase.Over cause.Done
     else if is_spared plan why p || nat_lt 0 p.tries then phase.Pausing
     else phase.Over why
 
--- the length of the next pause: the quiet time after a first failure, and after each further one twice the last pause, up to a
--- minute. If no connection is wanted it is the last pause. It is never below the quiet time
+-- the length of the next pause, in milliseconds: the quiet time after a first failure, and after each further one twice the last
+-- pause, up to a minute. Where no try is taken (`is_spared`) it is the last pause. It is never below the quiet time
 abbrev pub pause_again : Plan → Cause → Progress → ℕ
 pause_again plan why p = if is_spared plan why p then max p.pause plan.quiet else max (min (later p.pause p.pause) 60000) plan.quiet
 
@@ -165,8 +166,8 @@ cleared p = record p { phase = if has_begun p then phase.Draining else phase.Rea
 abbrev pub one_more_in_window : ℕ → ℕ
 one_more_in_window n = if nat_lt n WINDOW then n + 1 else n
 
--- the progress after a request was sent: one more was sent after the last call of the table that a reply ended (`behind`). The
--- time after which the line is dead begins with the first request after a reply line
+-- the progress after a request was sent: one more was sent after the last call of the table that a reply ended (`behind`, up to
+-- seven). The time after which the line is dead begins with the first request after a reply line or on a connection
 abbrev pub request_noted : Progress → Progress
 request_noted p = record p { alive = if p.asked then p.alive else p.moment.elapsed; asked = true; clock_due = true; behind = one_more_in_window p.behind }
 
@@ -189,17 +190,18 @@ sent next_is_chained others p = let q = request_noted p in record q { unsent = p
 abbrev pub setup_sent : Plan → Progress → Progress
 setup_sent plan p = let q = request_noted p in record q { prepared = min (p.prepared + 1) plan.setup; chain_unbroken = false }
 
--- the progress after a line was heard: a reply line (`is_reply`) shows that the line is alive
+-- the progress after a line was heard. If it is a reply (`is_reply`), it shows that the other end is alive; any other line changes
+-- nothing
 abbrev pub line_noted : Bool → Progress → Progress
 line_noted is_reply p = record p { alive = if is_reply then p.moment.elapsed else p.alive; asked = if is_reply then false else p.asked }
 
--- the progress once a line settled requests, of which `waiting` are still outstanding: if the last of them, which the line
--- answers, is a call of the table (`of_table`), the outstanding requests are those sent after it
+-- the progress once a line was heard after which `waiting` requests are outstanding. `of_table`: it settled requests, and the last of
+-- them, to which it is the reply, is a call of the table. Then the outstanding requests are those sent after that call
 abbrev pub caught_up : Bool → ℕ → Progress → Progress
 caught_up of_table waiting p = record p { behind = if of_table then waiting else p.behind }
 
 -- the progress once a line with this id, or with none, was heard while the station synchronizes: if the line answers the first
--- null procedure that is left, the next null procedure is sent at once
+-- null procedure that is left, the next null procedure, if there is one, is sent at once
 abbrev pub answered : Option ℕ → Progress → Progress
 answered id p = record p { word = left_by p.word id; again = if is_answered p.word id then 0 else p.again }
 
@@ -218,14 +220,13 @@ abbrev pub early_after : Until → Bool → Bool
 early_after Due early = true
 early_after Limit early = early
 
--- whether bytes give all tries back: they settled a command, since fewer than `before` are outstanding after them, and a
--- command of a cycle had its turn after the setup
+-- whether bytes give all tries back: they settled a command, since fewer than `before` are outstanding after them, and the setup,
+-- if there is one, is over (`preparing` is false)
 abbrev pub gives_back : ℕ → Waiting → Progress → Bool
 gives_back before after p = nat_lt after.commands before && not p.preparing
 
 -- the progress after bytes that came: `before` commands were outstanding before them, and `after` counts what is outstanding
--- after them. If a command was settled once a command of a cycle had its turn after the setup, all tries are available again,
--- and the next pause is the quiet time
+-- after them. If `gives_back` says so, all tries are available again, and the next pause is the quiet time
 abbrev pub bytes_noted : Plan → Until → ℕ → Waiting → Progress → Progress
 bytes_noted plan until before after p = record p {
   early = early_after until p.early;
@@ -267,9 +268,9 @@ abbrev pub silent : Plan → Until → Moment → Progress → Progress
 silent plan until m p = quieted plan p.phase (time_passed until m p)
 
 -- the progress where `commands` commands are outstanding: the cycle was done early if nothing of it is left and the next one
--- isn't due yet
-abbrev pub reckoned_early : Plan → ℕ → Progress → Progress
-reckoned_early plan commands p = record p { early = p.early || (nat_eq commands 0 && nat_eq p.unsent 0 && not (is_due plan p)) }
+-- isn't due yet, or if that was noted before
+abbrev pub early_noted : Plan → ℕ → Progress → Progress
+early_noted plan commands p = record p { early = p.early || (nat_eq commands 0 && nat_eq p.unsent 0 && not (is_due plan p)) }
 
 -- the progress at the end of a run for the cause `why`: no further connection is made
 abbrev pub ended_for : Cause → Progress → Progress

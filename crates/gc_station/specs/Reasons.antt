@@ -11,8 +11,8 @@ use Rattle.gc_station.specs.declared.progress.Progress.{Progress}
 use Rattle.gc_station.specs.declared.progress.Waiting.{Waiting}
 use Rattle.gc_station.specs.Deciding.{width_of, has_begun, is_up, is_idle, is_dead, is_stale, may_go, is_preparing}
 
--- another request may be sent: fewer are in flight than `width_of` allows, and fewer are outstanding in all than the window has
--- places
+-- another request may be sent: fewer that haven't timed out are in flight than `width_of` allows, and fewer are outstanding in all
+-- than the window has places
 abbrev pub HasRoom : Plan → Waiting → Type 0
 HasRoom plan w = (w.current < width_of plan) × (w.all < WINDOW)
 
@@ -21,8 +21,9 @@ HasRoom plan w = (w.current < width_of plan) × (w.all < WINDOW)
 abbrev pub IsHeld : Progress → Type 0
 IsHeld p = (p.unsent ≡ 0) ⊎ ((p.next_is_chained ≡ true) ⊎ (0 < p.next_others))
 
--- the station is between two chains: no command of the cycle is left, or the next one begins a chain, or no command of a cycle
--- had its turn since the connection was made and the station synchronized
+-- the station is between two chains: no command of the cycle is left, or the next one begins a chain or a further attempt of one; or
+-- there is a setup, and since the connection was made and the station synchronized no cycle began or went on (`preparing`). In a missed
+-- cycle all commands count as one chain
 abbrev pub IsBetween : Progress → Type 0
 IsBetween p = (p.unsent ≡ 0) ⊎ ((p.next_is_chained ≡ false) ⊎ (p.preparing ≡ true))
 
@@ -49,8 +50,9 @@ NothingMayGo plan p w =
     ⊎ ((width_of plan ≤ w.current) ⊎ ((WINDOW ≤ w.all) ⊎ (((IsHeld p ⊎ SetUpWaits plan p w) × (0 < w.commands) × (0 < w.current))
     ⊎ (((WINDOW ≤ p.behind) × (0 < w.current)) ⊎ ((p.stops ≡ true) × IsBetween p × (0 < w.current))))))
 
--- the next command may be sent: it is the first of its chain; or all that were sent are settled, the one before it was answered
--- well, and since that was sent no connection was closed, and the station didn't resynchronize
+-- the next command may be sent, as far as its chain goes: it is the first of its chain, or of a further attempt, of which `MayRetry`
+-- says more; or all that were sent are settled, the one before it was answered well, and since that was sent no connection was closed,
+-- and the station didn't resynchronize
 abbrev pub MayGo : Progress → Waiting → Type 0
 MayGo p w = (p.next_is_chained ≡ false) ⊎ ((w.commands ≡ 0) × (w.well ≡ true) × (p.chain_unbroken ≡ true))
 

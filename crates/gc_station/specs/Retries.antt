@@ -1,10 +1,11 @@
 -- Chains that are sent again, this project's own: a further attempt of a chain is sent only if a command of the attempt before
--- ended as its rule names, and it is left out only if none did. An act is one call on the link, with its result.
+-- ended as its rule names, and it is left out only if none did, or its cycle is missed. An act is one call on the link, with its
+-- result.
 use Rattle.std.specs.Prelude.{◌≡◌, ◌⊎◌, ℕ, ◌<◌, Bool, true, false, nat_eq, List, ◌∷◌, ◌++◌, drop, Option, None}
 use Rattle.std.specs.List.{AllByRecursion}
 use Rattle.gc_catalogue.specs.declared.answer.Reading.{Reading}
 use Rattle.gc_catalogue.specs.declared.asked.Asked.{Asked}
-use Rattle.gc_texts.specs.Again.{is_named, no_again}
+use Rattle.gc_texts.specs.Again.{repeats_after, no_again}
 use Rattle.gc_texts.specs.Endings.{End, Answered}
 use Rattle.gc_texts.specs.declared.again.Again.{Again}
 use Rattle.gc_texts.specs.declared.tasks.Task.{Task}
@@ -48,7 +49,7 @@ code_of_end reads call _ = None
 
 -- whether the record `r` is of a command that ended as the rule of its chain names
 abbrev pub is_listed : (Asked → List ℕ → Reading) → List Task → Record → Bool
-is_listed reads commands r = is_named (rule_at commands r.cycle r.place) (code_of_end reads r.command.call r.end) r.end
+is_listed reads commands r = repeats_after (rule_at commands r.cycle r.place) (code_of_end reads r.command.call r.end) r.end
 
 -- among `records` is one (`one`) of a command that ended as the rule of its chain names; and no attempt begins after it
 -- (`same`), so it is of the same attempt as the last record

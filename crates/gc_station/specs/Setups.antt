@@ -1,7 +1,7 @@
 -- The setup, this project's own: the first commands of the list are sent once on each connection, and once after each
 -- synchronization, before any command of a cycle. Each is sent only after the good answer of the one before it. An act is one
 -- call on the link, with its result.
-use Rattle.std.specs.Prelude.{◌≡◌, ◌⊎◌, ℕ, ◌+◌, ◌<◌, ◌≤◌, Bool, true, false, nat_eq, List, [], ◌∷◌, ◌++◌, length, drop, map, Option, Some, None}
+use Rattle.std.specs.Prelude.{◌≡◌, ◌⊎◌, ℕ, ◌+◌, ◌<◌, ◌≤◌, true, nat_eq, List, [], ◌∷◌, ◌++◌, length, drop, map, Option, Some, None}
 use Rattle.gc_texts.specs.declared.tasks.Task.{Task}
 use Rattle.gc_links.specs.Acts.{Act}
 use Rattle.gc_station.specs.declared.cause.Cause.{Cause}
@@ -10,6 +10,7 @@ use Rattle.gc_station.specs.declared.plan.Plan.{Plan}
 use Rattle.gc_station.specs.declared.progress.Action.{Action}
 use Rattle.gc_station.specs.declared.progress.Action.TheVariants.{Prepare, Send, Stop}
 use Rattle.gc_station.specs.Deciding.{has_begun, later}
+use Rattle.gc_station.specs.Lists.{with_if}
 use Rattle.gc_station.specs.Marks.{is_well}
 use Rattle.gc_station.specs.Model.{Model, opening, action_at, mark_setup, after, Runs}
 use Rattle.gc_station.specs.Quiet.{KeepsOpen}
@@ -19,7 +20,7 @@ use Rattle.gc_station.specs.Scopes.{Scope}
 
 -- Which commands of the setup were sent.
 
--- a command that was sent, or left out
+-- a command that was sent, or recorded without being sent
 pub record Dispatch : Type 0 where
   -- its cycle, counted from 1; 0 for a command of the setup
   pub cycle : ℕ
@@ -44,15 +45,10 @@ dispatches_of [] = []
 dispatches_of (None ∷ marks) = dispatches_of marks
 dispatches_of (Some mark ∷ marks) = dispatch_of_mark mark ∷ dispatches_of marks
 
--- `xs`, with `x` before them if it is of the setup (`true`)
-abbrev pub setup_with : Bool → Dispatch → List Dispatch → List Dispatch
-setup_with true x xs = x ∷ xs
-setup_with false x xs = xs
-
 -- those of these commands that are of the setup, which has cycle 0
 abbrev pub of_setup : List Dispatch → List Dispatch
 of_setup [] = []
-of_setup (x ∷ xs) = setup_with (nat_eq x.cycle 0) x (of_setup xs)
+of_setup (x ∷ xs) = with_if (nat_eq x.cycle 0) x (of_setup xs)
 
 -- the first of these commands, as it is sent with `mark`; none if there is no command
 abbrev pub sent_first : Mark → List Task → List Dispatch
@@ -140,7 +136,7 @@ NoneBeforeTheSetUp =
     → action_at plan (state_after plan commands scope acts) ≡ Send → ArePrepared plan commands scope acts plan.setup
 
 -- a command of the setup is sent only once each one before it was answered well, on its connection, and after its
--- synchronization
+-- synchronization, if the list has at least `plan.setup` commands
 abbrev pub SetUpInOrder : Type 0
 SetUpInOrder =
     (plan : Plan) (commands : List Task) (scope : Scope) (acts : List Act) → Runs plan commands (opening plan scope) acts → plan.setup ≤ length commands

@@ -32,8 +32,8 @@ abbrev pub IsMute : Plan → List Task → Model → List Act → Type 0
 IsMute plan commands s [] = Unit {0}
 IsMute plan commands s (act ∷ acts) = BringsNoReply s.rest act × IsMute plan commands (after plan commands s act) acts
 
--- after `acts` the clock goes back to the moment `from`: one of them read a moment (`told`), and the last one read is later
--- than `from`
+-- after `acts` the clock goes back to the moment `from`: one of them (`act`) read a moment, and the moment that was read last is
+-- later than `from`
 pub record WentBack (from : ℕ) (acts : List Act) : Type 0 where
   pub earlier : List Act
   pub act : Act

@@ -14,11 +14,12 @@ use Rattle.gc_texts.specs.declared.wish.Wish.{Wish}
 use Rattle.gc_station.specs.declared.plan.Plan.{Plan}
 use Rattle.gc_station.specs.declared.cause.Cause.TheVariants as cause
 use Rattle.gc_station.specs.declared.progress.Action.{Action}
-use Rattle.gc_station.specs.declared.progress.Action.TheVariants.{Prepare, Send, Skip, Ask, Flush, Stop}
+use Rattle.gc_station.specs.declared.progress.Action.TheVariants.{Prepare, Send, Skip, Ask, Flush, Read, Stop}
 use Rattle.gc_station.specs.declared.progress.Progress.{Progress}
+use Rattle.gc_station.specs.declared.progress.Until.{Until}
 use Rattle.gc_station.specs.declared.progress.Waiting.{Waiting}
 use Rattle.gc_station.specs.declared.station.Station.{Station}
-use Rattle.gc_station.specs.declared.station.sending.Asking.{Asking}
+use Rattle.gc_station.specs.declared.station.sending.Outgoing.{Outgoing}
 use Rattle.gc_station.specs.declared.mark.Mark.{Mark}
 use Rattle.gc_catalogue.specs.declared.asked.Asked.TheVariants.{Table}
 use Rattle.gc_catalogue.specs.declared.call.Call.TheVariants.{NullProc}
@@ -30,7 +31,7 @@ use Rattle.gc_station.specs.Scopes.{AreReadings}
 use Rattle.gc_station.specs.Progressing.{turned, failing}
 use Rattle.gc_station.specs.Records.{Record, texts_of, WritesPart}
 use Rattle.gc_station.specs.Requests.{command_at}
-use Rattle.gc_station.specs.Model.{Model, Performs, moved, ended, with_progress, is_heard, lines_came, after_piece, sent_to, skips, listed_unsent}
+use Rattle.gc_station.specs.Model.{Model, Performs, moved, ended, with_progress, is_heard, lines_came, after_piece, sent_to, unsent_record, listed_unsent}
 use Rattle.gc_station.specs.Tallies.{nothing_yet, tallied}
 
 -- what a decision looks at besides the progress, of a station: how many requests are outstanding in all, of those that haven't
@@ -139,6 +140,11 @@ abbrev pub Moves : {X E : Type 0} → Plan → List Task → Action → (Record 
 Moves plan commands action text told told' taken taken' old new result =
     Made commands action (moved plan commands action) (seen told text taken old) (seen told' text taken' new) result
 
+-- the station `old`, which became `new`, made a read that ends as `until` says (`Moves`), whatever its commands are
+abbrev pub MovesByReading : {X E : Type 0} → Plan → Until → (Record → List ℕ) → (told told' : Option (List Act)) → (taken taken' : Option (List ℕ)) → (old new : Station) → Result X E → Type 0
+MovesByReading plan until text told told' taken taken' old new result =
+    (commands : List Task) → Moves plan commands (Read until) text told told' taken taken' old new result
+
 -- the model `s` after an act that performs `action`: a turn is taken, then `moved`, and then all outstanding requests are lost
 -- if `ended` says so
 abbrev pub stepped : Plan → List Task → Action → Model → Act → Model
@@ -200,7 +206,7 @@ station_asking command wait mark station = record station {
 -- the station once the record of its next command, which isn't sent, is written at the moment `moment`, counted and noted
 abbrev pub station_skipping : Plan → List Task → Moment → Station → Station
 station_skipping plan commands moment station = record station {
-  tally = tallied station.tally (skips plan commands station.progress (Told moment));
+  tally = tallied station.tally (unsent_record plan commands station.progress (Told moment));
   well = false;
   listed = listed_unsent plan commands station.progress station.listed;
 }
@@ -218,7 +224,7 @@ DropsSettledMarks old new = new ≡ record old {
 
 -- what `next_setup` of a station returns: the request for the first of these commands of the setup, with `mark`; if there is no
 -- command, the request for a null procedure
-abbrev pub setup_asked : Plan → Mark → List Task → Asking
+abbrev pub setup_asked : Plan → Mark → List Task → Outgoing
 setup_asked plan mark [] = record { command = record { target = 0; call = Table NullProc }; wait = plan.deadline; mark = None }
 setup_asked plan mark (task ∷ others) = record { command = command_at mark.sent task; wait = task.deadline; mark = Some mark }
 

@@ -103,8 +103,8 @@ GoesOnInItsChain =
     × (action_at plan (state_after plan commands scope acts) ≡ Begin → ⊥) × (action_at plan (state_after plan commands scope acts) ≡ Prepare → ⊥)
 
 -- if a connection is closed, or a run ends, because that was asked for, a moment was read at which it was; and there is no
--- connection, or the station synchronizes, or it is between two chains and nothing is in flight that hasn't timed out. No
--- command of a chain that has begun is left that may be sent
+-- connection, or the station synchronizes, or it is between two chains, or two attempts of one, and nothing is in flight that hasn't
+-- timed out. No command of an attempt that has begun is left that may be sent
 abbrev pub ClosesBetweenChains : Type 0
 ClosesBetweenChains =
     (plan : Plan) (commands : List Task) (scope : Scope) (acts : List Act) → Runs plan commands (opening plan scope) acts

@@ -52,7 +52,7 @@ abbrev pub NoneSettled : Plan → List Task → Model → List Act → Type 0
 NoneSettled plan commands s [] = Unit {0}
 NoneSettled plan commands s (act ∷ acts) = SettlesNone s act (after plan commands s act) × NoneSettled plan commands (after plan commands s act) acts
 
--- the last of `acts` is a read that settled a command, and a command of a cycle had its turn since the setup
+-- the last of `acts` is a read that settled a command, and the setup, if there is one, was over by then (`preparing` is false)
 pub record EndsSettled (plan : Plan) (commands : List Task) (scope : Scope) (acts : List Act) : Type 0 where
   pub earlier : List Act
   pub piece : List ℕ
@@ -61,9 +61,9 @@ pub record EndsSettled (plan : Plan) (commands : List Task) (scope : Scope) (act
   pub settled : (state_after plan commands scope acts).records ≢ (state_after plan commands scope earlier).records
   pub prepared : (state_after plan commands scope acts).progress.preparing ≡ false
 
--- `behind` are the acts after the last one of `acts` that settled a command, or all acts if none did. Among them more
--- connections ended or couldn't be made than the plan has tries (`ended`). At least as many connections as the plan has tries
--- were asked for meanwhile (`opened`), and more if `behind` are all acts (`first`)
+-- `behind` are the acts after the last one of `acts` that settled a command once the setup was over (`EndsSettled`), or all acts
+-- if none did. Among them more connections ended or couldn't be made than the plan has tries (`ended`). At least as many
+-- connections as the plan has tries were asked for meanwhile (`opened`), and more if `behind` are all acts (`first`)
 pub record AllTried (plan : Plan) (commands : List Task) (scope : Scope) (acts : List Act) : Type 0 where
   pub before : List Act
   pub behind : List Act

@@ -1,10 +1,9 @@
 -- No part of a promise: what is written and noted of the settlements of outstanding requests.
-use Rattle.std.specs.Prelude.{◌≡◌, ℕ, Bool, List, [], ◌∷◌, map, Option, Result, All, OnOk}
+use Rattle.std.specs.Prelude.{◌≡◌, ℕ, Bool, List, [], ◌∷◌, map, Option, Result, OnOk}
 use Rattle.gc_catalogue.specs.declared.answer.Reading.{Reading}
 use Rattle.gc_catalogue.specs.declared.asked.Asked.{Asked}
-use Rattle.gc_catalogue.specs.Asked.{IsAskedReading}
 use Rattle.gc_client.specs.Rule
-use Rattle.gc_client.specs.Settlements.{settlement_seen, IsReadBy}
+use Rattle.gc_client.specs.Settlements.{settlement_seen}
 use Rattle.gc_client.specs.declared.settlement.Settlement.{Settlement}
 use Rattle.gc_links.specs.declared.link.Moment.{Moment}
 use Rattle.gc_station.specs.Attempts.{listed_by}
@@ -16,18 +15,14 @@ use Rattle.gc_station.specs.declared.mark.Mark.{Mark}
 use Rattle.gc_station.specs.declared.station.Station.{Station}
 use Rattle.gc_station.specs.declared.tally.Counts.{Counts}
 
--- the reading of each of these settlements, if it has one, is that of its line for what was asked
-abbrev pub AreRead : List (Settlement Asked) → Type 0
-AreRead settlements = All (λ s. IsReadBy IsAskedReading s.call s.outcome) settlements
-
--- of any single settlement the marks `a` and the marks `b` give the same record, if the oldest outstanding request has the first
--- mark
+-- of any one settlement, which is of the request with the first mark, the marks `a` give the same record as the marks `b`, or both
+-- give none
 abbrev pub GiveSameRecord : (a b : List (Option Mark)) → Type 0
 GiveSameRecord a b =
     (reads : Asked → List ℕ → Reading) (utc : ℕ) (settlement : Rule.Settlement Asked) → records_of reads utc a (settlement ∷ []) ≡ records_of reads utc b (settlement ∷ [])
 
--- after any single settlement a command of the current attempt has ended as its rule names by the marks `a` exactly if it has
--- by the marks `b`, if the oldest outstanding request has the first mark
+-- after any one settlement, which is of the request with the first mark, a command of the current attempt has ended as its rule
+-- names by the marks `a` exactly if one has by the marks `b`
 abbrev pub ListAlike : (a b : List (Option Mark)) → Type 0
 ListAlike a b =
     (reads : Asked → List ℕ → Reading) (listed : Bool) (settlement : Rule.Settlement Asked) → listed_by reads listed a (settlement ∷ []) ≡ listed_by reads listed b (settlement ∷ [])

@@ -12,9 +12,10 @@ use gc_texts::{Ending, Stamp, Wish};
 /// The health of the link before an act, for whoever watches the station.
 #[derive(Clone, Copy, Debug, PartialEq, Eq)]
 pub enum LinkHealth {
-    /// Requests are sent and are answered.
+    /// None of the others: requests are sent, and are answered.
     Fine,
-    /// All that is left is to wait for the next cycle.
+    /// No command of the cycle is left, and each one that was sent is settled; or there is no connection, and none is wanted until the
+    /// next cycle is due.
     Idle,
     /// There is no connection, though one is wanted.
     Unconnected,
@@ -69,7 +70,8 @@ pub trait Book {
         ensures is_durable { is_durable self.new ≡ is_durable self.old }
         ensures form { text self.new ≡ text self.old };
 
-    /// Takes note that this cycle was not done when the next was due.
+    /// Takes note that this cycle, counted from 1, was not done when the next was due. It is called at most once for a cycle, and
+    /// for none that was missed.
     fn overran(&mut self, cycle: u64)
         ensures reports { Appends (overruns self.old) (overruns self.new) (cycle ∷ []) }
         ensures same { taken self.new ≡ taken self.old }

@@ -10,8 +10,8 @@ use gc_texts::RunFault;
 pub enum Cause {
     /// Each command of each cycle is settled.
     Done,
-    /// No command may be sent, and no reply line came for twice the longest deadline, counted from the last reply line or from
-    /// the first request that was sent after that.
+    /// No command may be sent, and no reply line came for twice the longest deadline, counted from the last reply line, or from
+    /// the first request that was sent after that or on this connection.
     Dead,
     /// A read failed.
     Read,

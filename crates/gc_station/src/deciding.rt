@@ -1,11 +1,14 @@
 //! What a station does next, by how far it is and what is outstanding. All decisions are made here, by looking at nothing else.
 //!
-//! The table lists the actions that may be next in each phase, of which the first that fits is taken, and the phase after each.
-//! In all phases but `Closing` and `Over` two come first: if no turn is left, `Close(Turns)`, or without a connection
-//! `Stop(Turns)`; and where something was sent, or a connection was closed or couldn't be made, since a moment was read
-//! (`clock_due`), `ReadClock`, which times out the requests whose deadline has come, and changes no phase. Between these two, with
-//! or without a connection: if no answer of a good quality was recorded for as long as the plan allows, `Close(Stale)`; and if
-//! the end of the run was asked for and the station rests (`is_resting`), `Close(Stopped)`.
+//! In all phases but `Closing` and `Over` four cases come first, in this order:
+//! 1. No turn is left: `Close(Turns)`, or without a connection `Stop(Turns)`.
+//! 2. No answer of a good quality was recorded for as long as the plan allows: `Close(Stale)`, with or without a connection.
+//! 3. The end of the run was asked for, and the run may end here (`is_resting`): `Close(Stopped)`, with or without a connection.
+//! 4. Something was sent, or a connection was closed or couldn't be made, since a moment was read (`clock_due`): `ReadClock`,
+//!    which times out the requests whose deadline has come, and changes no phase.
+//!
+//! In any other case the table lists the actions that may be next in each phase, of which the first that fits is taken, and the
+//! phase after each.
 //!
 //! | Phase | Where | Action | What the action does | Next phase |
 //! |---|---|---|---|---|
@@ -49,10 +52,11 @@
 //! cause it is `Over(Done)` if nothing is left to be sent and no command is outstanding; `Pausing` if a try is left or none is
 //! needed; and else `Over` for that cause.
 //!
-//! If a call of the link fails, or a write is cut, `Closing` for that cause follows, and without a connection `Over`.
+//! If a call of the link other than `open` fails, a write is cut, or the other end closes the connection, `Closing` for that cause
+//! follows, and without a connection `Over`.
 
 ghost use Rattle.std.specs.Prelude.{◌≡◌};
-ghost use Rattle.gc_station.specs.Deciding.{is_dead, is_due, goes_on, is_finished, has_room, may_go, waits_for_all, action_again, action_of, action_on, action_ready, action_begun, action_beginning, action_next, action_room, action_sent, action_settled, action_done, action_waiting, is_stale, is_between, is_resting, is_stopping, is_held_back, action_cycle, action_turn, action_preparing, is_preparing};
+ghost use Rattle.gc_station.specs.Deciding.{is_dead, is_due, goes_on, is_finished, has_room, may_go, waits_for_all, action_again, action_of, action_on, action_ready, action_begun, action_beginning, action_next, action_room, action_sent, action_settled, action_done, action_waiting, is_stale, is_between, is_resting, is_stopping, is_held_back, action_cycle, action_next_of_setup, action_preparing, is_preparing};
 
 use crate::cause::Cause;
 use crate::plan::Plan;
@@ -60,8 +64,8 @@ use crate::progress::{Action, Phase, Progress, Until, Waiting, dead_after, width
 use gc_client::WINDOW;
 
 impl Progress {
-    // Whether the line is dead: a request is outstanding, or a null procedure of the synchronization was sent on this
-    // connection, and no reply line came for `dead_after`.
+    // Whether the line is dead: a request is outstanding, or the null procedure of the first id that isn't answered was sent on this
+    // connection (`again`); and no reply line came for `dead_after`, counted from `alive`.
     fn is_dead(&self, plan: &Plan, waiting: Waiting) -> bool
         ensures { result ≡ is_dead plan.now self.now waiting }
     {
@@ -69,15 +73,16 @@ impl Progress {
             && dead_after(plan) <= self.moment.elapsed.saturating_sub(self.alive)
     }
 
-    // Whether no answer of a good quality was recorded for as long as the plan allows.
+    // Whether no answer of a good quality was recorded for as long as the plan allows; `false` if it sets no limit (`stale` is 0).
     fn is_stale(&self, plan: &Plan, waiting: Waiting) -> bool
         ensures { result ≡ is_stale plan.now self.now waiting }
     {
         plan.stale > 0 && plan.stale <= self.moment.elapsed.saturating_sub(waiting.fresh)
     }
 
-    // Whether the station is between two chains: no command of the cycle is left, or the next one begins a chain, or the setup
-    // comes first.
+    // Whether the station is between two chains: no command of the cycle is left, or the next one begins a chain or a further attempt of
+    // one; or there is a setup, and since the connection was made and the station synchronized no cycle began or went on (`preparing`),
+    // so that no chain goes on. In a missed cycle all commands count as one chain.
     fn is_between(&self) -> bool
         ensures { result ≡ is_between self.now }
     {
@@ -107,7 +112,8 @@ impl Progress {
         (self.stops && self.is_between()) && waiting.current > 0
     }
 
-    // Whether the next cycle is due: the first at once, and each other one `every` milliseconds after the one before it began.
+    // Whether the next cycle is due: the first at once, and each other one `every` milliseconds after `began`, the moment that counts
+    // as the beginning of the one before it. Whether a cycle is left (`left`) isn't looked at.
     pub(crate) fn is_due(&self, plan: &Plan) -> bool
         ensures { result ≡ is_due plan.now self.now }
     {
@@ -117,7 +123,8 @@ impl Progress {
         plan.every <= self.moment.elapsed.saturating_sub(self.began)
     }
 
-    // Whether commands are left that needn't wait for a due moment: some of this cycle, or the next cycle is due.
+    // Whether the station goes on without waiting for a due moment: some commands of this cycle are left, or the next cycle is due
+    // (`is_due`, which doesn't look whether there is one).
     pub(crate) fn goes_on(&self, plan: &Plan) -> bool
         ensures { result ≡ goes_on plan.now self.now }
     {
@@ -136,7 +143,8 @@ impl Progress {
         }
     }
 
-    // The next action if the run isn't over and the connection isn't to be closed for a cause already.
+    // The next action if the run isn't over and the connection isn't to be closed for a cause already: the four cases that come first
+    // in the table above, and then that of the phase.
     fn action_on(&self, plan: &Plan, waiting: Waiting) -> Action
         ensures { result ≡ action_on plan.now self.now waiting }
     {
@@ -187,8 +195,9 @@ impl Progress {
     }
 
     // The next action while the station synchronizes: to send the null procedure of the first id that isn't answered, for the
-    // first time or again at its deadline. Nothing is sent between cycles, nor if no command is left to be sent after the
-    // synchronization.
+    // first time or again at its deadline, and to read until then. Nothing is sent if no command is left to be sent or is outstanding
+    // (the connection is closed: the run is done), nor between cycles (it reads until the next is due), nor over a dead line (the
+    // connection is closed).
     fn action_beginning(&self, plan: &Plan, waiting: Waiting) -> Action
         ensures { result ≡ action_beginning plan.now self.now waiting }
     {
@@ -205,10 +214,10 @@ impl Progress {
         }
     }
 
-    // The next action when the next command may be sent, of a cycle (`action` is `Send`) or of the setup (`Prepare`): `action`, if
-    // there is room and one of the seven requests before it is a call of the table that a reply ended. Else a null procedure is
-    // sent first (`Flush`), once no request is in flight that hasn't timed out: an instrument that retains the reply to its last
-    // call of the table may still send that reply for the next id.
+    // The next action when the next command may be sent, of a cycle (`action` is `Send`) or of the setup (`Prepare`): `action`, if one
+    // of the seven requests before it is a call of the table that a reply ended (`behind`). Else a null procedure is sent first
+    // (`Flush`), once no request is in flight that hasn't timed out: an instrument that retains the reply to its last call of the
+    // table may still send that reply for the next id. Without room for either it is the action of a station that waits.
     fn action_next(&self, plan: &Plan, waiting: Waiting, action: Action) -> Action
         ensures { result ≡ action_next plan.now self.now waiting action }
     {
@@ -235,18 +244,19 @@ impl Progress {
         }
     }
 
-    // Whether the setup is still to be done: no command of a cycle had its turn since the connection was made and the station
-    // synchronized, and a command of the setup wasn't sent yet, or the last one sent is outstanding, or wasn't answered well.
+    // Whether the setup is still to be done: no cycle began or went on since the connection was made and the station synchronized
+    // (`preparing`), and a command of the setup wasn't sent yet, or a command is outstanding, or the one recorded last wasn't answered
+    // well. Without a setup `false`.
     fn is_preparing(&self, plan: &Plan, waiting: Waiting) -> bool
         ensures { result ≡ is_preparing plan.now self.now waiting }
     {
         self.preparing && !(plan.setup <= self.prepared && waiting.commands == 0 && waiting.well)
     }
 
-    // The next action when the setup's next command has its turn: that of `action_next`. There always is such a command, since
+    // The next action when the next command of the setup may be sent: that of `action_next`. There always is such a command, since
     // the setup is done once its last one was answered well; without one the action would be to read.
-    fn action_turn(&self, plan: &Plan, waiting: Waiting) -> Action
-        ensures { result ≡ action_turn plan.now self.now waiting }
+    fn action_next_of_setup(&self, plan: &Plan, waiting: Waiting) -> Action
+        ensures { result ≡ action_next_of_setup plan.now self.now waiting }
     {
         if self.prepared < plan.setup {
             self.action_next(plan, waiting, Action::Prepare)
@@ -256,8 +266,9 @@ impl Progress {
     }
 
     // The next action while the setup isn't done. Nothing is sent if no command is left to be sent after it, nor between
-    // cycles. Its first command is sent as soon as there is room, and each other one once the one before it was answered well.
-    // If it wasn't, the connection is closed: the setup begins with its first command on the next one.
+    // cycles. Its first command may be sent at once (`action_next`), and each other one once the one before it was answered well.
+    // If it wasn't, the connection is closed: the setup begins with its first command on the next one. Where commands are
+    // outstanding, and all outstanding requests have timed out, a null procedure is sent, if there is room; its reply settles them.
     fn action_preparing(&self, plan: &Plan, waiting: Waiting) -> Action
         ensures { result ≡ action_preparing plan.now self.now waiting }
     {
@@ -267,10 +278,10 @@ impl Progress {
         } else if self.is_idle(plan) {
             Action::Read(Until::Due)
         } else if self.prepared == 0 {
-            self.action_turn(plan, waiting)
+            self.action_next_of_setup(plan, waiting)
         } else if waiting.commands == 0 {
             if waiting.well {
-                self.action_turn(plan, waiting)
+                self.action_next_of_setup(plan, waiting)
             } else {
                 Action::Close(Cause::SetUp)
             }
@@ -295,7 +306,7 @@ impl Progress {
 
     // The next action if no command may be sent before those that are outstanding are settled: all of the cycle were sent, or
     // the next one is chained or begins a further attempt. Where commands are outstanding, and all outstanding requests have
-    // timed out, a null procedure is sent, whose reply settles them.
+    // timed out, a null procedure is sent, if there is room; its reply settles them. Where none is, that of `action_settled`.
     fn action_sent(&self, plan: &Plan, waiting: Waiting) -> Action
         ensures { result ≡ action_sent plan.now self.now waiting }
     {
@@ -393,8 +404,8 @@ impl Progress {
 }
 
 impl Waiting {
-    // Whether another request may be sent: fewer are in flight than `width` allows, and fewer are outstanding in all than the
-    // window has places.
+    // Whether another request may be sent: fewer that haven't timed out are in flight than `width` allows, and fewer are outstanding
+    // in all than the window has places.
     pub(crate) fn has_room(self, plan: &Plan) -> bool
         ensures { result ≡ has_room plan.now self }
     {

@@ -43,18 +43,18 @@ ghost use Rattle.gc_station.specs.Model.{opening, action_at, Runs};
 ghost use Rattle.gc_station.specs.Tries.{StopsOnlyAfterAllTries};
 
 /// The commands of cycles that had their turn, sent or not, cycle by cycle and in order, are the records of cycles followed by
-/// the outstanding commands of cycles, each once, except those of further attempts that weren't needed, which are left out, in
-/// order. If the run stopped, none is outstanding; and if it is done, records and commands left out are all commands of all
-/// cycles. Records and commands of the setup, which have cycle 0, are left out. Commands that set the clock are compared
-/// without their times, which `each_record_is_of_its_task` gives.
+/// the outstanding commands of cycles, each once, except those of further attempts that were left out, in order. If the run
+/// stopped, none is outstanding; and if it is done, records and commands left out are all commands of all cycles. Records and
+/// commands of the setup, which have cycle 0, don't count here: `each_command_of_the_set_up_once` is of them. Commands that set the
+/// clock are compared without their times, which `each_record_is_of_its_task` gives.
 pub fn each_command_once()
     ensures { (plan : Plan) (commands : List Task) (scope : Scope) (acts : List Act) → EachOnce plan commands scope acts }
 {}
 
 /// No command of a cycle is sent before the setup of its connection was answered well. Each command of the setup was sent among
 /// the acts so far, and since then no connection was closed, and the station didn't resynchronize; and its record, which was
-/// written since, is of a command that was answered well. The same holds of each command of the setup that is sent, and those
-/// before it.
+/// written since, is of a command that was answered well. When a command of the setup is sent, the same holds of each one before
+/// it, if the list has at least as many commands as the plan's `setup`.
 pub fn no_command_of_a_cycle_goes_out_before_the_set_up()
     ensures cycles { NoneBeforeTheSetUp }
     ensures itself { SetUpInOrder }
@@ -67,7 +67,7 @@ pub fn each_command_of_the_set_up_once()
 {}
 
 /// The attempts of the setup count over the run, from 1. Each begins with the first command of the setup, and goes on one by
-/// one.
+/// one. This holds if the list has at least as many commands as the plan's `setup`; the count stops at 2^64 - 1.
 pub fn attempts_of_the_set_up_go_on()
     ensures { SetUpsGoOn }
 {}
@@ -84,19 +84,20 @@ pub fn some_function_says_what_each_reply_says()
 {}
 
 /// Each act of a run performs the action that was next, and the conditions of that action held. When a command was sent, fewer
-/// requests were in flight and not timed out than the plan's width, fewer than seven were outstanding in all, and the bytes are
-/// the line of the cycle's next command. A command of a cycle was sent only if the setup was done on that connection and since
-/// the station synchronized: each of its commands was sent, and the last one was answered well. When a null procedure of a
-/// synchronization was sent, nothing was outstanding, the client was new, and the bytes are the line of the null procedure with
-/// the first id that wasn't answered. When the station resynchronized, seven requests were outstanding, all timed out.
+/// requests were in flight and not timed out than the plan's width (taken as 1 to 7), fewer than seven were outstanding in all, and
+/// the bytes are the line of the next command, of the cycle or of the setup. A command of a cycle was sent only if the setup was
+/// done on that connection and since the station synchronized: each of its commands was sent, and the last one was answered well.
+/// When a null procedure of a synchronization was sent, nothing was outstanding, the client was new, and the bytes are the line of
+/// the null procedure with the first id that wasn't answered. When the station resynchronized, seven requests were outstanding, all
+/// timed out.
 pub fn each_act_is_due()
     ensures { (plan : Plan) (commands : List Task) (scope : Scope) (earlier later : List Act) (act : Act)
         → Runs plan commands (opening plan scope) (earlier ++ act ∷ later) → IsReasoned plan commands (state_after plan commands scope earlier) act }
 {}
 
 /// A connection is closed only for a cause: nothing was left to be done; or no command could be sent, and the line was dead; or
-/// all turns were used up; or the run was stale; or its end was asked for, and it could end there; or the act before it shows
-/// that a call failed or that the other end closed.
+/// a command of the setup wasn't answered well; or all turns were used up; or the run was stale; or its end was asked for, and
+/// it could end there; or the act before it shows that a call failed or that the other end closed.
 pub fn closes_for_a_cause()
     ensures { (plan : Plan) (commands : List Task) (scope : Scope) (earlier later : List Act)
         → Runs plan commands (opening plan scope) (earlier ++ Closed ∷ later) → ClosesForACause plan commands scope earlier }
@@ -120,17 +121,17 @@ pub fn each_send_goes_on()
 
 /// A command of a chain that isn't the chain's first is sent only after the answer of the command before it in the same cycle.
 /// That command was sent, and no connection was closed since. Its record is the last one written: of a line that arrived in
-/// time, with the id of that very request, and gave an answer of a good quality. `each_command_once` says that each command's
-/// end is recorded.
+/// time, with the id of the request of that cycle and place, and gave an answer of a good quality. By `each_send_goes_on` only one
+/// request has that cycle and place. `each_command_once` says that each command's end is recorded.
 pub fn each_chain_is_kept()
     ensures { (plan : Plan) (commands : List Task) (scope : Scope) (acts : List Act) → Runs plan commands (opening plan scope) acts
         → action_at plan (state_after plan commands scope acts) ≡ Send → IsChained plan commands (state_after plan commands scope acts) → IsLinked plan commands scope acts }
 {}
 
-/// Each record of an answer has a line that arrived with the id of the record's own request, the one of the same cycle and
-/// place. The line arrived after that request was sent, on its connection or a later one, and before a time at or past the
-/// request's deadline was read. The record was written at the act that brought the line. By `each_command_once` the record's
-/// target is that of its command.
+/// Each record of a reply in time (answered, unreadable or elsewhere) has a line that arrived with the id of the record's own
+/// request, the one of the same cycle and place. The line arrived after that request was sent, on its connection or a later one,
+/// and before a time at or past the request's deadline was read. The record was written at the act that brought the line. By
+/// `each_record_is_of_its_task` the record's target is that of its command.
 pub fn answers_come_in_time()
     ensures { (plan : Plan) (commands : List Task) (scope : Scope) (acts : List Act)
         → Runs plan commands (opening plan scope) acts → AllByRecursion (AnswerIsJustified plan commands scope acts) (state_after plan commands scope acts).records }
@@ -157,7 +158,7 @@ pub fn lost_ones_are_lost_for_a_cause()
 /// failed while there was no connection. Or the last act closed the connection, or could make none, and no further one is made:
 /// because nothing was left to be sent and no command waited (`Done`); because it was closed for an unreadable clock, for used up
 /// turns, because the run was stale, or because its end was asked for; or because a further attempt would take a try, and none was
-/// left. By `each_command_once` all is settled then.
+/// left. By `each_command_once` and `each_command_of_the_set_up_once` all is settled then.
 pub fn stops_for_a_cause()
     ensures { (plan : Plan) (commands : List Task) (scope : Scope) (acts : List Act) (why : Cause) → Runs plan commands (opening plan scope) acts
         → action_at plan (state_after plan commands scope acts) ≡ Stop why → StopsForACause plan commands scope acts why }
@@ -191,8 +192,9 @@ pub fn rest_is_what_came()
         → (state_after plan commands scope acts).rest ≡ rest_of (bytes_heard plan commands scope acts) }
 {}
 
-/// No command is sent before the last answer of a synchronization. Take the null procedures that aren't answered at some point
-/// of a run: before the next command is sent, replies arrived with the ids of all of them, in their order.
+/// No command, and no null procedure after the synchronization, is sent before the last answer of a synchronization. Take the null
+/// procedures of it that aren't answered at some point of a run: before such a request is sent, replies arrived with the ids of all
+/// of them, in their order.
 pub fn no_command_goes_out_before_the_last_answer()
     ensures { NoneBeforeTheLastAnswer }
 {}
@@ -213,7 +215,8 @@ pub fn records_stay()
 {}
 
 /// Of two commands that are sent, in the same part of a run or in two (a part reaches from one synchronization to the next),
-/// the later one has a later place in the same cycle, or is of a later cycle.
+/// the later one has a later place in the same cycle, or is of a later cycle. Commands of the setup, which have cycle 0, are
+/// left out.
 pub fn marks_go_on()
     ensures { MarksGoOn }
 {}
@@ -253,8 +256,9 @@ pub fn good_without_accept_is_an_answer()
 {}
 
 /// A further attempt of a chain is sent only once all commands sent are settled, and one of the attempt before ended as its
-/// rule names. Further attempts are left out only if none of the attempt before did, or the cycle is missed. A command of the
-/// setup that is sent between two attempts belongs to neither.
+/// rule names. Further attempts are left out only if none of the attempt before did, or the cycle is missed, or the next command
+/// is chained, which in a station's text the first one of an attempt never is. A command of the setup that is sent between two
+/// attempts belongs to neither.
 pub fn each_further_attempt_has_a_cause()
     ensures { FurtherAttemptsHaveACause }
 {}
@@ -337,9 +341,9 @@ pub fn ends_stale_only_without_a_good_answer()
 {}
 
 /// Once a time was read at which the end of the run was asked for, no cycle begins, no command of the setup is sent, and each
-/// command sent continues a chain that has begun. The run ends for that only if there is no connection, or the station
-/// synchronizes, so that nothing is outstanding, or it is between two chains and nothing is in flight that hasn't timed out; no
-/// command of a chain that has begun is left that may be sent. The close for it is the last act.
+/// command sent continues a chain, and an attempt of it, that has begun. The run ends for that only if there is no connection, or the
+/// station synchronizes, so that nothing is outstanding, or it is between two chains, or two attempts of one, and nothing is in flight
+/// that hasn't timed out; no command of an attempt that has begun is left that may be sent. The close for it is the last act.
 pub fn stops_between_chains()
     ensures goes { GoesOnInItsChain }
     ensures closes { ClosesBetweenChains }

@@ -1,12 +1,12 @@
 //! Pace: how long a read waits, and which cycle is reported as overrun, because it wasn't done in time. No record, and nothing
-//! that is sent, rests on either.
+//! that is sent, rests on either. Moments are by the clock for deadlines, in milliseconds.
 
 ghost use Rattle.std.specs.Prelude.{◌≡◌, ℕ, Option};
 ghost use Rattle.std.specs.Option.{option_to_list};
 ghost use Rattle.std.specs.Io.KnownBytes.{Appends};
 ghost use Rattle.gc_client.specs.Rule.{IsEarliest, deadlines};
 ghost use Rattle.gc_station.specs.Model.{cycles_begun};
-ghost use Rattle.gc_station.specs.Pace.{dead_at, due_at, retry_at, stale_at, longest, ends_in, ends_without_deadline, ends_at, patience, overrun, reported_then};
+ghost use Rattle.gc_station.specs.Pace.{dead_at, due_at, retry_at, stale_at, longest_timeout, read_end_in, read_end_without_deadline, read_end, read_timeout, overrun, reported_then};
 
 use crate::book::{Book, LinkHealth};
 use crate::plan::Plan;
@@ -15,6 +15,7 @@ use crate::progressing::later;
 use crate::station::Station;
 
 // The moment from which on the run is stale, if no answer of a good quality is recorded until then; `u64::MAX` if it never is.
+// `fresh` is the moment at which the last such answer was recorded.
 fn stale_at(plan: &Plan, fresh: u64) -> u64
     ensures { result ≡ stale_at plan.now fresh }
 {
@@ -26,21 +27,21 @@ fn stale_at(plan: &Plan, fresh: u64) -> u64
 }
 
 // How many milliseconds a read waits at most: a second if somebody may ask for the end of the run, else a minute.
-fn longest(plan: &Plan) -> u64
-    ensures { result ≡ longest plan.now }
+fn longest_timeout(plan: &Plan) -> u64
+    ensures { result ≡ longest_timeout plan.now }
 {
     if plan.watched { 1_000 } else { 60_000 }
 }
 
 impl Progress {
-    // The moment from which on the line counts as dead, if no reply line comes until then.
+    // The moment from which on the line counts as dead, if no reply line comes until then and something is outstanding (`is_dead`).
     fn dead_at(&self, plan: &Plan) -> u64
         ensures { result ≡ dead_at plan.now self.now }
     {
         later(self.alive, dead_after(plan))
     }
 
-    // The moment at which the next cycle is due.
+    // The moment at which the next cycle is due. It isn't that of the first cycle, which is due at once.
     fn due_at(&self, plan: &Plan) -> u64
         ensures { result ≡ due_at plan.now self.now }
     {
@@ -62,8 +63,8 @@ impl Progress {
 
     // The moment at which a read in this phase ends if nothing comes, leaving out the deadlines of the outstanding requests: at
     // the end of a pause or a drain, when the line is dead, or when a null procedure of the synchronization is sent again.
-    fn ends(&self, plan: &Plan) -> u64
-        ensures { result ≡ ends_in self.now.phase plan.now self.now }
+    fn read_end_in_phase(&self, plan: &Plan) -> u64
+        ensures { result ≡ read_end_in self.now.phase plan.now self.now }
     {
         match self.phase {
             Phase::Pausing => self.retry_at(plan),
@@ -78,24 +79,24 @@ impl Progress {
         }
     }
 
-    // As `ends`, except that a read that only waits for the next cycle (`Until::Due`) ends when that cycle is due.
-    fn ends_without_deadline(&self, plan: &Plan, until: Until) -> u64
-        ensures { result ≡ ends_without_deadline plan.now self.now until }
+    // As `read_end_in_phase`, except that a read that only waits for the next cycle (`Until::Due`) ends when that cycle is due.
+    fn read_end_without_deadline(&self, plan: &Plan, until: Until) -> u64
+        ensures { result ≡ read_end_without_deadline plan.now self.now until }
     {
         match until {
             Until::Due => self.due_at(plan),
-            Until::Limit => self.ends(plan),
+            Until::Limit => self.read_end_in_phase(plan),
         }
     }
 
-    // The moment at which a read ends if nothing comes: `ends_without_deadline`, or the next deadline of a request if that is
+    // The moment at which a read ends if nothing comes: `read_end_without_deadline`, or the next deadline of a request if that is
     // earlier.
-    fn ends_at(&self, plan: &Plan, until: Until, deadline: Option<u64>) -> u64
-        ensures { result ≡ ends_at plan.now self.now until deadline }
+    fn read_end(&self, plan: &Plan, until: Until, deadline: Option<u64>) -> u64
+        ensures { result ≡ read_end plan.now self.now until deadline }
     {
         match deadline {
-            Some(deadline) => deadline.min(self.ends_without_deadline(plan, until)),
-            None => self.ends_without_deadline(plan, until),
+            Some(deadline) => deadline.min(self.read_end_without_deadline(plan, until)),
+            None => self.read_end_without_deadline(plan, until),
         }
     }
 
@@ -107,7 +108,8 @@ impl Progress {
     }
 
     // The number of the cycle that began last, if it has overrun and that wasn't reported yet: it isn't missed, and it wasn't
-    // done when the next one was due. `reported` is the last cycle that was reported as overrun, 0 if none was.
+    // done when the next one was due. `reported` is the last cycle that was reported as overrun, 0 if none was. `None` for the last
+    // cycle of all, and if cycles have no due moments (`every` is 0).
     fn overrun(&self, plan: &Plan, reported: u64) -> Option<u64>
         ensures { result ≡ overrun plan.now self.now reported }
     {
@@ -125,22 +127,23 @@ impl Progress {
 }
 
 impl Station {
-    // How many milliseconds the next read waits for bytes: until `ends_at`, or until the run is stale if that is earlier, but at
-    // least 1 and at most `longest`.
-    pub(crate) fn patience(&self, plan: &Plan, until: Until) -> u64
+    // How many milliseconds the next read waits for bytes: until `read_end`, or until the run is stale if that is earlier, but at
+    // least 1 and at most `longest_timeout`.
+    pub(crate) fn read_timeout(&self, plan: &Plan, until: Until) -> u64
         ensures { (deadline : Option ℕ) × IsEarliest (deadlines self.now.client.ids.waiting) deadline
-            × (result ≡ patience plan.now self.now.progress self.now.fresh until deadline) }
+            × (result ≡ read_timeout plan.now self.now.progress self.now.fresh until deadline) }
     {
         let deadline = self.client.next_deadline();
         self.progress
-            .ends_at(plan, until, deadline)
+            .read_end(plan, until, deadline)
             .min(stale_at(plan, self.fresh))
             .saturating_sub(self.progress.moment.elapsed)
             .max(1)
-            .min(longest(plan))
+            .min(longest_timeout(plan))
     }
 
-    // The health of the link before the next act, as `LinkHealth` explains it.
+    // The health of the link before the next act, as `LinkHealth` explains it. A connection that is about to be closed for a cause
+    // counts as `Unheard` or `Fine`, by what was heard on it.
     fn health(&self, plan: &Plan) -> LinkHealth {
         match self.progress.phase {
             Phase::Down | Phase::Pausing if self.progress.is_idle(plan) => LinkHealth::Idle,
@@ -152,14 +155,13 @@ impl Station {
         }
     }
 
-    // Whether each command of the cycle is settled.
+    // Whether no command of the cycle is left, as before the first cycle, and none is outstanding, of the setup either.
     fn is_done(&self) -> bool {
-        self.progress.unsent == 0 && self.commands() == 0
+        self.progress.unsent == 0 && self.commands_waiting() == 0
     }
 
-    // Reports to a book the health of the link before the next act, and, once for each cycle, that the cycle wasn't done when the
-    // next was due. `reported` is the last cycle reported so before, 0 if there was none; the result is the last one reported so
-    // after the call.
+    // Reports to a book the health of the link before the next act; and, at most once for a cycle, that it wasn't done when the next
+    // was due. `reported` is the last cycle that was reported as not done, 0 if none was; the result is the last one after the call.
     pub(crate) fn report_health_and_overrun<B: Book>(
         &self,
         book: &mut B,

@@ -79,9 +79,9 @@ pub(crate) enum Until {
 pub(crate) struct Waiting {
     /// All outstanding requests.
     pub all: usize,
-    /// Those of them that haven't timed out.
+    /// Those of `all` that haven't timed out.
     pub current: usize,
-    /// Those of them that are commands, of the cycle or of the setup. The others are null procedures.
+    /// Those of `all` that are commands, of a cycle or of the setup. The others are null procedures.
     pub commands: usize,
     /// Whether the command that was recorded last was answered well, as `is_well` says.
     pub well: bool,
@@ -94,7 +94,7 @@ pub(crate) struct Waiting {
 }
 
 /// How far a station is: its phase, the last moment read, and where it is in its synchronization, its setup, its cycles and its
-/// tries.
+/// tries. Moments are by the clock for deadlines, and times in milliseconds, unless a field says otherwise.
 #[derive(Drop)]
 pub(crate) struct Progress {
     pub phase: Phase,
@@ -127,7 +127,7 @@ pub(crate) struct Progress {
     pub missed: bool,
     /// How many cycles haven't begun.
     pub left: u64,
-    /// How many commands of the cycle were neither sent nor left out.
+    /// How many commands of the cycle are left: neither sent, nor recorded without being sent, nor left out.
     pub unsent: usize,
     /// Whether the next of them is sent only once the command before it was answered well. In a missed cycle, in which none is
     /// sent, always `true`.
@@ -140,13 +140,13 @@ pub(crate) struct Progress {
     pub tries: u32,
     /// The length of the current pause, or of the last one. 0: there was none yet, or a reply settled a command since.
     pub pause: u64,
-    /// How many turns are left.
+    /// How many turns are left: each act takes one.
     pub turns: u64,
     /// How many requests were sent after the last call of the table that a reply ended, answered or late, and after the
     /// synchronization. Seven if they are more.
     pub behind: usize,
-    /// Whether there is a setup, and no command of a cycle had its turn since the connection was made and the station
-    /// synchronized.
+    /// Whether there is a setup, and since the connection was made and the station synchronized no cycle began, and no command of
+    /// one was sent, recorded without being sent, or left out.
     pub preparing: bool,
     /// How many commands of the setup were sent in this attempt.
     pub prepared: usize,
@@ -163,7 +163,7 @@ pub(crate) fn width(plan: &Plan) -> u8
     plan.width.max(1).min(7)
 }
 
-// After how long without a reply line the line is dead: twice the longest deadline.
+// After how many milliseconds without a reply line the line is dead: twice the longest deadline.
 pub(crate) fn dead_after(plan: &Plan) -> u64
     ensures { result ≡ dead_after plan.now }
 {
@@ -171,7 +171,7 @@ pub(crate) fn dead_after(plan: &Plan) -> u64
 }
 
 impl Phase {
-    // Whether there is a connection.
+    // Whether there is a connection; in `Closing` it is still there.
     pub(crate) fn is_up(self) -> bool
         ensures { result ≡ is_up self }
     {

@@ -1,4 +1,5 @@
-//! What each act does to how far a station is.
+//! What each act does to how far a station is. Moments are by the clock for deadlines, and times in milliseconds, unless a comment
+//! says otherwise.
 
 ghost use Rattle.std.specs.Prelude.{◌≡◌, ◌≤◌, ℕ, List, length};
 ghost use Rattle.gc_catalogue.specs.declared.asked.Asked.{Asked};
@@ -6,7 +7,7 @@ ghost use Rattle.gc_client.specs.Hearing.{HearsInto};
 ghost use Rattle.gc_client.specs.Rule.{ById};
 ghost use Rattle.gc_client.specs.declared.settlement.Settlement.{Settlement};
 ghost use Rattle.gc_station.specs.Deciding.{later};
-ghost use Rattle.gc_station.specs.Progressing.{turned, moment_noted, cycle_start, is_missing, due_of, cycle_begun, skipped, attempts_left_out, skipped_at, failing, opened, is_finished, is_idle, is_spared, phase_again, pause_again, after_failure, cleared, request_noted, null_sent, renewed, line_synchronizing, sent, caught_up, line_noted, early_after, bytes_noted, pause_ended, drained, quieted, time_passed, silent, reckoned_early, ended_for, closed, is_over, loses_all, next_attempt, setup_restarted, setup_sent, gives_back};
+ghost use Rattle.gc_station.specs.Progressing.{turned, moment_noted, cycle_start, is_missed_at, due_of, cycle_begun, skipped, attempts_left_out, skipped_at, failing, opened, is_finished, is_idle, is_spared, phase_again, pause_again, after_failure, cleared, request_noted, null_sent, renewed, line_synchronizing, sent, caught_up, line_noted, early_after, bytes_noted, pause_ended, drained, quieted, time_passed, silent, early_noted, ended_for, closed, is_over, loses_all, next_attempt, setup_restarted, setup_sent, gives_back};
 ghost use Rattle.gc_station.specs.Lines.{is_reply};
 
 use crate::cause::Cause;
@@ -56,7 +57,7 @@ pub(crate) fn is_reply(hearing: Hearing) -> bool
 }
 
 impl Progress {
-    // Takes one of the turns that are left.
+    // Takes one of the turns that are left. If none is, as at the close for that, none is left afterwards.
     pub(crate) fn take_turn(&mut self)
         ensures { self.new ≡ turned self.old }
     {
@@ -65,7 +66,7 @@ impl Progress {
 
     // Notes a moment read on the link: the quiet time begins now. (`pass_time` notes the moment of a read that gave nothing.)
     // Where the clock went back, the cycle is taken to have begun now at the latest, so that the next one isn't put off, and
-    // the line to have been alive now at the latest.
+    // the line to have been alive now at the latest. If the moment asks for the end of the run, that stays asked for.
     pub(crate) fn note_moment(&mut self, moment: Moment)
         ensures { self.new ≡ moment_noted moment self.old }
     {
@@ -89,9 +90,10 @@ impl Progress {
         }
     }
 
-    // Whether a cycle that would begin at this moment is missed: the cycle after it is due by then.
-    fn is_missing(&self, plan: &Plan, moment: Moment) -> bool
-        ensures { result ≡ is_missing plan.now moment self.now }
+    // Whether a cycle that would begin at this moment is missed: the cycle after it is due by then. If cycles have no due moments
+    // (`every` is 0), none is missed.
+    fn is_missed_at(&self, plan: &Plan, moment: Moment) -> bool
+        ensures { result ≡ is_missed_at plan.now moment self.now }
     {
         let late = moment
             .elapsed
@@ -99,7 +101,8 @@ impl Progress {
         plan.every > 0 && plan.every <= late
     }
 
-    // When a cycle that begins at this moment was due, in milliseconds since 1970-01-01, UTC.
+    // When a cycle that begins at this moment was due, in milliseconds since 1970-01-01, UTC: as much before `moment` as by the clock
+    // for deadlines, at the earliest 0. (`due_at` is the due moment of the next cycle, by the clock for deadlines.)
     fn due_of(&self, plan: &Plan, moment: Moment) -> u64
         ensures { result ≡ due_of plan.now moment self.now }
     {
@@ -114,7 +117,7 @@ impl Progress {
         ensures { self.new ≡ cycle_begun plan.now count moment self.old }
     {
         let began = self.cycle_start(plan, moment);
-        let missed = self.is_missing(plan, moment);
+        let missed = self.is_missed_at(plan, moment);
         let due = self.due_of(plan, moment);
         self.note_moment(moment);
         self.began = began;
@@ -129,17 +132,17 @@ impl Progress {
         self.preparing = false;
     }
 
-    // The moment in the record of a command that isn't sent: where its cycle is missed, the moment at which the cycle was due;
-    // otherwise `moment`.
+    // The moment in the record of a command that isn't sent, in milliseconds since 1970-01-01, UTC: where its cycle is missed, the
+    // moment at which the cycle was due; otherwise `moment`.
     pub(crate) fn skipped_at(&self, moment: Moment) -> u64
         ensures { result ≡ skipped_at moment self.now }
     {
         if self.missed { self.due } else { moment.utc }
     }
 
-    // Skips the next command, which isn't sent. `next_is_chained`: the command after it is sent only once this one was answered
-    // well. `others`: if that one begins a further attempt of its chain, how many commands this attempt and those after it
-    // have; otherwise 0.
+    // Notes that the next command was recorded at `moment` without being sent. `next_is_chained`: the command after it is sent only
+    // once the one before it was answered well. `others`: if the command after it begins a further attempt of its chain, how many
+    // commands this attempt and those after it have; otherwise 0.
     pub(crate) fn skip(&mut self, next_is_chained: bool, others: usize, moment: Moment)
         ensures { self.new ≡ skipped next_is_chained others moment self.old }
     {
@@ -201,7 +204,7 @@ impl Progress {
     }
 
     // The phase after the loss of a connection, or after an attempt that failed, while `commands` commands are outstanding: the
-    // run is done, or it tries again, or without a try left it is over for this cause.
+    // run is done; or it tries again, if a try is left or none is needed (`is_spared`); or it is over for this cause.
     fn phase_again(&self, plan: &Plan, commands: usize, cause: Cause) -> Phase
         ensures { result ≡ phase_again plan.now commands cause self.now }
     {
@@ -214,8 +217,8 @@ impl Progress {
         }
     }
 
-    // The length of the next pause: the quiet time after a first failure, and after each further one twice the last pause, up
-    // to a minute. If no connection is wanted it is the last pause. It is never below the quiet time.
+    // The length of the next pause, in milliseconds: the quiet time after a first failure, and after each further one twice the
+    // last pause, up to a minute. Where no try is taken (`is_spared`) it is the last pause. It is never below the quiet time.
     fn pause_again(&self, plan: &Plan, cause: Cause) -> u64
         ensures { result ≡ pause_again plan.now cause self.now }
     {
@@ -248,7 +251,7 @@ impl Progress {
 
     // Notes that a connection was closed, or couldn't be made: the phase is `phase_again`, the pause `pause_again`, and a try
     // is taken unless the next attempt is spared. The setup is sent again on the next connection.
-    pub(crate) fn try_again(&mut self, plan: &Plan, commands: usize, cause: Cause)
+    pub(crate) fn note_unconnected(&mut self, plan: &Plan, commands: usize, cause: Cause)
         ensures { self.new ≡ after_failure plan.now commands cause self.old }
     {
         let spared = self.is_spared(plan, cause);
@@ -276,8 +279,8 @@ impl Progress {
         self.clock_due = true;
     }
 
-    // Notes that a request was sent. The time after which the line is dead begins with the first request after a reply line.
-    // The request counts as one more after the last call of the table that a reply ended.
+    // Notes that a request was sent. The time after which the line is dead begins with the first request after a reply line or on a
+    // connection. The request counts as one more after the last call of the table that a reply ended, up to seven.
     pub(crate) fn note_request(&mut self)
         ensures { self.new ≡ request_noted self.old }
     {
@@ -301,8 +304,9 @@ impl Progress {
         self.behind = 0;
     }
 
-    // Notes that the station resynchronizes at this moment. If nothing is sent before the next cycle is due, the time after
-    // which the line is dead begins with the first null procedure.
+    // Notes that the station resynchronizes at this moment: no null procedure is answered, no chain goes on, and the setup is sent
+    // again. If nothing is sent before the next cycle is due, the time after which the line is dead begins with the first null
+    // procedure.
     pub(crate) fn resynchronize(&mut self, plan: &Plan, moment: Moment)
         ensures { self.new ≡ renewed plan.now moment self.old }
     {
@@ -315,9 +319,9 @@ impl Progress {
         self.restart_setup(plan);
     }
 
-    // Hears a line while the station synchronizes. If the line answers the first null procedure that is left, the next one is
-    // sent at once.
-    pub(crate) fn hear(&mut self, line: &[u8])
+    // Hears a line, of 512 bytes at most, while the station synchronizes. If the line answers the first null procedure that is left,
+    // the next one, if there is one, is sent at once.
+    pub(crate) fn hear_null(&mut self, line: &[u8])
         requires { length line.now ≤ 512 }
         ensures { self.new ≡ line_synchronizing self.old line.now }
     {
@@ -348,8 +352,8 @@ impl Progress {
         self.chain_unbroken = false;
     }
 
-    // Notes that a line settled requests, and that `waiting` are still outstanding. If the request that the line answers is a
-    // call of the table (`of_table`), the outstanding requests are those sent after it.
+    // Notes that a line was heard after which `waiting` requests are outstanding. `of_table`: it settled requests, and the last of
+    // them, to which it is the reply, is a call of the table. Then the outstanding requests are those sent after that call.
     pub(crate) fn catch_up(&mut self, of_table: bool, waiting: usize)
         ensures { self.new ≡ caught_up of_table waiting self.old }
     {
@@ -358,7 +362,7 @@ impl Progress {
         }
     }
 
-    // Notes that a line was heard: a reply line shows that the line is alive.
+    // Notes that a line was heard. If it is a reply, it shows that the other end is alive; any other line changes nothing.
     pub(crate) fn note_line(&mut self, is_reply: bool)
         ensures { self.new ≡ line_noted is_reply self.old }
     {
@@ -369,8 +373,8 @@ impl Progress {
     }
 
     // Notes that a read gave bytes: `before` commands were outstanding before it, and `after` counts what is outstanding now.
-    // If a command was settled once a command of a cycle had its turn after the setup, all tries are available again, and the
-    // next pause is the quiet time.
+    // If a command was settled, and the setup, if there is one, is over (`preparing` is false), all tries are available again, and
+    // the next pause is the quiet time. `until` is what the read waited for: after `Until::Due` the cycle counts as done early.
     pub(crate) fn note_bytes(&mut self, plan: &Plan, until: Until, before: usize, after: Waiting)
         ensures { self.new ≡ bytes_noted plan.now until before after self.old }
     {
@@ -399,7 +403,8 @@ impl Progress {
         self.asked = false;
     }
 
-    // Ends a pause that was long enough, if a connection is wanted, or a draining in which nothing came for the quiet time.
+    // Ends a pause that was long enough, if a connection is wanted, or a draining in which nothing came for the quiet time. In any
+    // other phase nothing changes.
     fn end_quiet_phase(&mut self, plan: &Plan)
         ensures { self.new ≡ quieted plan.now self.old.phase self.old }
     {
@@ -439,15 +444,15 @@ impl Progress {
     }
 
     // Notes whether the cycle was done early, where `commands` commands are outstanding: nothing of it is left, and the next
-    // one isn't due yet.
+    // one isn't due yet. Once that is noted it stays so until a cycle begins.
     pub(crate) fn note_early(&mut self, plan: &Plan, commands: usize)
-        ensures { self.new ≡ reckoned_early plan.now commands self.old }
+        ensures { self.new ≡ early_noted plan.now commands self.old }
     {
         self.early = self.early || (commands == 0 && self.unsent == 0 && !self.is_due(plan));
     }
 
     // Notes that the connection was closed: for `Done`, `Clock`, `Turns`, `Stale` and `Stopped` the run is over, and for any other
-    // cause goes on as `try_again` says.
+    // cause goes on as `note_unconnected` says.
     pub(crate) fn close(&mut self, plan: &Plan, waiting: Waiting, cause: Cause)
         ensures { self.new ≡ closed plan.now waiting cause self.old }
     {
@@ -455,7 +460,7 @@ impl Progress {
             Cause::Done | Cause::Clock | Cause::Turns | Cause::Stale | Cause::Stopped => {
                 self.end(cause);
             }
-            _ => self.try_again(plan, waiting.commands, cause),
+            _ => self.note_unconnected(plan, waiting.commands, cause),
         }
     }
 

@@ -2,9 +2,8 @@
 
 ghost use Rattle.std.specs.Prelude.{◌≡◌, true, OnOk};
 ghost use Rattle.gc_lines.specs.Ports.{FailsWith};
-ghost use Rattle.gc_station.specs.Keeping.{KeepsUp, closing, closing_at};
+ghost use Rattle.gc_station.specs.Keeping.{KeepsUpForEachReadings, KeepsUpForReadings, close_if_failed, close_at_output};
 ghost use Rattle.gc_station.specs.Runs.{EndsForReadings, RanForReadings, FailsAtOutput, LastsBut};
-ghost use Rattle.gc_station.specs.Scopes.{scoped, ForEachReadings, ForReadings};
 
 use crate::book::Book;
 use crate::cause::Cause;
@@ -28,8 +27,8 @@ pub(crate) fn run<L: Link, B: Book>(
     kept: &mut Kept,
 ) -> Result<(Cause, Tally), PortFailed>
     ensures ran { EndsForReadings plan.now commands.now max_turns (B.text book.old) (L.acts link.old) (L.acts link.new) (B.taken book.old) (B.taken book.new) result }
-    ensures keeps { ForEachReadings (λ reads. KeepsUp plan.now commands.now (scoped max_turns reads) (B.text book.old)
-        (L.acts link.old) (L.acts link.new) (B.taken book.old) kept.old.turns kept.new.turns (closing result)) }
+    ensures keeps { KeepsUpForEachReadings plan.now commands.now max_turns (B.text book.old) (L.acts link.old) (L.acts link.new)
+        (B.taken book.old) kept.old.turns kept.new.turns (close_if_failed result) }
     ensures is_durable { OnOk result (B.is_durable book.new ≡ true) }
     ensures fails { FailsWith result (B.failed book.old) (B.failed book.new) }
     ensures form { B.text book.new ≡ B.text book.old }
@@ -61,41 +60,52 @@ pub(crate) fn run<L: Link, B: Book>(
 ///
 /// What a station does next is a function of what its link recorded: `action_at`. It connects, sends a lone line feed, and
 /// synchronizes: eight null procedures are sent one after the other, with ids 6, 5, 4, 3, 2, 1, 0 and 7. One that isn't
-/// answered by its deadline is sent again with the same id, also on the next connection. Any reply with that id answers it; all
-/// other bytes are discarded. After the eighth answer the client is new, with next id 0. Then the commands of a cycle are sent,
-/// each once, while fewer requests are in flight than the plan's width, and fewer than seven are outstanding in all. Each
-/// moment times out the requests whose deadline has come, before the bytes that came with it are heard. A request that has
-/// timed out keeps its id and no longer holds up the others: its own reply settles it as late, and the reply to a later request
-/// as lost. If no command may be sent before those that are outstanding are settled, and all outstanding requests have timed
-/// out, a null procedure is sent after them. Its reply settles them; it is in no record. A command is never sent again in its
-/// cycle.
+/// answered by its deadline is sent again with the same id, also on the next connection. Any reply with that id answers it;
+/// all other bytes are discarded. After the eighth answer the client is new, with next id 0. Then the commands of a cycle
+/// are sent, each once, while fewer requests are in flight than the plan's width, and fewer than seven are outstanding in
+/// all. Each moment times out the requests whose deadline has come, before the bytes that came with it are heard. A request
+/// that has timed out keeps its id and no longer holds up the others: its own reply settles it as late, and the reply to a
+/// later request as lost. If no command may be sent before those that are outstanding are settled, and all outstanding
+/// requests have timed out, a null procedure is sent after them. Its reply settles them; it is in no record. A command is
+/// never sent again in its cycle.
 ///
 /// A command is sent only if one of the seven requests before it is a call of the table that a reply ended, or the last null
-/// procedure of the synchronization. Else a null procedure is sent first, once no request is in flight that hasn't timed out.
-/// Commands that are all calls of the table are never held up by that.
+/// procedure of the synchronization. Else a null procedure is sent first, once no request is in flight that hasn't timed
+/// out. Commands that are all calls of the table are never held up by that.
 ///
-/// A connection that failed, ended or is dead is closed. The outstanding requests stay outstanding on the next connection, and
-/// the ids go on. Before each new attempt to connect the station pauses: for the quiet time, at each further failure twice as
-/// long, up to a minute. Once a cycle is done it connects again only when the next is due. Each connection is cleared by a line
-/// feed. Unless a synchronization goes on with it, bytes on it are then discarded until none came for the quiet time. The
-/// station resynchronizes where seven requests are outstanding that have all timed out: all of them are lost, and the null
-/// procedures are sent on the same connection. A synchronization whose connection was lost goes on with the next one.
+/// The first `setup` commands of the list are the setup. They are sent on each connection, and after each synchronization,
+/// before any command of a cycle: each once the one before it was answered well. If one wasn't, the connection is closed. A
+/// command of a cycle that is `chained` is sent only if the one before it was answered well, and since that was sent no
+/// connection was closed and the station didn't resynchronize; else it is written as skipped. A further attempt of a chain
+/// is sent only if a command of the attempt before ended as the chain's rule (`again`) names; else it is left out, without a
+/// record. In a missed cycle nothing is sent: its commands are written as missed, and further attempts are left out.
 ///
-/// `Ok`: each command of each cycle is settled, and the tally counts how; or the end of the run was asked for, and each command
-/// that was sent is settled or lost. Between two chains nothing more is sent then: what is in flight is waited for until it is
-/// settled or timed out, the connection is closed, and commands that had no turn aren't written. The run fails with `Clock` as
-/// soon as the clock can't be read; and, once no try is left, with `Read` if a read failed, `Mute` if the line was dead,
-/// `Write` if a write was cut (with the number of commands before the cycle's next one in the list, 0 before the first cycle),
-/// `LinkClosed` if the other end closed the connection, and `Socket` if no connection could be made. It fails with `Stale` at
-/// the first moment at or past `stale` since the start or the last answer of a good quality, and with `TooManyReads` where
-/// `max_turns` acts were made; a connection that is open then is closed by one act more. In all of these cases the connection
-/// is closed, and the outstanding commands are written as lost. The run fails with `Output` if the book failed. If it failed at
-/// a record of the last act, it has all records of the acts before, those of the last act before that record, and a first part
-/// of that record. If the records couldn't be made to last, it has all of them. Then nothing more is sent: the link is closed,
-/// and the outstanding commands aren't written.
+/// A connection that failed, ended or is dead is closed. The outstanding requests stay outstanding on the next connection,
+/// and the ids go on. Before each new attempt to connect the station pauses: for the quiet time, at each further failure
+/// twice as long, up to a minute. Once a cycle is done it connects again only when the next is due. Each connection is
+/// cleared by a line feed. Unless a synchronization goes on with it, bytes on it are then discarded until none came for the
+/// quiet time. The station resynchronizes where seven requests are outstanding that have all timed out: all of them are
+/// lost, and the null procedures are sent on the same connection. A synchronization whose connection was lost goes on with
+/// the next one.
 ///
-/// Before each act all records of the acts before outlast what the book is meant to outlast. What is seen of the link and the
-/// book then is noted in `kept`.
+/// `Ok`: each command of each cycle is settled, was written as skipped or missed, or was left out, and the tally counts how
+/// they ended; or the end of the run was asked for, and each command that was sent is settled or lost. Between two chains, or two
+/// attempts of one, nothing more is sent then: what is in flight is waited for until it is settled or timed out, the connection
+/// is closed, and commands that had no turn aren't written.
+///
+/// `Err`: for each fault but `Output` the connection is closed, and the outstanding commands are written as lost.
+/// - `Clock`: the clock couldn't be read; no try is made after that.
+/// - If no try is left: `Read`, a read failed; `Mute`, the line was dead; `Write`, a write was cut, with the number of
+///   commands before the cycle's next one in the list (0 before the first cycle); `LinkClosed`, the other end closed the
+///   connection; `Socket`, no connection could be made; `SetUp`, a command of the setup wasn't answered well.
+/// - `Stale`: no answer of a good quality was recorded for `stale` milliseconds, counted from the start or the last one.
+/// - `TooManyReads`: `max_turns` acts were made. A connection that is open then is closed by one act more.
+/// - `Output`: the book failed. If it failed at a record of the last act, it has all records of the acts before, those of
+///   the last act before that record, and a first part of that record. If the records couldn't be made to last, it has all
+///   of them. Then nothing more is sent: the link is closed, and the outstanding commands aren't written.
+///
+/// Before each act all records of the acts before outlast what the book is meant to outlast. What is seen of the link and
+/// the book then is noted in `kept`.
 pub fn run_station<L: Link, B: Book>(
     link: &mut L,
     book: &mut B,
@@ -110,9 +120,8 @@ pub fn run_station<L: Link, B: Book>(
 
     // At each act what the acts before it settled is in the book, and lasts. If the book failed one act is made all the same:
     // the connection is closed.
-    ensures keeps { ForReadings (λ reads.
-        KeepsUp plan.now commands.now (scoped max_turns reads) (B.text book.old)
-        (L.acts link.old) (L.acts link.new) (B.taken book.old) kept.old.turns kept.new.turns (closing_at result)) }
+    ensures keeps { KeepsUpForReadings plan.now commands.now max_turns (B.text book.old) (L.acts link.old) (L.acts link.new)
+        (B.taken book.old) kept.old.turns kept.new.turns (close_at_output result) }
 
     // Unless the book failed, all records last at the end.
     ensures is_durable { LastsBut (B.is_durable book.new) result }

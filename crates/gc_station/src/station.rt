@@ -4,13 +4,15 @@ ghost use Rattle.std.specs.Prelude.{◌≡◌, ℕ, ◌≤◌, List, length, dro
 ghost use Rattle.gc_lines.specs.Ports.{FailsWith};
 ghost use Rattle.gc_catalogue.specs.declared.answer.Reading.{Reading};
 ghost use Rattle.gc_catalogue.specs.declared.asked.Asked.{Asked};
+ghost use Rattle.gc_catalogue.specs.Asked.{IsAskedReading};
+ghost use Rattle.gc_client.specs.Settlements.{AreReadBy};
 ghost use Rattle.gc_station.specs.Deciding.{action_of};
 ghost use Rattle.gc_station.specs.Marks.{commands_in};
 ghost use Rattle.gc_station.specs.Scopes.{AreReadings, scoped};
 ghost use Rattle.gc_station.specs.Records.{WritesNews};
 ghost use Rattle.gc_station.specs.Model.{Model, opening, action_at, place_next, expected_first, mark_next, commands_before, is_chained, others_in, is_chained_after, others_after, ended, mark_setup};
 ghost use Rattle.gc_station.specs.Stations.{waiting_in, IsPaired, Refines, DoesAlone, Moves, Steps, OnCall, Becomes, DropsSettledMarks, IsFitting};
-ghost use Rattle.gc_station.specs.Writing.{AreRead, news_settled, CountsSettled, NotesSettledWell, NotesSettledListed, NotesSettledFresh};
+ghost use Rattle.gc_station.specs.Writing.{news_settled, CountsSettled, NotesSettledWell, NotesSettledListed, NotesSettledFresh};
 ghost use Rattle.gc_station.specs.declared.progress.Action.TheVariants.{ReadClock, Renew, Begin, Open, Close};
 ghost use Rattle.gc_texts.specs.declared.tasks.Task.{Task};
 
@@ -32,7 +34,7 @@ use gc_lines::{Assembler, PortFailed};
 use gc_links::Link;
 use gc_texts::{Again, Codes, Expected, Task, Turn};
 
-// Whether a command at this place is sent only once the one before it was answered well.
+// Whether a command at this place is sent only once the one before it was answered well; `false` if there is no such command.
 fn is_chained(commands: &[Task], place: usize) -> bool
     ensures { result ≡ is_chained (drop place commands.now) }
 {
@@ -43,7 +45,7 @@ fn is_chained(commands: &[Task], place: usize) -> bool
 }
 
 // What is expected of the answer of the command at this place. If there is none, nothing is: no place of a target, no accepted
-// codes, no endings that send it again.
+// codes, no endings that send it again; and its turn is place 0, attempt 1 and link 0.
 fn expected_at(commands: &[Task], place: usize) -> Expected
     ensures { result ≡ expected_first (drop place commands.now) }
 {
@@ -128,7 +130,7 @@ impl Station {
         Waiting {
             all: self.client.waiting(),
             current: self.client.current(),
-            commands: self.commands(),
+            commands: self.commands_waiting(),
             well: self.well,
             listed: self.listed,
             fresh: self.fresh,
@@ -136,13 +138,13 @@ impl Station {
     }
 
     // How many of the outstanding requests are commands.
-    pub(crate) fn commands(&self) -> usize
+    pub(crate) fn commands_waiting(&self) -> usize
         ensures { result ≡ commands_in self.now.marks.items }
     {
         commands_in(self.marks.as_slice())
     }
 
-    // The next action.
+    // The next action, as `deciding.rt` decides it.
     pub(crate) fn action(&self, plan: &Plan) -> Action
         ensures action { (s : Model) → Refines self.now s → AreReadings s.reads → result ≡ action_at plan.now s }
         ensures room { IsFitting self.now.progress (length self.now.client.ids.waiting) result }
@@ -152,7 +154,7 @@ impl Station {
     }
 
     // The place of the cycle's next command in the station's list, counted from 0: the setup is before it, and so are the commands
-    // of the cycle that were sent or left out.
+    // of the cycle that had their turn. If no command is left, as before the first cycle, it is the length of the list.
     fn place(&self, commands: &[Task]) -> usize
         ensures { result ≡ place_next commands.now self.now.progress }
     {
@@ -171,7 +173,8 @@ impl Station {
         }
     }
 
-    // The mark of the next command of the setup: it has cycle 0, and the attempt of the setup.
+    // The mark of the next command of the setup: it has cycle 0, and the attempt of the setup. No ending sends the command again,
+    // and no attempt of a chain begins with it, so its link is 1.
     fn mark_setup(&self, commands: &[Task]) -> Mark
         ensures { result ≡ mark_setup commands.now self.now.progress }
     {
@@ -187,8 +190,8 @@ impl Station {
         }
     }
 
-    // Whether the command `count` places after the next one is sent only once the one before it was answered well. In a missed
-    // cycle the result is true for each command, because none is sent.
+    // Whether the command `count` places after the next one is sent only once the one before it was answered well; `false` if there
+    // is no such command. In a missed cycle the result is always `true`, because none is sent.
     fn is_chained_after(&self, count: usize, commands: &[Task]) -> bool
         ensures { result ≡ is_chained_after count commands.now self.now.progress }
     {
@@ -196,7 +199,7 @@ impl Station {
     }
 
     // If the command `count` places after the next one begins a further attempt of its chain: how many commands this attempt
-    // and those after it have. Else 0.
+    // and those after it have. Else 0, also if there is no such command.
     fn others_after(&self, count: usize, commands: &[Task]) -> usize
         ensures { result ≡ others_after count commands.now self.now.progress }
     {
@@ -221,7 +224,7 @@ impl Station {
     {
         match link.now() {
             Ok(moment) => {
-                let commands = self.commands();
+                let commands = self.commands_waiting();
                 self.progress.note_moment(moment);
                 self.progress.note_early(plan, commands);
                 self.client.expire(moment.elapsed);
@@ -231,8 +234,8 @@ impl Station {
         }
     }
 
-    // Reads the clock, and resynchronizes: `end` records as lost what is outstanding. A clock that can't be read is noted, as
-    // by `read_clock`.
+    // Reads the clock, and resynchronizes: `record_lost` then records what is outstanding as lost. A clock that can't be read is noted,
+    // as by `read_clock`, and the station doesn't resynchronize.
     fn renew<L: Link>(&mut self, link: &mut L, plan: &Plan)
         ensures { (commands : List Task) → DoesAlone plan.now commands Renew (L.acts link.old) (L.acts link.new) self.old self.new }
     {
@@ -247,7 +250,8 @@ impl Station {
         }
     }
 
-    // Reads the clock, and begins a cycle. A clock that can't be read is noted, as by `read_clock`.
+    // Reads the clock, and begins a cycle of the commands after the setup. A clock that can't be read is noted, as by `read_clock`, and
+    // no cycle begins.
     fn begin<L: Link>(&mut self, link: &mut L, plan: &Plan, commands: &[Task])
         ensures { DoesAlone plan.now commands.now Begin (L.acts link.old) (L.acts link.new) self.old self.new }
     {
@@ -262,21 +266,21 @@ impl Station {
         }
     }
 
-    // Makes a connection, or notes that none could be made.
+    // Makes a connection, or notes that none could be made: then the station pauses, or the run is over, as `note_unconnected` says.
     fn open<L: Link>(&mut self, link: &mut L, plan: &Plan)
         ensures { (commands : List Task) → DoesAlone plan.now commands Open (L.acts link.old) (L.acts link.new) self.old self.new }
     {
-        let commands = self.commands();
+        let commands = self.commands_waiting();
         match link.open() {
             Ok(()) => self.progress.note_open(),
-            Err(_) => self.progress.try_again(plan, commands, Cause::Open),
+            Err(_) => self.progress.note_unconnected(plan, commands, Cause::Open),
         }
     }
 
     // Writes the records of `settled`, and removes the marks of the requests that were settled, the oldest first. `Err`: the book
     // failed at a record.
     fn write<B: Book>(&mut self, book: &mut B) -> Result<(), PortFailed>
-        requires { AreRead self.old.settled.items }
+        requires { AreReadBy IsAskedReading self.old.settled.items }
         ensures wrote { WritesNews (B.text book.old) (B.taken book.old) (B.taken book.new) (news_settled self.old) result }
         ensures after { OnOk result (DropsSettledMarks self.old self.new) }
         ensures tally { CountsSettled self.old self.new result }
@@ -299,8 +303,8 @@ impl Station {
         )
     }
 
-    // Closes the connection, and discards half a line that came on it. Outstanding requests stay outstanding on the next
-    // connection.
+    // Closes the connection, if there is one, and discards half a line that came on it. Outstanding requests stay outstanding on the
+    // next connection; if the run is over, `record_lost` then records them as lost.
     fn close<L: Link>(&mut self, link: &mut L, plan: &Plan, cause: Cause)
         ensures { (commands : List Task) → DoesAlone plan.now commands (Close cause) (L.acts link.old) (L.acts link.new) self.old self.new }
     {
@@ -330,59 +334,26 @@ impl Station {
         ensures form { B.text book.new ≡ B.text book.old }
     {
         match action {
-            Action::ReadClock => {
-                self.read_clock(link, plan);
-                Ok(())
-            }
-            Action::Renew => {
-                self.renew(link, plan);
-                Ok(())
-            }
-            Action::Begin => {
-                self.begin(link, plan, commands);
-                Ok(())
-            }
-            Action::Open => {
-                self.open(link, plan);
-                Ok(())
-            }
-            Action::Clear => {
-                self.clear(link, plan, commands);
-                Ok(())
-            }
-            Action::Ask => {
-                self.ask_null(link, plan, commands);
-                Ok(())
-            }
-            Action::Prepare => {
-                self.prepare(link, plan, commands);
-                Ok(())
-            }
-            Action::Send => {
-                self.send(link, plan, commands);
-                Ok(())
-            }
+            Action::ReadClock => Ok(self.read_clock(link, plan)),
+            Action::Renew => Ok(self.renew(link, plan)),
+            Action::Begin => Ok(self.begin(link, plan, commands)),
+            Action::Open => Ok(self.open(link, plan)),
+            Action::Clear => Ok(self.clear(link, plan, commands)),
+            Action::Ask => Ok(self.ask_null(link, plan, commands)),
+            Action::Prepare => Ok(self.prepare(link, plan, commands)),
+            Action::Send => Ok(self.send(link, plan, commands)),
             Action::Skip => self.skip(link, book, plan, commands),
-            Action::Pass => {
-                self.pass(link, plan, commands);
-                Ok(())
-            }
-            Action::Flush => {
-                self.flush(link, plan, commands);
-                Ok(())
-            }
+            Action::Pass => Ok(self.leave_out(link, plan, commands)),
+            Action::Flush => Ok(self.flush(link, plan, commands)),
             Action::Read(until) => self.read(link, book, plan, until),
-            Action::Close(cause) => {
-                self.close(link, plan, cause);
-                Ok(())
-            }
+            Action::Close(cause) => Ok(self.close(link, plan, cause)),
             Action::Stop(_) => Ok(()),
         }
     }
 
     // Records all outstanding commands as lost, if the station resynchronizes or no act follows; otherwise does nothing. `Err`:
     // the book failed at a record.
-    fn end<B: Book>(&mut self, book: &mut B) -> Result<(), PortFailed>
+    fn record_lost<B: Book>(&mut self, book: &mut B) -> Result<(), PortFailed>
         ensures ends { Becomes ended (B.text book.old) (B.taken book.old) (B.taken book.new) self.old self.new result }
         ensures fails { FailsWith result (B.failed book.old) (B.failed book.new) }
         ensures form { B.text book.new ≡ B.text book.old }
@@ -394,7 +365,7 @@ impl Station {
         self.write(book)
     }
 
-    // Takes a turn: performs an action, and then records as lost what `end` says. When it is called, all records so far must be
+    // Takes a turn: performs an action, and then records what is lost (`record_lost`). When it is called, all records so far must be
     // durable. `Err`: the book failed at a record.
     pub(crate) fn step<L: Link, B: Book>(
         &mut self,
@@ -418,6 +389,6 @@ impl Station {
         if let Err(failed) = self.perform(link, book, plan, commands, action) {
             return Err(failed);
         }
-        self.end(book)
+        self.record_lost(book)
     }
 }

@@ -46,7 +46,7 @@ impl Tally {
         }
     }
 
-    /// Counts a command by its ending: the count of this ending grows by one, unless it is the greatest `u64`.
+    /// Counts a command by its ending: the count of this ending grows by one, unless it is the greatest `u64`. `again` stays.
     pub fn count(&mut self, ending: Ending<'_>)
         ensures { self.new ≡ counted (ending_seen ending.entry) self.old }
     {

@@ -5,7 +5,7 @@ ghost use Rattle.gc_lines.specs.Ports.{FailsWith};
 ghost use Rattle.gc_catalogue.specs.declared.answer.Reading.{Reading};
 ghost use Rattle.gc_catalogue.specs.declared.asked.Asked.{Asked};
 ghost use Rattle.gc_catalogue.specs.Asked.{IsAskedReading};
-ghost use Rattle.gc_client.specs.Settlements.{settlement_seen, outcome_seen, IsReadBy};
+ghost use Rattle.gc_client.specs.Settlements.{settlement_seen, outcome_seen, IsReadBy, AreReadBy};
 ghost use Rattle.gc_station.specs.Attempts.{code_of, listed_after};
 ghost use Rattle.gc_station.specs.Marks.{value_as, refused_as, end_of, is_well};
 ghost use Rattle.gc_station.specs.Model.{ends_with_table};
@@ -15,7 +15,7 @@ ghost use Rattle.gc_texts.specs.Codes.{lists_code};
 ghost use Rattle.gc_texts.specs.Endings.{ending_seen};
 ghost use Rattle.gc_texts.specs.Nears.{is_elsewhere};
 ghost use Rattle.gc_station.specs.Records.{WritesNews};
-ghost use Rattle.gc_station.specs.Writing.{AreRead, GiveSameRecord, ListAlike, news_of, CountsNews, NotesWell, NotesListed, NotesFresh};
+ghost use Rattle.gc_station.specs.Writing.{GiveSameRecord, ListAlike, news_of, CountsNews, NotesWell, NotesListed, NotesFresh};
 
 use crate::book::Book;
 use crate::mark::Mark;
@@ -39,8 +39,8 @@ fn take_mark(marks: &mut ArrayVec<Option<Mark>, WINDOW>) -> Option<Mark>
     }
 }
 
-// The ending of a command whose reply, this line, has this answer: elsewhere if the answer's direction isn't near where the
-// target is (`near`), else answered with this quality.
+// The ending of a command whose reply, this line, has this answer: elsewhere if the answer has a direction that isn't near where the
+// target is (`near`), else answered with this quality. Without `near`, where the text doesn't say it, it never is elsewhere.
 fn value_ending<'a>(
     quality: Quality,
     near: Option<Near>,
@@ -57,8 +57,8 @@ fn value_ending<'a>(
 }
 
 // The ending of a command whose reply, this line, has this return code, which isn't 0, and would say `zero` with return code 0.
-// With an accepted code: elsewhere if the values would read and were measured elsewhere, else answered with a warning. With
-// another code: answered and refused.
+// With an accepted code: elsewhere if the values would read and were measured elsewhere, else answered with a warning, and with the
+// values if they would read. With another code: answered and refused, without values.
 fn refused_ending<'a>(
     expected: &Expected,
     code: u16,
@@ -137,7 +137,7 @@ fn code_of(outcome: &Outcome) -> Option<u16>
 
 // Whether a command of the current attempt has ended as its rule names, once this command has ended. `listed`: whether one before
 // it had, which doesn't count if the attempt begins with this command. `code`: the return code of its reply, if that isn't 0.
-pub(crate) fn is_listed(
+pub(crate) fn is_listed_after(
     listed: bool,
     expected: &Expected,
     code: Option<u16>,
@@ -145,7 +145,7 @@ pub(crate) fn is_listed(
 ) -> bool
     ensures { result ≡ listed_after listed expected.now code (ending_seen ending.entry) }
 {
-    (expected.turn.link != 0 && listed) || expected.again.names(code, ending)
+    (expected.turn.link != 0 && listed) || expected.again.repeats_after(code, ending)
 }
 
 // Writes how a request with this mark ended, and counts its ending. Notes in `well` whether it was answered well, and if so in
@@ -192,12 +192,12 @@ fn write_one<B: Book>(
     tally.count(mark.cycle, mark.expected.turn, ending);
     *well = is_well(ending);
     let code = code_of(&settlement.outcome);
-    *listed = is_listed(*listed, &mark.expected, code, ending);
+    *listed = is_listed_after(*listed, &mark.expected, code, ending);
     *fresh = if is_well(ending) { now.elapsed } else { *fresh };
     Ok(())
 }
 
-// Whether the last of these settlements is of a call of the table. `false`: there is none.
+// Whether the last of these settlements is of a call of the table; `false` also if there is no settlement.
 pub(crate) fn ends_with_table(settlements: &[Settlement<Asked>]) -> bool
     ensures { result ≡ ends_with_table (map settlement_seen settlements.now) }
 {
@@ -210,7 +210,8 @@ pub(crate) fn ends_with_table(settlements: &[Settlement<Asked>]) -> bool
 // Writes and counts the records of these settlements, which are those of the oldest outstanding requests, and removes the marks
 // of these requests. `well` becomes whether the command written last was answered well, and stays as it is if none was written.
 // If one was answered well, `fresh` becomes the moment `now`. `listed` becomes whether one of the attempt that was settled last
-// ended as its rule names. `Err`: the book failed at a record, and no record after it was written.
+// ended as its rule names, and stays as it is if none was written. `Err`: the book failed at a record, and no record after it was
+// written or counted.
 pub(crate) fn write_settlements<B: Book>(
     book: &mut B,
     tally: &mut Counts,
@@ -221,7 +222,7 @@ pub(crate) fn write_settlements<B: Book>(
     now: Moment,
     settlements: &[Settlement<Asked>],
 ) -> Result<(), PortFailed>
-    requires { AreRead settlements.now }
+    requires { AreReadBy IsAskedReading settlements.now }
     ensures wrote { WritesNews (B.text book.old) (B.taken book.old) (B.taken book.new) (news_of now.utc marks.old.items settlements.now) result }
     ensures tally { CountsNews tally.old tally.new now marks.old.items settlements.now result }
     ensures well { NotesWell well.old well.new now marks.old.items settlements.now result }

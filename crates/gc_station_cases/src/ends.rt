@@ -1,15 +1,16 @@
 //! A book that stores a word for each record, as a case has it.
 
+use crate::fixed_text::{note, note_number};
 use crate::setting::Setting;
 use arrayvec::ArrayVec;
-use gc_lines::PortFailed;
+use gc_lines::{PortFailed, read_reply};
 use gc_links::Moment;
 use gc_station::{Book, LinkHealth};
 use gc_texts::{Ending, Quality, Stamp, Wish};
 
-/// A book that stores a word for each record: the last digits of its cycle and its place, a letter for its outcome, and after
-/// the letter the values of a reply; if a case is stamped, last the moment at which the request was sent. A case may have it
-/// fail at one write, or at each sync after the first few.
+/// A book that stores a word for each record: the last digits of its cycle and its place, a letter for its ending, and after the
+/// letter the codes of a reply, unless both are 0, and its values; if a case is stamped, last the moment at which the request was
+/// sent. A case may have it fail at one write, or at each sync after the first few.
 #[derive(Drop)]
 pub struct WordBook {
     /// The words of the records, and for each cycle that was reported as overrun its last digit and `!`, each with a blank after it.
@@ -37,18 +38,26 @@ impl WordBook {
         }
     }
 
-    // Appends these bytes to `text`, if there is room for all of them; otherwise none.
-    fn note(&mut self, text: &[u8]) {
-        let _ = self.text.try_extend_from_slice(text);
+    // Appends a letter, and after it what a reply's line says: its codes, unless both are 0 (`note_codes`), and its values, with commas
+    // between. A line that is no reply says nothing.
+    fn note_reply(&mut self, letter: &[u8], line: &[u8]) {
+        note(&mut self.text, letter);
+        if let Ok(reply) = read_reply(line) {
+            self.note_codes(reply.rc_com, reply.rc);
+            note(&mut self.text, reply.params);
+        }
     }
 
-    // Appends a letter, and after it the values of a reply's line: all after its header of eleven bytes, `%R1P,0,0:0,`. A line that is
-    // no longer has no values.
-    fn note_values(&mut self, letter: &[u8], line: &[u8]) {
-        self.note(letter);
-        if line.len() > 11 {
-            self.note(&line[11..]);
+    // Appends a reply's codes in brackets, the communication code and the return code, as `[0:1285]`; nothing if both are 0.
+    fn note_codes(&mut self, rc_com: u16, rc: u16) {
+        if rc_com == 0 && rc == 0 {
+            return;
         }
+        note(&mut self.text, b"[");
+        note_number(&mut self.text, u64::from(rc_com));
+        note(&mut self.text, b":");
+        note_number(&mut self.text, u64::from(rc));
+        note(&mut self.text, b"]");
     }
 
     // Appends `@` and the moment at which a record's request was sent, in milliseconds since 1970, if it was sent and the case is
@@ -56,13 +65,12 @@ impl WordBook {
     fn note_sent(&mut self, sent: Option<u64>) {
         let Some(sent) = sent else { return };
         if self.stamped {
-            self.note(b"@");
-            let mut digits = itoa::Buffer::new();
-            self.note(digits.format(sent).as_bytes());
+            note(&mut self.text, b"@");
+            note_number(&mut self.text, sent);
         }
     }
 
-    // Appends the last digit of a number, if there is room for it.
+    // Appends the last decimal digit of a number, if there is room for it.
     fn note_digit(&mut self, n: u64) {
         let _ = self.text.try_push(b'0'.wrapping_add((n % 10) as u8));
     }
@@ -80,9 +88,9 @@ impl Book for WordBook {
 
     ghost is_durable = { λ _. true };
 
-    // Appends the word of a record: the last digits of its cycle and place; the letter of its ending (at the head of stations.rt), and the
-    // values of a reply after it; and if the case is stamped, the moment at which its request was sent. `Err`: this is the write that
-    // fails.
+    // Appends the word of a record: the last digits of its cycle and place; the letter of its ending (at the head of stations.rt), and
+    // after it what a reply's line says; and if the case is stamped, the moment at which its request was sent. `Err`: this is the write
+    // that fails, and nothing is appended.
     fn write(
         &mut self,
         stamp: Stamp,
@@ -96,17 +104,17 @@ impl Book for WordBook {
         self.note_digit(stamp.cycle);
         self.note_digit(stamp.place as u64);
         match ending {
-            Ending::Answered(Quality::Warning, _, line) => self.note_values(b"w", line),
-            Ending::Answered(_, _, line) => self.note_values(b"a", line),
-            Ending::Unreadable(line, _) => self.note_values(b"u", line),
-            Ending::Elsewhere(line) => self.note_values(b"e", line),
-            Ending::Late => self.note(b"l"),
-            Ending::Lost => self.note(b"x"),
-            Ending::Skipped => self.note(b"s"),
-            Ending::Missed => self.note(b"m"),
+            Ending::Answered(Quality::Warning, _, line) => self.note_reply(b"w", line),
+            Ending::Answered(_, _, line) => self.note_reply(b"a", line),
+            Ending::Unreadable(line, _) => self.note_reply(b"u", line),
+            Ending::Elsewhere(line) => self.note_reply(b"e", line),
+            Ending::Late => note(&mut self.text, b"l"),
+            Ending::Lost => note(&mut self.text, b"x"),
+            Ending::Skipped => note(&mut self.text, b"s"),
+            Ending::Missed => note(&mut self.text, b"m"),
         }
         self.note_sent(stamp.sent);
-        self.note(b" ");
+        note(&mut self.text, b" ");
         Ok(())
     }
 
@@ -125,6 +133,6 @@ impl Book for WordBook {
     // Appends the word of a cycle that overran: its last digit, and `!`.
     fn overran(&mut self, cycle: u64) {
         self.note_digit(cycle);
-        self.note(b"! ");
+        note(&mut self.text, b"! ");
     }
 }

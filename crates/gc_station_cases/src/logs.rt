@@ -2,7 +2,7 @@
 
 use crate::ends::WordBook;
 use crate::running::Outcome;
-use crate::script::{Script, Step};
+use crate::script::{START, Script, Step};
 use crate::setting::Setting;
 use crate::telling::run_telling;
 use gc_lines::{PortFailed, Sink};
@@ -46,7 +46,7 @@ impl Sink for StoringSink {
 }
 
 // The link of a case, with a log whose sink fails after `writes` writes. Until the link reads a moment, the log's lines have
-// the moment 1000, at which the link's clock starts.
+// the moment at which the link's clock starts.
 fn logged_link<'a>(
     alloc: Global,
     steps: &'a [Step<'a>],
@@ -58,7 +58,7 @@ fn logged_link<'a>(
         left: writes,
         broken: false,
     };
-    Logged::new(Script::new(steps, setting), sink, 1000)
+    Logged::new(Script::new(steps, setting), sink, START)
 }
 
 /// Runs a station over a link with a log, and takes what came of it into `outcome`. A log whose sink failed is reported as `lost`,
@@ -70,7 +70,7 @@ pub fn play_logged(
     setting: &Setting,
     outcome: &mut Outcome,
 ) {
-    play_once(alloc, tasks, steps, setting, setting.writes, outcome);
+    play_over_sink(alloc, tasks, steps, setting, setting.writes, outcome);
     if outcome.is_log_lost() {
         compare_with_whole_log(alloc, tasks, steps, setting, outcome);
     }
@@ -86,12 +86,12 @@ fn compare_with_whole_log(
     outcome: &mut Outcome,
 ) {
     let mut whole = Outcome::new(alloc);
-    play_once(alloc, tasks, steps, setting, u64::MAX, &mut whole);
-    outcome.lose_log(&whole);
+    play_over_sink(alloc, tasks, steps, setting, u64::MAX, &mut whole);
+    outcome.tell_lost_log(&whole);
 }
 
 // Runs the station once, with a log whose sink fails after `writes` writes, and takes what came of it into `outcome`.
-fn play_once(
+fn play_over_sink(
     alloc: Global,
     tasks: &[Task],
     steps: &[Step<'_>],
@@ -109,7 +109,8 @@ fn play_once(
     );
 }
 
-/// Without a station: reads once for each of `steps` over a link with a log, closes the link, and takes the log into `outcome`.
+/// Without a station: reads once for each of `steps` over a link with a log, closes the link, and takes the log into `outcome`. Where a
+/// write of the log failed, that is what was written before.
 pub fn read_logged(alloc: Global, steps: &[Step<'_>], setting: &Setting, outcome: &mut Outcome) {
     let mut link = logged_link(alloc, steps, setting, setting.writes);
     // Room for more than the longest line: 512 bytes, CR and LF.

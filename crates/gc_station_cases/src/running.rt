@@ -40,9 +40,9 @@ pub struct Outcome {
     end: Told,
     // The log, if there is one.
     log: Told,
-    // How many commands ended how, if the case asks for that, over a link without a log.
+    // The counts of `take_counts`, if the case asks for them and the run ended without a fault, over a link without a log.
     counts: Told,
-    // Whether the log couldn't be written.
+    // Whether the log isn't whole, because a write of it failed.
     is_log_lost: bool,
 }
 
@@ -82,21 +82,22 @@ impl Outcome {
         tell_words(log, &mut self.log);
     }
 
-    /// Whether the log couldn't be written.
+    /// Whether the log isn't whole, as `take_log` was told.
     pub fn is_log_lost(&self) -> bool {
         self.is_log_lost
     }
 
     /// Reports a log whose sink failed as `lost`, if the log of `whole`, whose sink took all, begins with it; else leaves it as it is.
-    pub fn lose_log(&mut self, whole: &Outcome) {
+    pub fn tell_lost_log(&mut self, whole: &Outcome) {
         if whole.log.as_bytes().starts_with(self.log.as_bytes()) {
             self.log.clear();
             self.log.text("lost");
         }
     }
 
-    // Reports, in place of what was put on the link, that the case's entry of this name (`with`, `steps` or `tasks`) has a word
-    // that can't be read. The word itself isn't reported.
+    // Reports, in place of what was put on the link, that a part of the case can't be read: `with`, which also stands for the word of
+    // a row and of `each`; `steps`, also for the words of `then` and for a step without room; or `tasks`. The word itself isn't
+    // reported.
     fn tell_unknown(&mut self, what: &str) {
         self.put.text("a word isn't known: ");
         self.put.text(what);
@@ -184,12 +185,12 @@ impl<'a> Run<'a> {
     }
 }
 
-// Bytes as text; `?` if they aren't UTF-8.
-fn text_of(bytes: &[u8]) -> &str {
+/// Bytes as text; `?` if they aren't UTF-8.
+pub fn text_of(bytes: &[u8]) -> &str {
     str::from_utf8(bytes).unwrap_or("?")
 }
 
-// Runs a station over a link without a log, and takes what came of it into `outcome`.
+// Runs a station over a link without a log, and takes what came of it into `outcome`, with its counts if the setting asks for them.
 fn play_unlogged(tasks: &[Task], steps: &[Step<'_>], setting: &Setting, outcome: &mut Outcome) {
     let mut link = Telling::new(Script::new(steps, setting));
     let mut book = WordBook::new(setting);
@@ -230,5 +231,5 @@ fn tell_end(fault: Option<RunFault>, gone: usize, end: &mut Told) {
 fn tell_part(mark: &str, part: &Told, row: &mut Told) {
     row.text(mark);
     row.either(part.as_bytes().is_empty(), "none", "");
-    row.told(part);
+    row.append(part);
 }

@@ -2,6 +2,7 @@
 
 ghost use Rattle.gc_links.specs.Acts.{IsWithin};
 
+use crate::fixed_text::{note, note_number};
 use crate::setting::Setting;
 use arrayvec::ArrayVec;
 use gc_lines::PortFailed;
@@ -34,8 +35,8 @@ pub enum Step<'a> {
     NoMoment,
 }
 
-// The moment at which the clock of a link starts, in milliseconds.
-const START: u64 = 1000;
+/// The moment at which the clock of a link starts, in milliseconds.
+pub const START: u64 = 1000;
 
 // The ids of a synchronization's null procedures, in the order in which they are sent.
 const NULL_IDS: [u8; 8] = *b"65432107";
@@ -50,7 +51,8 @@ pub struct Script<'a> {
     at: usize,
     // How many of the next attempts to connect fail.
     shut: u64,
-    // The call of `put` that is cut, counted from 1; how many bytes of it are sent; and how many calls of `put` there were.
+    // The call of `put` that is cut, counted from 1 (0: none); how many bytes of a cut one are sent; and how many calls of `put` there
+    // were.
     cut: u64,
     kept: usize,
     puts: u64,
@@ -69,7 +71,7 @@ pub struct Script<'a> {
     until: u64,
     // How many milliseconds the clock of time stamps is ahead of `clock`.
     ahead: u64,
-    // Whether the clock can't be read.
+    // Whether each call of `now` fails.
     blind: bool,
     // Whether each call is stored with its time since the start, and of a request its id alone.
     timed: bool,
@@ -78,10 +80,10 @@ pub struct Script<'a> {
     nulls: usize,
     first: usize,
     first_at: u64,
-    /// How many bytes were sent of the put that was cut.
+    /// How many bytes were sent of the last put that was cut; 0 if none was.
     pub gone: usize,
-    /// The words of the calls that opened, closed or wrote (`open`, `shut`, `close`, `lf`, requests, `cut:`), each with a blank
-    /// after it.
+    /// The words of the calls that opened, closed or wrote, each with a blank after it: `open`, `shut`, `close`, `lf`, `begin` or a
+    /// request. The word of a put that was cut has `cut:` before it.
     pub text: ArrayVec<u8, 1024>,
 }
 
@@ -114,22 +116,15 @@ impl<'a> Script<'a> {
         }
     }
 
-    // Appends these bytes to `text`, if there is room for all of them; otherwise none.
-    fn note(&mut self, text: &[u8]) {
-        let _ = self.text.try_extend_from_slice(text);
-    }
-
     // Appends a word and a blank. If the link is timed, the word has `@` and the moment `clock` after it, in milliseconds since the
     // start.
     fn note_at(&mut self, word: &[u8], clock: u64) {
-        self.note(word);
+        note(&mut self.text, word);
         if self.timed {
-            self.note(b"@");
-            let mut digits = itoa::Buffer::new();
-            let since = clock.saturating_sub(START);
-            self.note(digits.format(since).as_bytes());
+            note(&mut self.text, b"@");
+            note_number(&mut self.text, clock.saturating_sub(START));
         }
-        self.note(b" ");
+        note(&mut self.text, b" ");
     }
 
     // Appends the word of a call that is made now. The call is no null procedure, so it ends a row of these.
@@ -138,8 +133,9 @@ impl<'a> Script<'a> {
         self.note_at(word, self.clock);
     }
 
-    // Appends what is put: `lf` for a lone line feed, else a request, without its line end. If that is the eighth null procedure
-    // of a synchronization in a row, the word `begin` takes the place of all eight.
+    // Appends what is put: `lf` for a lone line feed, else a request without its line end, and if the link is timed, only the digit of
+    // its id, as `#3`. If that is the eighth null procedure of a synchronization in a row, the word `begin` takes the place of all
+    // eight, with the moment of the first.
     fn note_put(&mut self, bytes: &[u8]) {
         if bytes == b"\n".as_slice() {
             self.note_now(b"lf");
@@ -160,8 +156,9 @@ impl<'a> Script<'a> {
         }
     }
 
-    // Counts the null procedures of a synchronization that are put one after the other, with the ids of `NULL_IDS` in order. Any
-    // other request starts the count again.
+    // Counts the null procedures of a synchronization that are put one after the other, with the ids of `NULL_IDS` in order, and stores
+    // where the text of the first begins and when it was put. Any other request starts the count again: at 1 if it is a null
+    // procedure with the first of these ids, else at 0.
     fn count_null(&mut self, request: &[u8]) {
         let id = if request.starts_with(b"%R1Q,0,") {
             id_of(request)
@@ -187,6 +184,13 @@ impl<'a> Script<'a> {
         call == self.failing
     }
 
+    // Counts an attempt to connect, and returns whether it is one of those that fail.
+    fn next_attempt_fails(&mut self) -> bool {
+        let fails = self.shut > 0;
+        self.shut = self.shut.saturating_sub(1);
+        fails
+    }
+
     // Lets `later` milliseconds pass, and returns the moment then.
     fn moment_after(&mut self, later: u64) -> Moment {
         self.clock = self.clock.saturating_add(later);
@@ -198,7 +202,7 @@ impl<'a> Script<'a> {
     }
 
     // Lets `later` milliseconds pass, and returns what a read gives then: as many bytes of `line` as `buf` has room for, which are written
-    // there, or silence if that is none.
+    // there, or silence if that is none. The rest of the line never comes.
     fn bring(&mut self, buf: &mut [u8], line: &[u8], later: u64) -> Came
         ensures { IsWithin result buf.new }
     {
@@ -257,7 +261,7 @@ impl<'a> Script<'a> {
     }
 }
 
-// The digit of a request's id: the byte before the colon. `None`: there is no colon, or nothing before it.
+// The digit of the id of a request that has an id: the byte before the first colon. `None`: there is no colon, or nothing before it.
 fn id_of(request: &[u8]) -> Option<u8> {
     let end = request.iter().position(|byte| *byte == b':')?;
     request.get(end.checked_sub(1)?).copied()
@@ -309,7 +313,7 @@ impl<'a> Link for Script<'a> {
         self.puts = self.puts.saturating_add(1);
         if self.next_call_fails() || self.puts == self.cut {
             self.nulls = 0;
-            self.note(b"cut:");
+            note(&mut self.text, b"cut:");
             self.note_put(bytes);
             self.nulls = 0;
             let n = self.kept.min(bytes.len().saturating_sub(1));
@@ -324,7 +328,8 @@ impl<'a> Link for Script<'a> {
         Ok(())
     }
 
-    // Closes the connection, which ends `Dead` and `Noise`. A request that was sent on it isn't answered by `Answers` any more.
+    // Closes the connection, and stores `close`. If the next step is `Dead` or `Noise`, that is over. A request that was sent on the
+    // connection isn't answered by `Answers` any more.
     fn close(&mut self) {
         self.note_now(b"close");
         self.up = false;
@@ -334,14 +339,10 @@ impl<'a> Link for Script<'a> {
         }
     }
 
-    // Makes a connection, and stores `open`. `Err`: this is the failing call or one of the next `shut` attempts, and `shut` is stored.
+    // Makes a connection, and stores `open`. `Err`: this is the failing call, or an attempt that fails (`next_attempt_fails`), and `shut`
+    // is stored.
     fn open(&mut self) -> Result<(), PortFailed> {
-        if self.next_call_fails() {
-            self.note_now(b"shut");
-            return Err(PortFailed);
-        }
-        if self.shut > 0 {
-            self.shut = self.shut.saturating_sub(1);
+        if self.next_call_fails() || self.next_attempt_fails() {
             self.note_now(b"shut");
             return Err(PortFailed);
         }

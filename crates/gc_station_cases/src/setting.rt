@@ -14,7 +14,7 @@ pub struct Setting {
     pub shut: u64,
     /// The put that is cut, counted from 1; 0: none.
     pub cut: u64,
-    /// How many bytes of that put are sent.
+    /// How many bytes of a put that is cut are sent, at most all but its last.
     pub kept: u64,
     /// The call of the link that fails, counted from 0; `close` isn't counted.
     pub failing: u64,
@@ -32,19 +32,19 @@ pub struct Setting {
     pub until: u64,
     /// How many milliseconds the clock of time stamps is ahead of the link's other clock.
     pub ahead: u64,
-    /// Whether the clock can't be read.
+    /// Whether the clock can't be read by itself. After a read of the link there is a moment all the same.
     pub blind: bool,
     /// Whether what is put is reported with its time since the start, and of a request its id alone.
     pub timed: bool,
     /// Whether a record is reported with the moment at which its request was sent.
     pub stamped: bool,
-    /// Whether the counts of a run are reported, if it is done.
+    /// Whether the counts of a run are reported, if it ends without a fault, and over a link without a log.
     pub counted: bool,
 }
 
 impl Setting {
-    /// A setting by which nothing fails: one request at a time, a deadline of 100 milliseconds, a quiet time of 10 milliseconds, and
-    /// one retry, so that a line counts as dead after 200 milliseconds.
+    /// A setting by which nothing fails: one cycle of one request at a time, a deadline of 100 milliseconds, so that a line counts as
+    /// dead after 200, a quiet time of 10 milliseconds, one retry, and at most 300 turns.
     pub fn new() -> Setting {
         Setting {
             plan: Plan {
@@ -77,7 +77,8 @@ impl Setting {
         }
     }
 
-    /// Sets what these words say, each `KEY=NUMBER` or a key alone, with spaces between. Returns whether each is known.
+    /// Sets what these words say, each `KEY=NUMBER` or a key alone, with spaces between. Returns whether each is known (`set_word`); one
+    /// that isn't sets nothing.
     pub fn set_all(&mut self, words: &str) -> bool {
         let mut are_known = true;
         for word in words.split(' ') {
@@ -96,7 +97,7 @@ impl Setting {
         let Some(value) = number(digits) else {
             return false;
         };
-        self.set_plan(key, value) || self.set_link(key, value)
+        self.set_plan(key, value) || self.set_other(key, value)
     }
 
     // Sets a value of the plan, and returns whether the key is one of the plan's.
@@ -118,7 +119,7 @@ impl Setting {
 
     // Sets a value of the link, the book, the log, the steps or the report, and returns whether the key is one of theirs. `stamped`,
     // `blind`, `timed` and `counted` are set to true, whatever the value.
-    fn set_link(&mut self, key: &str, value: u64) -> bool {
+    fn set_other(&mut self, key: &str, value: u64) -> bool {
         match key {
             "turns" => self.turns = value,
             "shut" => self.shut = value,

@@ -1,24 +1,29 @@
 //! Runs of a station over a link that plays steps: what is put on it, what is recorded, and the end. `words.rt` has the words
-//! of a case, and `setting.rt` those after `with`.
+//! of steps, and `setting.rt` those after `with`.
 //!
 //!     tasks 7 0;8 0               the station's text, with `;` for the ends of its lines; chained as it says
 //!     with width=2 timed          what is set otherwise than `Setting::new` has it
 //!     steps BEGUN #0 end QUIET    what the reads come to
-//!     then dead answers           the steps after these, where `with` or a row says `first`
-//!     put open lf begin %R1Q,0,0: ..    what is put; `begin` are the eight null procedures of a synchronization, in a row, each once
-//!     ends 10a 11x 2!             cycle, place and a letter for each record: answered, a warning, unreadable and elsewhere (each
-//!                                 with its values after it), late, lost (x), skipped or missed; where `with` says `stamped`, `@` and
-//!                                 the moment at which its request was sent, if it was; `!` after a cycle that overran
+//!     then dead answers           the steps after these, or after the first of them alone, if `first` says how many
+//!     put open lf begin %R1Q,0,0: ..    what was put, opened and closed; `begin` are the eight null procedures of a synchronization, in a
+//!                                 row, each once; `cut:` stands before what was cut; where `with` says `timed`, `@` and the milliseconds
+//!                                 since the start come after each, and of a request there is the id alone, as `#0@15`
+//!     ends 10a 11w[0:1283]2.25    the last digits of cycle and place and a letter for each record: answered, a warning, unreadable and
+//!                                 elsewhere (each with what its reply says after it: the communication code and the return code in
+//!                                 brackets, unless both are 0, and the values), late, lost (x), skipped or missed; where `with` says
+//!                                 `stamped`, `@` and the moment at which its request was sent, in milliseconds since 1970, if it was;
+//!                                 and the last digit of a cycle that overran, with `!`
 //!     end fault 46                the fault, if there is one
-//!     counts answered 3 ..        how many commands ended how, where `with` says `counted`
+//!     counts answered 3 ..        how many commands were answered, late, skipped and missed, and how many chains were sent again, where
+//!                                 `with` says `counted`, after a run without a fault over a link without a log
 //!     log ..                      what the log has, over a link with one; without tasks the link is only read
 //!     row cut=3: PUT | ENDS | END the same once more with this word behind the others, in place of the three lines
 //!     each kept=11                once for each number below this one: all come to the same
 
-use crate::running::{Outcome, Run};
+use crate::running::{Outcome, Run, text_of};
 use crate::setting::Setting;
 use crate::words::number;
-use gc_cases::{Case, Player, Told, push_all};
+use gc_cases::{Case, Player, Told, push_bytes_of};
 use std::alloc::{AllocError, Global};
 use std::io;
 
@@ -54,14 +59,16 @@ impl Values {
         }
     }
 
-    // Stores the values that a case has under `tasks`, `steps` and `then`. `Err`: memory ran out.
+    // Stores the values that a case has under `tasks` (with a line feed for each `;`), `steps` and `then`. `Err`: memory ran out, and what
+    // was stored until then stays.
     fn take(&mut self, case: &Case<'_>) -> Result<(), AllocError> {
         push_lines(&mut self.tasks, case.value("tasks"))?;
-        push_all(&mut self.steps, case.value("steps"))?;
-        push_all(&mut self.then, case.value("then"))
+        push_bytes_of(&mut self.steps, case.value("steps"))?;
+        push_bytes_of(&mut self.then, case.value("then"))
     }
 
-    // The run of the case, set as the words after `with` say. Its link has a log if the case has a line `log`.
+    // The run of the case, set as the words after `with` say; whether these are all known is noted in it. Its link has a log if the case
+    // has a line `log`.
     fn run(&self, case: &Case<'_>) -> Run<'_> {
         let mut setting = Setting::new();
         let is_known = setting.set_all(case.value("with"));
@@ -94,7 +101,7 @@ fn play_case(alloc: Global, case: &Case<'_>, wrong: &mut Told) {
 }
 
 // Plays the rows of a case, or its run if it has no rows. Beside rows a case has no value under `put`, `ends`, `end`, `log` or `counts`:
-// each that it has there is reported as wrong.
+// each that it has there is reported as wrong; and a line `each` has no effect.
 fn play_run(alloc: Global, case: &Case<'_>, run: &Run<'_>, wrong: &mut Told) {
     if case.value("row").is_empty() {
         return play_each(alloc, case, run, wrong);
@@ -118,14 +125,14 @@ fn play_rows(alloc: Global, case: &Case<'_>, run: &Run<'_>, wrong: &mut Told) {
 fn play_row(alloc: Global, case: &Case<'_>, row: &str, run: &Run<'_>, wrong: &mut Told) {
     let mut came = Told::new(alloc);
     let word = row.split_once(": ").map_or(row, |cut| cut.0);
-    tell_row(alloc, word, run, &mut came);
+    play_into_row(alloc, word, run, &mut came);
     if came.as_bytes() != row.as_bytes() || came.is_lacking() {
         case.tell_wrong("rows", came.as_bytes(), wrong);
     }
 }
 
-// Appends a row as it came to `came`: its word, and what the run came to with that word more.
-fn tell_row(alloc: Global, word: &str, run: &Run<'_>, came: &mut Told) {
+// Plays the run with the setting words of `word` more, and appends the row to `came`: `word`, and what the run came to.
+fn play_into_row(alloc: Global, word: &str, run: &Run<'_>, came: &mut Told) {
     let mut outcome = Outcome::new(alloc);
     run.play(alloc, word, &mut outcome);
     came.text(word);
@@ -164,8 +171,7 @@ fn play_with_value(
     let mut word = Told::new(alloc);
     word.text(key);
     word.titled("=", &n);
-    let word = str::from_utf8(word.as_bytes()).unwrap_or("?");
-    play_once(alloc, case, word, run, wrong);
+    play_once(alloc, case, text_of(word.as_bytes()), run, wrong);
 }
 
 // Plays the run once, with the setting words of `word` more, which may be empty. Reports what came otherwise than the case has it.

@@ -1,15 +1,14 @@
 //! A station over any link, whose acts are recorded.
 
 ghost use Rattle.std.specs.Prelude.{Some};
-ghost use Rattle.gc_station.specs.Runs.{Ran};
-ghost use Rattle.gc_station.specs.Scopes.{ForReadings};
+ghost use Rattle.gc_station.specs.Runs.{RanForReadings};
 
 use gc_links::{Link, Telling};
 use gc_station::{Book, Kept, Plan, Tally, run_station};
 use gc_texts::{RunFault, Task};
 
-/// Runs a station with these commands by `run_station`, over a link that records its acts, for at most `max_turns` turns. What
-/// `run_station` promises holds here of the acts recorded.
+/// Runs a station with these commands by `run_station`, over a link that records its acts, for at most `max_turns` turns. The
+/// clause `ran` of `run_station` holds here of the acts recorded. `Err`: the fault with which the run ended.
 pub fn run_telling<L: Link, B: Book>(
     link: &mut Telling<L>,
     book: &mut B,
@@ -17,9 +16,8 @@ pub fn run_telling<L: Link, B: Book>(
     plan: &Plan,
     max_turns: u64,
 ) -> Result<Tally, RunFault>
-    ensures { ForReadings (λ reads.
-        Ran plan.now commands.now (record { turns = max_turns; reads = reads }) (B.text book.old)
-        (Some link.old.history.acts) (Some link.new.history.acts) (B.taken book.old) (B.taken book.new) result) }
+    ensures { RanForReadings plan.now commands.now max_turns (B.text book.old)
+        (Some link.old.history.acts) (Some link.new.history.acts) (B.taken book.old) (B.taken book.new) result }
 {
     run_station(link, book, commands, plan, max_turns, &mut Kept::new())
 }

@@ -1,14 +1,17 @@
-//! The words of steps. Milliseconds come after `@`, and are 5 if none do.
+//! The words of steps. Milliseconds come after `@`, and are 5 if none do. `dead` and the words after it in this list have none: what
+//! stands after their `@` has no effect.
 //!
-//!     BEGUN              the synchronization is answered: the replies of its eight null procedures come, the last of them 15 later
-//!     QUIET              nothing comes for the quiet time
-//!     GIVEN_UP           nothing comes until a deadline
+//!     BEGUN              the synchronization is answered: the replies of its eight null procedures come, the last of them after 15
+//!                        milliseconds
+//!     QUIET              nothing comes for 10 milliseconds, the quiet time of `Setting::new`
+//!     TIMED_OUT          nothing comes for 100 milliseconds, the deadline of `Setting::new`
 //!     #3@30              the reply of a null procedure with this id comes
 //!     <%R1P,0,1:\r@99    these bytes come
-//!     <<%R1P,0,1:0\r\n   these bytes come in two pieces, where `split` says
-//!     silence@70         nothing comes for so long
-//!     reply@1            the reply to the request that was sent last comes, with its number among all of them
-//!     back@500           the clock goes back
+//!     <<%R1P,0,1:0\r\n   these bytes come in two pieces, cut where `split` says, each after the milliseconds
+//!     silence@70         nothing comes for 70 milliseconds
+//!     reply@1            the reply to the request that was sent last comes; its value is the last digit of that request's number among
+//!                        all of them, counted from 0
+//!     back@500           the clock goes back by 500 milliseconds
 //!     dead, noise        nothing comes any more, or lines that are no replies, until the connection is closed
 //!     answers            from now on the request that was sent last is answered, if it isn't yet
 //!     end, failure, no_moment   the other end closes, the read fails, or the clock can't be read after the read
@@ -21,7 +24,7 @@ fn meaning_of(word: &str) -> Option<&'static str> {
     match word {
         "BEGUN" => Some("#6@0 #5@0 #4@0 #3@0 #2@0 #1@0 #0@0 #7@15"),
         "QUIET" => Some("silence@10"),
-        "GIVEN_UP" => Some("silence@100"),
+        "TIMED_OUT" => Some("silence@100"),
         _ => None,
     }
 }
@@ -85,7 +88,7 @@ fn step_of<'a>(what: &'a str, millis: u64) -> Option<Step<'a>> {
         return Some(Step::Line(line.as_bytes(), millis));
     }
     if let Some(id) = what.strip_prefix('#') {
-        return Some(Step::Id(id_of(id)?, millis));
+        return Some(Step::Id(one_byte(id)?, millis));
     }
     match what {
         "silence" => Some(Step::Silence(millis)),
@@ -101,9 +104,9 @@ fn step_of<'a>(what: &'a str, millis: u64) -> Option<Step<'a>> {
     }
 }
 
-// The one byte of an id's word. `None`: it isn't one byte.
-fn id_of(id: &str) -> Option<u8> {
-    match id.as_bytes() {
+// The byte of a word that is one byte. `None`: it isn't.
+fn one_byte(word: &str) -> Option<u8> {
+    match word.as_bytes() {
         [digit] => Some(*digit),
         _ => None,
     }

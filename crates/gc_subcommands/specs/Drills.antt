@@ -18,11 +18,11 @@ use Rattle.gc_world.specs.declared.event.Event.{Event}
 -- a source gave bytes, which were played as a schedule on an instrument with this opening state, or refused; and the status and the
 -- messages report how that ended. `text` is what is written of events that are played, by the opening state, the width, the events,
 -- and whether totals are written: `drill_text_on` for the table's instrument, `scene_drill_text` for that of a scene with rules
-pub record TellsSchedule {S : Type 0} (text : S → ℕ → List Event → Bool → List ℕ) (start : S) (asked : Drilling) (old new : Ports) (status : ℕ) (told told' : Option (List ℕ)) : Type 0 where
+pub record TellsSchedule {S : Type 0} (text : S → ℕ → List Event → Bool → List ℕ) (start : S) (drilling : Drilling) (old new : Ports) (status : ℕ) (told told' : Option (List ℕ)) : Type 0 where
   pub end : Result (Unit {0}) RunFault
   pub given : List ℕ
   pub gave : Consumes old.remaining new.remaining given
-  pub drills : DrillsAs (text start asked.width) given asked.totals old.taken new.taken end
+  pub drills : DrillsAs (text start drilling.width) given drilling.totals old.taken new.taken end
   pub source : new.source_failed ≡ source_failed end old.source_failed
   pub sink : new.sink_failed ≡ sink_failed end old.sink_failed
   pub tells : Tells run_fault_text end status told told'
@@ -34,27 +34,27 @@ pub record RefusesWidth (old new : Ports) (status : ℕ) (told told' : Option (L
   pub unused : AreUnused old new
 
 -- the width was refused, or a schedule was played, and how that ended is reported
-abbrev pub TellsWithin : {S : Type 0} → (text : S → ℕ → List Event → Bool → List ℕ) → S → Drilling → Ports → Ports → ℕ → Option (List ℕ) → Option (List ℕ) → Type 0
-TellsWithin text start asked old new status told told' = RefusesWidth old new status told told' ⊎ TellsSchedule text start asked old new status told told'
+abbrev pub TellsWithin : {S : Type 0} → (text : S → ℕ → List Event → Bool → List ℕ) → S → Drilling → (old new : Ports) → ℕ → (told told' : Option (List ℕ)) → Type 0
+TellsWithin text start drilling old new status told told' = RefusesWidth old new status told told' ⊎ TellsSchedule text start drilling old new status told told'
 
 -- the scene or the width was refused, or the schedule was played on the instrument of the scene, and how that ended is reported; the
 -- instrument has rules only where a scene is named
-abbrev pub TellsDrill : Drilling → Ports → Ports → ℕ → Option (List ℕ) → Option (List ℕ) → Type 0
-TellsDrill asked old new status told told' =
-    RefusesScene asked.scene old new status told told' ⊎ (((start : State) × IsSimulatorUnlessNamed asked.scene start × TellsWithin drill_text_on start asked old new status told told')
-    ⊎ ((asked.scene ≡ None → ⊥) × ((start : SceneState) × TellsWithin scene_drill_text start asked old new status told told')))
+abbrev pub TellsDrill : Drilling → (old new : Ports) → ℕ → (told told' : Option (List ℕ)) → Type 0
+TellsDrill drilling old new status told told' =
+    RefusesScene drilling.scene old new status told told' ⊎ (((start : State) × IsSimulatorUnlessNamed drilling.scene start × TellsWithin drill_text_on start drilling old new status told told')
+    ⊎ ((drilling.scene ≡ None → ⊥) × ((start : SceneState) × TellsWithin scene_drill_text start drilling old new status told told')))
 
 -- the sink took the output of the events of the schedule that a source gave. `text` is as in `TellsSchedule`
-abbrev pub PlaysWhole : {S : Type 0} → (text : S → ℕ → List Event → Bool → List ℕ) → S → Drilling → Ports → Ports → Type 0
-PlaysWhole text start asked old new = (given : List ℕ) × Consumes old.remaining new.remaining given
-    × ((events : List Event) × IsSchedule given events × Appends old.taken new.taken (text start asked.width events asked.totals))
+abbrev pub PlaysWhole : {S : Type 0} → (text : S → ℕ → List Event → Bool → List ℕ) → S → Drilling → (old new : Ports) → Type 0
+PlaysWhole text start drilling old new = (given : List ℕ) × Consumes old.remaining new.remaining given
+    × ((events : List Event) × IsSchedule given events × Appends old.taken new.taken (text start drilling.width events drilling.totals))
 
 -- the sink took the output of the schedule's events on the instrument of the scene, which is the simulator where no scene is named,
 -- and has rules only where one is named
-abbrev pub PlaysScene : Drilling → Ports → Ports → Type 0
-PlaysScene asked old new = ((start : State) × IsSimulatorUnlessNamed asked.scene start × PlaysWhole drill_text_on start asked old new)
-    ⊎ ((asked.scene ≡ None → ⊥) × ((start : SceneState) × PlaysWhole scene_drill_text start asked old new))
+abbrev pub PlaysScene : Drilling → (old new : Ports) → Type 0
+PlaysScene drilling old new = ((start : State) × IsSimulatorUnlessNamed drilling.scene start × PlaysWhole drill_text_on start drilling old new)
+    ⊎ ((drilling.scene ≡ None → ⊥) × ((start : SceneState) × PlaysWhole scene_drill_text start drilling old new))
 
 -- the source was read to its end: the last read was the end, and the source has no byte left
-abbrev pub ReadsWholeSource : Ports → Ports → Type 0
+abbrev pub ReadsWholeSource : (old new : Ports) → Type 0
 ReadsWholeSource old new = IsAtEnd new.remaining × (new.ended ≡ true) × (old.reads < new.reads)

@@ -7,7 +7,7 @@ use Rattle.gc_subcommands.specs.Refusing.{refusal_text}
 use Rattle.gc_subcommands.specs.declared.refusal.Refusal.{Refusal}
 
 -- nothing was read, and nothing written
-abbrev pub AreUnused : Ports → Ports → Type 0
+abbrev pub AreUnused : (old new : Ports) → Type 0
 AreUnused old new = (new.remaining ≡ old.remaining) × (new.taken ≡ old.taken)
 
 -- the scene that was named was refused, which is reported with status 1, and nothing was read or written; the messages had

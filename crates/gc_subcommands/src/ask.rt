@@ -33,7 +33,10 @@ pub fn ask_command<'a>(alloc: Global, name: &'a str) -> Result<Command<'a>, Allo
 }
 
 /// Asks the commands of a source at a place, writes a line for each settlement into a sink, and reports how that ended, with status 0
-/// or 1.
+/// or 1. `Err`: the messages couldn't be written.
+///
+/// The clause has only the range of the status. What is asked and written `ask_at` promises; that the status and the messages report
+/// its result no clause says.
 pub fn ask_place<
     R: Net<Listener = TcpListener, Stream = TcpStream> + Files<File = File> + Clock,
     S: Source,

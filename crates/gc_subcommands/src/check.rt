@@ -33,7 +33,7 @@ pub fn check_command<'a>(alloc: Global, name: &'a str) -> Result<Command<'a>, Al
     )
 }
 
-/// Checks a log where `log` is set, else a stream, and reports how that ended, with status 0 or 1.
+/// Checks a log where `log` is set, else a stream, and reports how that ended, with status 0 or 1. `Err`: the messages couldn't be written.
 pub fn check<S: Source, K: Sink, E: Write>(
     log: bool,
     source: &mut S,
@@ -56,7 +56,7 @@ pub fn check<S: Source, K: Sink, E: Write>(
     report_served(check_input(log, source, sink), messages)
 }
 
-// Checks a log where `log` is set, else a stream.
+// Checks a log where `log` is set, as `run_check_log` does, else a stream, as `run_check` does.
 fn check_input<S: Source, K: Sink>(
     log: bool,
     source: &mut S,

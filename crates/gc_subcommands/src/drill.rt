@@ -66,7 +66,7 @@ pub fn drilling_of<'a>(words: &ArgMatches<'a>) -> Drilling<'a> {
 }
 
 /// Reads the scene, plays the schedule of the source on its instrument, and reports how that ended: with status 0, 1, or 2 for a width
-/// out of its range.
+/// out of its range. A faulty scene is reported before such a width. `Err`: the messages couldn't be written.
 pub fn drill_scene<R: Files, S: Source, K: Sink, E: Write>(
     rt: &R,
     alloc: Global,
@@ -107,8 +107,9 @@ pub fn drill_scene<R: Files, S: Source, K: Sink, E: Write>(
     }
 }
 
-// Plays a schedule, and reports how that ended. A width out of its range is refused here, and by clap, though no clause of
-// clap's says so.
+// Plays the schedule of the source on an instrument, and reports how that ended, with status 0 or 1; with status 2 it refuses a width
+// out of its range, before anything is read. clap refuses it first, though no clause of clap's says so. The clauses are those of
+// `drill_scene`, of this instrument.
 fn drill_within<I: Drilled, S: Source, K: Sink, E: Write>(
     alloc: Global,
     instrument: I,
@@ -117,22 +118,14 @@ fn drill_within<I: Drilled, S: Source, K: Sink, E: Write>(
     sink: &mut K,
     messages: &mut E,
 ) -> io::Result<ExitCode>
-    // Either the width was refused with status 2 and a line, and nothing was read or written; or the schedule was played, and
-    // how that ended is reported.
     ensures told { IfOk result (λ status. TellsWithin I.text instrument drilling.entry
         (ports_of S.Source source.old K.Sink sink.old)
         (ports_of S.Source source.new K.Sink sink.new)
         (exit_status status) (E.contents messages.old) (E.contents messages.new)) }
-
-    // A width from 1 to 7 isn't refused.
     ensures width { 1 ≤ drilling.entry.width → drilling.entry.width ≤ WINDOW → IfOk result (λ status. exit_status status ≤ 1) }
-
-    // Status 0 only where the sink took the output of the text's events.
     ensures done { IfOk result (λ status. exit_status status ≡ 0 → PlaysWhole I.text instrument drilling.entry
         (ports_of S.Source source.old K.Sink sink.old)
         (ports_of S.Source source.new K.Sink sink.new)) }
-
-    // Status 0 only where the last read was the end, and the source has no byte left.
     ensures whole { IfOk result (λ status. exit_status status ≡ 0 → ReadsWholeSource
         (ports_of S.Source source.old K.Sink sink.old)
         (ports_of S.Source source.new K.Sink sink.new)) }
@@ -147,7 +140,8 @@ fn drill_within<I: Drilled, S: Source, K: Sink, E: Write>(
     drill(alloc, instrument, drilling, source, sink, messages)
 }
 
-// Plays the schedule of the source on an instrument, and reports how that ended, with status 0 or 1.
+// Plays the schedule of the source on an instrument, and reports how that ended, with status 0 or 1. The clauses are those of
+// `drill_scene`, of this instrument and a width that isn't refused.
 fn drill<I: Drilled, S: Source, K: Sink, E: Write>(
     alloc: Global,
     instrument: I,
@@ -158,19 +152,13 @@ fn drill<I: Drilled, S: Source, K: Sink, E: Write>(
 ) -> io::Result<ExitCode>
     requires least { 1 ≤ drilling.width }
     requires most { drilling.width ≤ WINDOW }
-
-    // The schedule was played, and the status and the messages report how that ended.
     ensures told { IfOk result (λ status. TellsSchedule I.text instrument drilling.entry
         (ports_of S.Source source.old K.Sink sink.old)
         (ports_of S.Source source.new K.Sink sink.new)
         (exit_status status) (E.contents messages.old) (E.contents messages.new)) }
-
-    // Status 0 only where the sink took the output of the text's events.
     ensures done { IfOk result (λ status. exit_status status ≡ 0 → PlaysWhole I.text instrument drilling.entry
         (ports_of S.Source source.old K.Sink sink.old)
         (ports_of S.Source source.new K.Sink sink.new)) }
-
-    // Status 0 only where the last read was the end, and the source has no byte left.
     ensures whole { IfOk result (λ status. exit_status status ≡ 0 → ReadsWholeSource
         (ports_of S.Source source.old K.Sink sink.old)
         (ports_of S.Source source.new K.Sink sink.new)) }

@@ -42,6 +42,7 @@ impl Drilled for Instrument {
 
     ghost text = { drill_text_on };
 
+    // Plays as `run_drill_on` does.
     fn play<S: Source, K: Sink>(
         self,
         alloc: Global,
@@ -59,6 +60,7 @@ impl Drilled for SceneInstrument {
 
     ghost text = { scene_drill_text };
 
+    // Plays as `run_drill_scene` does.
     fn play<S: Source, K: Sink>(
         self,
         alloc: Global,

@@ -3,16 +3,13 @@
 ghost use Rattle.std.specs.Prelude.{◌≡◌, ◌≤◌, None, IfOk, false};
 ghost use Rattle.std.specs.Process.{exit_status};
 ghost use Rattle.gc_subcommands.specs.Serves.{TellsServing, TellsExec, IsDoneAtEnd, FailsByPorts};
-ghost use Rattle.gc_instrument.specs.Serving.{IsServing};
 ghost use Rattle.gc_lines.specs.Answering.{ports_of};
-ghost use Rattle.gc_scenes.specs.SceneServing.{IsSceneServing};
 
+use crate::answerer::Answerer;
 use crate::scene::{Staged, staged_of};
 use clap::Command;
-use gc_instrument::{Instrument, serve};
 use gc_lines::{Sink, Source};
 use gc_messages::report_served;
-use gc_scenes::{SceneInstrument, serve_scene};
 use gc_words::help::REQUESTS;
 use gc_words::{Argument, SCENE, command_of};
 use std::alloc::{AllocError, Global};
@@ -34,7 +31,8 @@ pub fn exec_command<'a>(alloc: Global, name: &'a str) -> Result<Command<'a>, All
     )
 }
 
-/// Reads the scene, answers the requests of the source with its instrument, and reports how that ended, with status 0 or 1.
+/// Reads the scene, answers the requests of the source with its instrument, and reports how that ended, with status 0 or 1. `Err`: the
+/// messages couldn't be written.
 pub fn exec_scene<R: Files, S: Source, K: Sink, E: Write>(
     rt: &R,
     alloc: Global,
@@ -56,7 +54,8 @@ pub fn exec_scene<R: Files, S: Source, K: Sink, E: Write>(
         (ports_of S.Source source.new K.Sink sink.new)
         (exit_status status)) }
 
-    // Without a scene, status 1 only where a port failed, or all reads that a u32 counts were used up.
+    // Without a scene, and over ports that hadn't failed before, status 1 only where one failed, or all reads that a u32 counts were
+    // used up.
     ensures fault { scene.entry ≡ None → S.failed source.old ≡ false → K.failed sink.old ≡ false
         → IfOk result (λ status. FailsByPorts
         (ports_of S.Source source.old K.Sink sink.old)
@@ -66,31 +65,27 @@ pub fn exec_scene<R: Files, S: Source, K: Sink, E: Write>(
 {
     match staged_of(rt, alloc, scene) {
         Ok(Staged::Plain(instrument)) => exec(instrument, source, sink, messages),
-        Ok(Staged::Ruled(instrument)) => exec_ruled(instrument, source, sink, messages),
+        Ok(Staged::Ruled(instrument)) => exec(instrument, source, sink, messages),
         Err(refusal) => refusal.tell(messages),
     }
 }
 
-// Answers the requests of the source with the instrument, and reports how that ended, with status 0 or 1.
-fn exec<S: Source, K: Sink, E: Write>(
-    mut instrument: Instrument,
+// Answers the requests of the source with the instrument, and reports how that ended, with status 0 or 1. The clauses are those of
+// `exec_scene`, of this instrument.
+fn exec<I: Answerer, S: Source, K: Sink, E: Write>(
+    mut instrument: I,
     source: &mut S,
     sink: &mut K,
     messages: &mut E,
 ) -> io::Result<ExitCode>
-    // The instrument served the source, and the status and the messages report how that ended.
-    ensures told { IfOk result (λ status. TellsServing IsServing instrument
+    ensures told { IfOk result (λ status. TellsServing I.serving instrument
         (ports_of S.Source source.old K.Sink sink.old)
         (ports_of S.Source source.new K.Sink sink.new)
         (exit_status status) (E.contents messages.old) (E.contents messages.new)) }
-
-    // Status 0 exactly where the last read was the end.
     ensures done { IfOk result (λ status. IsDoneAtEnd
         (ports_of S.Source source.old K.Sink sink.old)
         (ports_of S.Source source.new K.Sink sink.new)
         (exit_status status)) }
-
-    // Status 1 only where a port failed, or all reads that a u32 counts were used up.
     ensures fault { S.failed source.old ≡ false → K.failed sink.old ≡ false
         → IfOk result (λ status. FailsByPorts
         (ports_of S.Source source.old K.Sink sink.old)
@@ -98,38 +93,5 @@ fn exec<S: Source, K: Sink, E: Write>(
         (exit_status status)) }
     ensures bound { IfOk result (λ status. exit_status status ≤ 1) }
 {
-    report_served(serve(&mut instrument, source, sink, u32::MAX), messages)
-}
-
-// Answers the requests of the source with the instrument of a scene with rules, and reports how that ended, with status 0 or 1.
-fn exec_ruled<S: Source, K: Sink, E: Write>(
-    mut instrument: SceneInstrument,
-    source: &mut S,
-    sink: &mut K,
-    messages: &mut E,
-) -> io::Result<ExitCode>
-    // The instrument served the source, and the status and the messages report how that ended.
-    ensures told { IfOk result (λ status. TellsServing IsSceneServing instrument
-        (ports_of S.Source source.old K.Sink sink.old)
-        (ports_of S.Source source.new K.Sink sink.new)
-        (exit_status status) (E.contents messages.old) (E.contents messages.new)) }
-
-    // Status 0 exactly where the last read was the end.
-    ensures done { IfOk result (λ status. IsDoneAtEnd
-        (ports_of S.Source source.old K.Sink sink.old)
-        (ports_of S.Source source.new K.Sink sink.new)
-        (exit_status status)) }
-
-    // Status 1 only where a port failed, or all reads that a u32 counts were used up.
-    ensures fault { S.failed source.old ≡ false → K.failed sink.old ≡ false
-        → IfOk result (λ status. FailsByPorts
-        (ports_of S.Source source.old K.Sink sink.old)
-        (ports_of S.Source source.new K.Sink sink.new)
-        (exit_status status)) }
-    ensures bound { IfOk result (λ status. exit_status status ≤ 1) }
-{
-    report_served(
-        serve_scene(&mut instrument, source, sink, u32::MAX),
-        messages,
-    )
+    report_served(instrument.answer_all(source, sink), messages)
 }

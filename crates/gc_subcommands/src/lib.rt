@@ -2,6 +2,7 @@
 //! function that runs it.
 #![tactic(auto)]
 
+mod answerer;
 pub mod ask;
 pub mod check;
 pub mod drill;
@@ -13,4 +14,4 @@ mod scene;
 pub mod serve;
 mod words;
 
-pub use words::{Asked, Asking, Subcommand, asked_of};
+pub use words::{ClientJob, Job, Subcommand, job_of};

@@ -32,8 +32,12 @@ pub fn loop_command<'a>(alloc: Global, name: &'a str) -> Result<Command<'a>, All
 }
 
 /// Asks the commands of a source over a connection to the instrument of a scene, which is read first, or to the simulator where no
-/// scene is named; writes a line for each settlement into a sink, and reports how that ended, with status 0 or 1.
-pub fn loop_port<
+/// scene is named; writes a line for each settlement into a sink, and reports how that ended, with status 0 or 1. `Err`: the messages
+/// couldn't be written.
+///
+/// The clause has only the range of the status. What is asked and written `loop_tcp_on` promises; which instrument the scene sets up,
+/// and that the status and the messages report the result, no clause says.
+pub fn loop_scene<
     R: Net<Listener = TcpListener, Stream = TcpStream> + Files,
     S: Source,
     K: Sink,
@@ -59,8 +63,9 @@ pub fn loop_port<
     }
 }
 
-// Asks the commands of a source over a connection to this instrument, that of the scene if one is named, and reports how that ended. A
-// fault in the commands is also reported as one of standard input if a scene is named.
+// Asks the commands of a source over a connection to this instrument, that of the scene if one is named, and reports how that ended, with
+// status 0 or 1. If a scene is named, a further line after a fault of the commands' text (`Schedule`, `InputTooLong`) says that it is of
+// standard input. `Err`: the line of the fault couldn't be written.
 fn loop_on<
     R: Net<Listener = TcpListener, Stream = TcpStream>,
     T: Answers + Drop,

@@ -21,8 +21,8 @@ pub(crate) enum Refusal {
 }
 
 impl Refusal {
-    /// The refusal of a scene's text for this reason. `has_clock` says whether the scene is for an instrument with a clock, as that of
-    /// `serve`.
+    /// The refusal of a scene's text for this reason: a faulty line (`Schedule`) with what is at fault in it. `has_clock` says whether the
+    /// scene is for an instrument with a clock, as that of `serve`.
     pub(crate) fn of(fault: RunFault, text: &[u8], has_clock: bool) -> Refusal
         ensures { refusal_fault result ≡ fault }
     {
@@ -35,7 +35,7 @@ impl Refusal {
     }
 
     /// Reports the refusal with status 1 and the line of the fault. If a line of the text is faulty, a second line says what is at
-    /// fault in it.
+    /// fault in it. `Err`: the messages couldn't be written.
     pub(crate) fn tell<E: Write>(self, messages: &mut E) -> io::Result<ExitCode>
         ensures { IfOk result (λ status. (exit_status status ≡ 1) × Appends (E.contents messages.old) (E.contents messages.new) (refusal_text self)) }
     {
@@ -49,7 +49,7 @@ impl Refusal {
     }
 
     /// Reports the refusal as `tell` does, with status 1, and then writes a line with the path of the scene's file (`scene`), if one is
-    /// named.
+    /// named. `Err`: what `tell` writes couldn't be written.
     pub(crate) fn tell_with_file<E: Write>(
         self,
         scene: Option<&str>,

@@ -1,13 +1,12 @@
-//! The instrument of a subcommand: that of a scene's file, or the simulator where none is named.
+//! The instrument of a subcommand: that of a scene's file, or the simulator where none is named. A text is read as a scene without
+//! rules; where a line of it is faulty as that, as one with rules; and for `serve`, where a line is still faulty, as one for an instrument
+//! with a clock.
 
-ghost use Rattle.std.specs.Prelude.{◌≡◌, ◌⊎◌, ℕ, List, None, Ok, IfErr, IfOk};
-ghost use Rattle.std.specs.Io.KnownBytes.{Consumes, IsAtEnd};
+ghost use Rattle.std.specs.Prelude.{◌≡◌, None, Ok, IfErr, IfOk};
 ghost use Rattle.gc_instrument.specs.State.{simulator_opening};
 ghost use Rattle.gc_engines.specs.RuleScenes.{IsStillLine, SceneFaultOf};
 ghost use Rattle.gc_engines.specs.TimedScenes.{TimedFault};
-ghost use Rattle.gc_texts.specs.Texts.{IsReadFault};
-ghost use Rattle.gc_subcommands.specs.Refusing.{refusal_fault};
-ghost use Rattle.gc_subcommands.specs.Staging.{IsStaged, IsTimed, StagedFault, TimedStagedFault};
+ghost use Rattle.gc_subcommands.specs.Staging.{GivesStaged, GivesTimed, IsStaged, IsTimed, RefusesStaged, RefusesTimed, StagedFault, TimedStagedFault};
 ghost use Rattle.gc_subcommands.specs.declared.scene.Staged.TheVariants.{Plain};
 ghost use Rattle.gc_subcommands.specs.declared.scene.Timed.TheVariants.{Still};
 
@@ -29,20 +28,21 @@ pub(crate) enum Staged {
     Ruled(SceneInstrument),
 }
 
-/// The instrument that a scene sets up for `serve`, which has a clock: also one whose replies take time, where a line says so.
+/// The instrument that a scene sets up for `serve`, which has a clock: also one that needs the clock, where a line says so (`delay`,
+/// `busy`, `behave clock`, `behave real`).
 #[derive(Drop)]
 pub(crate) enum Timed {
-    /// One whose replies take no time.
+    /// One that needs no clock: its replies take no time.
     Still(Staged),
-    /// One whose replies take time.
+    /// One that needs the clock: its replies may take time.
     Slow(SlowInstrument),
 }
 
 /// The instrument of the scene in a file, with rules or without them, or the simulator if no file is named. The file is read to its
-/// end and closed.
+/// end, or until it is found too long, and closed.
 ///
-/// `Read` comes where the file can't be opened or read. The faults of a scene's text are those of `read_scene`, and of one with rules
-/// those of `read_still_scene`.
+/// `Read` comes where the file can't be opened. The faults of its reading are those of `read_text`; those of a scene's text are those of
+/// `read_scene`, and of one with rules those of `read_still_scene`. The clause speaks only of the simulator: what a file holds isn't known.
 pub(crate) fn staged_of<R: Files>(
     rt: &R,
     alloc: Global,
@@ -59,40 +59,39 @@ pub(crate) fn staged_of<R: Files>(
     staged_in(alloc, &mut FromReader::new(file))
 }
 
-// The instrument of the scene that a source gives, with rules or without them.
+// The instrument of the scene that a source gives, with rules or without them. The faults are those of `staged_of`.
 fn staged_in<S: Source>(alloc: Global, source: &mut S) -> Result<Staged, Refusal>
     // The whole of what the source gave is its text.
-    ensures found { IfOk result (λ staged. (text : List ℕ) × Consumes (S.remaining source.old) (S.remaining source.new) text
-        × IsAtEnd (S.remaining source.new) × IsStaged text staged) }
+    ensures found { IfOk result (λ staged. GivesStaged (S.remaining source.old) (S.remaining source.new) staged) }
 
     // Either the source wasn't read to its end, or its text is faulty.
-    ensures fault { IfErr result (λ r. (given : List ℕ) × Consumes (S.remaining source.old) (S.remaining source.new) given
-        × (IsReadFault given (refusal_fault r) ⊎ StagedFault given (refusal_fault r))) }
+    ensures fault { IfErr result (λ r. RefusesStaged (S.remaining source.old) (S.remaining source.new) r) }
 {
     let text = match read_text(alloc, source) {
         Ok(text) => text,
         Err(fault) => return Err(Refusal::Fault(fault)),
     };
-    match staged_text(alloc, text.as_slice()) {
+    match staged_of_text(alloc, text.as_slice()) {
         Ok(staged) => Ok(staged),
         Err(fault) => Err(Refusal::of(fault, text.as_slice(), false)),
     }
 }
 
-// The instrument of a scene's text: without rules, where each line is one of a scene without rules.
-fn staged_text(alloc: Global, text: &[u8]) -> Result<Staged, RunFault>
+// The instrument of a scene's text: without rules, where each line is one of a scene without rules; else one with rules. `Schedule`
+// names the first line that is faulty in a scene with rules, too.
+fn staged_of_text(alloc: Global, text: &[u8]) -> Result<Staged, RunFault>
     ensures found { IfOk result (λ staged. IsStaged text.now staged) }
     ensures fault { IfErr result (λ e. StagedFault text.now e) }
 {
     match read_scene(alloc, text) {
         Ok(instrument) => Ok(Staged::Plain(instrument)),
-        Err(RunFault::Schedule { .. }) => ruled_text(alloc, text),
+        Err(RunFault::Schedule { .. }) => ruled_of_text(alloc, text),
         Err(fault) => Err(fault),
     }
 }
 
-// The instrument of the text of a scene with rules.
-fn ruled_text(alloc: Global, text: &[u8]) -> Result<Staged, RunFault>
+// The instrument of the text of a scene with rules. The faults are those of `read_still_scene`.
+fn ruled_of_text(alloc: Global, text: &[u8]) -> Result<Staged, RunFault>
     ensures found { IfOk result (λ staged. IsStaged text.now staged) }
     ensures fault { IfErr result (λ e. SceneFaultOf IsStillLine text.now e) }
 {
@@ -102,9 +101,11 @@ fn ruled_text(alloc: Global, text: &[u8]) -> Result<Staged, RunFault>
     }
 }
 
-/// The instrument of the scene in a file for `serve`, which has a clock, or the simulator if no file is named.
+/// The instrument of the scene in a file for `serve`, which has a clock, or the simulator if no file is named. The file is read and closed
+/// as `staged_of` does.
 ///
-/// The faults are those of `staged_of`. Of a scene with delays they are those of `read_timed_scene`.
+/// The faults are those of `staged_of`, and of a scene that needs the clock those of `read_timed_scene`. The clause speaks only of the
+/// simulator, as that of `staged_of`.
 pub(crate) fn timed_of<R: Files>(
     rt: &R,
     alloc: Global,
@@ -121,40 +122,39 @@ pub(crate) fn timed_of<R: Files>(
     timed_in(alloc, &mut FromReader::new(file))
 }
 
-// The instrument of the scene that a source gives, for `serve`, which has a clock.
+// The instrument of the scene that a source gives, for `serve`, which has a clock. The faults are those of `timed_of`.
 fn timed_in<S: Source>(alloc: Global, source: &mut S) -> Result<Timed, Refusal>
     // The whole of what the source gave is its text.
-    ensures found { IfOk result (λ timed. (text : List ℕ) × Consumes (S.remaining source.old) (S.remaining source.new) text
-        × IsAtEnd (S.remaining source.new) × IsTimed text timed) }
+    ensures found { IfOk result (λ timed. GivesTimed (S.remaining source.old) (S.remaining source.new) timed) }
 
     // Either the source wasn't read to its end, or its text is faulty.
-    ensures fault { IfErr result (λ r. (given : List ℕ) × Consumes (S.remaining source.old) (S.remaining source.new) given
-        × (IsReadFault given (refusal_fault r) ⊎ TimedStagedFault given (refusal_fault r))) }
+    ensures fault { IfErr result (λ r. RefusesTimed (S.remaining source.old) (S.remaining source.new) r) }
 {
     let text = match read_text(alloc, source) {
         Ok(text) => text,
         Err(fault) => return Err(Refusal::Fault(fault)),
     };
-    match timed_text(alloc, text.as_slice()) {
+    match timed_of_text(alloc, text.as_slice()) {
         Ok(timed) => Ok(timed),
         Err(fault) => Err(Refusal::of(fault, text.as_slice(), true)),
     }
 }
 
-// The instrument of a scene's text: one whose replies take no time, where no line says that they do.
-fn timed_text(alloc: Global, text: &[u8]) -> Result<Timed, RunFault>
+// The instrument of a scene's text, for `serve`: one that needs no clock, where each line is one of a scene for such an instrument; else
+// one that needs the clock. `Schedule` names the first line that is faulty in a scene for `serve`.
+fn timed_of_text(alloc: Global, text: &[u8]) -> Result<Timed, RunFault>
     ensures found { IfOk result (λ timed. IsTimed text.now timed) }
     ensures fault { IfErr result (λ e. TimedStagedFault text.now e) }
 {
-    match staged_text(alloc, text) {
+    match staged_of_text(alloc, text) {
         Ok(staged) => Ok(Timed::Still(staged)),
-        Err(RunFault::Schedule { .. }) => slow_text(alloc, text),
+        Err(RunFault::Schedule { .. }) => slow_of_text(alloc, text),
         Err(fault) => Err(fault),
     }
 }
 
-// The instrument of the text of a scene with delays.
-fn slow_text(alloc: Global, text: &[u8]) -> Result<Timed, RunFault>
+// The instrument of the text of a scene that needs the clock. The faults are those of `read_timed_scene`.
+fn slow_of_text(alloc: Global, text: &[u8]) -> Result<Timed, RunFault>
     ensures found { IfOk result (λ timed. IsTimed text.now timed) }
     ensures fault { IfErr result (λ e. TimedFault text.now e) }
 {

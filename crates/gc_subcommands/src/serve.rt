@@ -14,7 +14,7 @@ use gc_links::Place;
 use gc_messages::{Standard, refuse_numbers, report_end, report_end_at};
 use gc_scenes::SlowInstrument;
 use gc_texts::RunFault;
-use gc_words::help::KEPT;
+use gc_words::help::CONNECTIONS;
 use gc_words::{Argument, FLAG, PLACE, SCENE, Takes, command_of, named_place};
 use std::alloc::{AllocError, Global};
 use std::fs::File;
@@ -27,7 +27,7 @@ use std::time::Clock;
 // The longest time for which a kept connection may be idle, in seconds: a day.
 const LONGEST_IDLE: u32 = 86_400;
 
-/// What the words of `serve` ask for: the file of the scene, the port or device, the number of connections where one is given,
+/// What the words of `serve` ask for: the file of the scene, the port, address or device, the number of connections where one is given,
 /// and with `--keep` the seconds without bytes after which a connection is idle (`None`: without `--keep`).
 #[derive(Clone, Copy)]
 pub struct Serving<'a> {
@@ -78,7 +78,7 @@ pub fn serve_command<'a>(alloc: Global, name: &'a str) -> Result<Command<'a>, Al
         alloc,
         name,
         "Serves a simulator on a port, or on a device",
-        KEPT,
+        CONNECTIONS,
         ARGUMENTS,
     )
 }
@@ -107,10 +107,13 @@ fn idle_of(words: &ArgMatches) -> Option<u32> {
     }
 }
 
-/// Serves a port or a device, or keeps it where `serving.idle` is set, and reports how that ended. The places of standard
-/// streams that are closed are filled first, and stay filled. `StreamClosed` comes where that can't be done. Then the scene is
-/// read, and only then a port is bound or a device opened.
-pub fn serve_filled<
+/// Serves a port, an address or a device, or keeps it where `serving.idle` is set, and reports how that ended, with status 0, 1, or 2 for
+/// a number out of its range. The places of standard streams that are closed are filled first, and stay filled until it ends.
+/// `StreamClosed` comes where that can't be done. Then the scene is read, and only then a port is bound or a device opened. `Err`: the
+/// messages couldn't be written.
+///
+/// The clause has only the range of the status: what is served, and which lines are written, no clause says.
+pub fn serve_with_places_filled<
     R: Net<Listener = TcpListener, Stream = TcpStream> + Clock + Files<File = File>,
     E: Write,
 >(
@@ -125,13 +128,13 @@ pub fn serve_filled<
     let Ok(places) = standard.fill(rt) else {
         return standard.refuse(messages);
     };
-    let ended = serve_scene(rt, alloc, serving, messages);
+    let ended = serve_with_scene(rt, alloc, serving, messages);
     drop(places);
     ended
 }
 
-// Reads the scene, and serves or keeps a place with its instrument.
-fn serve_scene<
+// Reads the scene, and serves or keeps a place with its instrument. A scene that is refused is reported with its file, with status 1.
+fn serve_with_scene<
     R: Net<Listener = TcpListener, Stream = TcpStream> + Clock + Files<File = File>,
     E: Write,
 >(rt: &R, alloc: Global, serving: Serving<'_>, messages: &mut E) -> io::Result<ExitCode>
@@ -139,17 +142,18 @@ fn serve_scene<
 {
     match timed_of(rt, alloc, serving.scene) {
         Ok(Timed::Still(Staged::Plain(mut instrument))) => {
-            serve_with(rt, serving, &mut instrument, None, messages)
+            serve_or_keep(rt, serving, &mut instrument, None, messages)
         }
         Ok(Timed::Still(Staged::Ruled(mut instrument))) => {
-            serve_with(rt, serving, &mut instrument, None, messages)
+            serve_or_keep(rt, serving, &mut instrument, None, messages)
         }
         Ok(Timed::Slow(slow)) => serve_slow(rt, serving, slow, messages),
         Err(refusal) => refusal.tell_with_file(serving.scene, messages),
     }
 }
 
-// Serves or keeps a place with an instrument whose replies take time. `Clock` comes where the clock can't be read.
+// Serves or keeps a place with an instrument whose replies may take time. `Clock` comes where the clock can't be read; then no place is
+// served.
 fn serve_slow<
     R: Net<Listener = TcpListener, Stream = TcpStream> + Clock + Files<File = File>,
     E: Write,
@@ -160,12 +164,12 @@ fn serve_slow<
         return report_end(Err(RunFault::Clock), messages);
     };
     let mut instrument = Slow::new(&clock, slow);
-    serve_with(rt, serving, &mut instrument, Some(&clock), messages)
+    serve_or_keep(rt, serving, &mut instrument, Some(&clock), messages)
 }
 
-// Serves a place with an instrument, or keeps it (`keep_place`) where `serving.idle` is set. `clock`: that of an instrument whose
-// replies take time.
-fn serve_with<
+// Serves a place with an instrument, for one connection where no number is given, or keeps it (`keep_place`) where `serving.idle` is set.
+// `clock`: that of an instrument whose replies may take time.
+fn serve_or_keep<
     R: Net<Listener = TcpListener, Stream = TcpStream> + Clock + Files<File = File>,
     I: Simulates,
     E: Write,
@@ -204,7 +208,7 @@ enum Endpoint<'a> {
     Device(&'a str),
 }
 
-// Where an instrument is served that has this place. `None`: on port 0, which clap refuses, though no clause of clap's says so.
+// The endpoint that a place names. `None`: it is port 0, which no word of the command line names (`place_of`).
 fn endpoint_of(place: Place<'_>) -> Option<Endpoint<'_>> {
     match place {
         Place::Port(0) => None,
@@ -214,8 +218,8 @@ fn endpoint_of(place: Place<'_>) -> Option<Endpoint<'_>> {
     }
 }
 
-// Serves a port or a device, and reports how that ended. clap refuses numbers out of their range, though no clause of clap's says
-// so: hence they are refused here, too, but for 0 connections of a device, which is not opened then.
+// Serves a port, an address or a device, and reports how that ended. clap refuses numbers out of their range, though no clause of clap's
+// says so: hence they are refused here, too, with status 2, but for 0 connections of a device, which isn't opened then: the status is 0.
 fn serve_place<
     R: Net<Listener = TcpListener, Stream = TcpStream> + Clock + Files<File = File>,
     I: Simulates,
@@ -243,7 +247,7 @@ fn serve_place<
     }
 }
 
-// Serves an address, and reports how that ended. Numbers out of their range are refused here, as in `serve_place`.
+// Serves an address, and reports how that ended. A number of connections that isn't 1 to 1000 is refused with status 2.
 fn serve_address<
     R: Net<Listener = TcpListener, Stream = TcpStream> + Clock,
     I: Simulates,
@@ -267,8 +271,9 @@ fn serve_address<
     )
 }
 
-// Serves a port or a device, goes on after a connection that fails (`--keep`), and reports how that ended. On a port a
-// connection is closed after `idle` seconds without a byte. Numbers out of their range are refused here, as in `serve_place`.
+// Serves a port, an address or a device, goes on after a connection that fails (`--keep`), and reports how that ended. A connection that
+// isn't a device's is closed after `idle` seconds without a byte. Numbers out of their range are refused with status 2, also 0 connections
+// and the `idle` of a device. The status is 0 also where the line of a connection's fault couldn't be written.
 fn keep_place<
     R: Net<Listener = TcpListener, Stream = TcpStream> + Clock + Files<File = File>,
     I: Simulates,
@@ -284,7 +289,7 @@ fn keep_place<
 ) -> io::Result<ExitCode>
     ensures { IfOk result (λ status. exit_status status ≤ 2) }
 {
-    if idle == 0 || idle > LONGEST_IDLE || !may_be_asked(connections) {
+    if idle == 0 || idle > LONGEST_IDLE || !is_in_range(connections) {
         return refuse_numbers(messages);
     }
     let keeping = Keeping {
@@ -305,8 +310,8 @@ fn keep_place<
     }
 }
 
-// Whether this number of connections may be asked for: none given, or 1 to 1000.
-fn may_be_asked(connections: Option<u32>) -> bool {
+// Whether this number of connections is in its range: none given, or 1 to 1000.
+fn is_in_range(connections: Option<u32>) -> bool {
     match connections {
         None => true,
         Some(connections) => 1 <= connections && connections <= MOST_CONNECTIONS,

@@ -15,32 +15,34 @@ use gc_words::{
 };
 use std::alloc::{AllocError, Global};
 
-/// What a command line asks for. A scene is the name of its file, where one is named.
-pub enum Asked<'a> {
+/// What a command line asks for, or why that can't be done (`Nowhere`, `NumberMissing`, `StaleTooSoon`). A scene is the name of its file,
+/// where one is named.
+pub enum Job<'a> {
     /// Answers requests with the instrument of the scene, or with the simulator.
     Exec { scene: Option<&'a str> },
     /// Checks a log where `log` is set, else a stream.
     Check { log: bool },
     /// Plays a schedule.
     Drill(Drilling<'a>),
-    /// Serves a simulator on a port or a device.
+    /// Serves a simulator on a port, at an address or on a device.
     Serve(Serving<'a>),
     /// Rehearses a station.
     Rehearse(Rehearsal<'a>),
-    /// Asks commands over a connection.
-    Over(Asking<'a>),
-    /// The word for the place is no place: no port or device to serve a simulator on where `serves` is set, else no place of an
-    /// instrument.
+    /// Asks commands over a connection, or says what would be asked.
+    Client(ClientJob<'a>),
+    /// The word for the place is no place: none to serve a simulator on where `serves` is set, else none of an instrument.
     Nowhere { serves: bool },
-    /// A number is missing that has a default.
-    Unnumbered,
+    /// A number is missing that has a default. clap fills it in, though no clause of clap's says so. It is reported as one out of
+    /// its range.
+    NumberMissing,
     /// A station's run would end for want of an answer before its second cycle is due.
     StaleTooSoon,
 }
 
-/// What is to be asked over a connection: commands, once, of a simulator or at a place; or the commands of a station.
+/// What a client is to do: ask commands, once, of a simulator or at a place; measure as a station; or say what a station would do, which
+/// needs no connection.
 #[derive(Drop)]
-pub enum Asking<'a> {
+pub enum ClientJob<'a> {
     /// Asks the simulator, or the instrument of a scene's file where one is named.
     Loop {
         scene: Option<&'a str>,
@@ -111,7 +113,8 @@ impl Subcommand {
         None
     }
 
-    /// Whether the subcommand reads a text from standard input.
+    /// Whether the subcommand reads a text from standard input: a schedule, commands, or what a station measures. `exec` and `check` read
+    /// a stream, and `serve` nothing.
     pub fn reads_a_text(self) -> bool {
         match self {
             Subcommand::Drill
@@ -123,7 +126,7 @@ impl Subcommand {
         }
     }
 
-    // The subcommand for clap, as its own file makes it.
+    // The subcommand for clap, with its help and its arguments. `Err`: memory ran out.
     fn command<'a>(self, alloc: Global) -> Result<Command<'a>, AllocError> {
         match self {
             Subcommand::Exec => exec_command(alloc, self.name()),
@@ -137,36 +140,36 @@ impl Subcommand {
         }
     }
 
-    // What the words behind the subcommand's name ask for.
-    fn asked<'a>(self, words: &ArgMatches<'a>) -> Asked<'a> {
+    // What the words behind the subcommand's name ask for, or why that can't be done.
+    fn job<'a>(self, words: &ArgMatches<'a>) -> Job<'a> {
         match self {
-            Subcommand::Exec => Asked::Exec {
+            Subcommand::Exec => Job::Exec {
                 scene: words.get_str("scene"),
             },
-            Subcommand::Check => Asked::Check {
+            Subcommand::Check => Job::Check {
                 log: words.get_flag("log"),
             },
-            Subcommand::Drill => Asked::Drill(drilling_of(words)),
-            Subcommand::Loop => Asked::Over(Asking::Loop {
+            Subcommand::Drill => Job::Drill(drilling_of(words)),
+            Subcommand::Loop => Job::Client(ClientJob::Loop {
                 scene: words.get_str("scene"),
             }),
-            Subcommand::Serve => serve_asked(words),
-            Subcommand::Ask => ask_asked(words),
-            Subcommand::Station => station_asked(words),
-            Subcommand::Rehearse => rehearse_asked(words),
+            Subcommand::Serve => serve_job(words),
+            Subcommand::Ask => ask_job(words),
+            Subcommand::Station => station_job(words),
+            Subcommand::Rehearse => rehearse_job(words),
         }
     }
 }
 
-/// What the words ask for. `Err`: they don't parse, as without a subcommand, or ask for the help or the version, or memory ran
-/// out.
+/// What the words of a command line ask for, the first of which is the program's name. `Err`: they don't parse, as without a subcommand,
+/// or ask for the help or the version, or memory ran out.
 // A loop makes the subcommands: the proof of a chain of `.subcommand(..)?` grows faster than the chain.
-pub fn asked_of<'a>(alloc: Global, words: &'a [String]) -> Result<Asked<'a>, Error> {
+pub fn job_of<'a>(alloc: Global, words: &'a [String]) -> Result<Job<'a>, Error> {
     let subcommands = subcommands_of(alloc)?;
     let matches = geocom(alloc)
         .subcommands(subcommands)?
         .try_get_matches_from(words)?;
-    Ok(asked_for(&matches))
+    Ok(parsed_job(&matches))
 }
 
 // The command line of the program for clap, with no subcommand yet.
@@ -190,52 +193,52 @@ fn subcommands_of<'a>(alloc: Global) -> Result<Vec<Command<'a>>, AllocError> {
     Ok(subcommands)
 }
 
-// What the words ask for. clap refuses words without a subcommand, and an unknown one, so the last line isn't reached.
-fn asked_for<'a>(matches: &ArgMatches<'a>) -> Asked<'a> {
+// What the words that clap has parsed ask for. clap refuses words without a subcommand, and an unknown one, so the last line isn't reached.
+fn parsed_job<'a>(matches: &ArgMatches<'a>) -> Job<'a> {
     if let Some((name, words)) = matches.subcommand() {
         if let Some(subcommand) = Subcommand::named(name) {
-            return subcommand.asked(words);
+            return subcommand.job(words);
         }
     }
-    Asked::Exec { scene: None }
+    Job::Exec { scene: None }
 }
 
-// A simulator that is served, unless the words name no place for one.
-fn serve_asked<'a>(words: &ArgMatches<'a>) -> Asked<'a> {
+// A simulator that is served. `Nowhere`: the words name no place for one, or an address without `--any-address`.
+fn serve_job<'a>(words: &ArgMatches<'a>) -> Job<'a> {
     match serving_of(words) {
-        Some(serving) => Asked::Serve(serving),
-        None => Asked::Nowhere { serves: true },
+        Some(serving) => Job::Serve(serving),
+        None => Job::Nowhere { serves: true },
     }
 }
 
-// Commands that are asked at a place, unless the words name none.
-fn ask_asked<'a>(words: &ArgMatches<'a>) -> Asked<'a> {
+// Commands that are asked at a place. `Nowhere`: the words name none.
+fn ask_job<'a>(words: &ArgMatches<'a>) -> Job<'a> {
     match named_place(words) {
-        Some(place) => Asked::Over(Asking::Ask { place }),
-        None => Asked::Nowhere { serves: false },
+        Some(place) => Job::Client(ClientJob::Ask { place }),
+        None => Job::Nowhere { serves: false },
     }
 }
 
-// A station at a place, with its records and its log in files where the words name them. `Nowhere`: the words name no place.
-// `Unnumbered`: a number is missing, though it has a default; clap fills it in, but no clause of clap's says so. `StaleTooSoon`: the
-// run would end for want of an answer before its second cycle is due.
-fn station_asked<'a>(words: &ArgMatches<'a>) -> Asked<'a> {
+// A station at a place, with its records and its log in files where the words name them; with `--check` only the outline of what it would
+// do. `Nowhere`: the words name no place. `NumberMissing`: a number is missing, though it has a default; clap fills it in, but no clause of
+// clap's says so. `StaleTooSoon`: the run would end for want of an answer before its second cycle is due.
+fn station_job<'a>(words: &ArgMatches<'a>) -> Job<'a> {
     let Some(place) = named_place(words) else {
-        return Asked::Nowhere { serves: false };
+        return Job::Nowhere { serves: false };
     };
     let Some(station) = station_of(words) else {
-        return Asked::Unnumbered;
+        return Job::NumberMissing;
     };
     if station.choice.is_stale_too_soon() {
-        return Asked::StaleTooSoon;
+        return Job::StaleTooSoon;
     }
     if words.get_flag("check") {
-        return Asked::Over(Asking::Outline {
+        return Job::Client(ClientJob::Outline {
             choice: station.choice,
         });
     }
     let log = log_of(words);
-    Asked::Over(Asking::Station {
+    Job::Client(ClientJob::Station {
         site: Site {
             place,
             log,
@@ -246,13 +249,13 @@ fn station_asked<'a>(words: &ArgMatches<'a>) -> Asked<'a> {
     })
 }
 
-// A rehearsal. `Unnumbered` and `StaleTooSoon` are as for a station.
-fn rehearse_asked<'a>(words: &ArgMatches<'a>) -> Asked<'a> {
+// A rehearsal. `NumberMissing` and `StaleTooSoon` are as for a station.
+fn rehearse_job<'a>(words: &ArgMatches<'a>) -> Job<'a> {
     let Some(rehearsal) = rehearsal_of(words) else {
-        return Asked::Unnumbered;
+        return Job::NumberMissing;
     };
     if rehearsal.station.choice.is_stale_too_soon() {
-        return Asked::StaleTooSoon;
+        return Job::StaleTooSoon;
     }
-    Asked::Rehearse(rehearsal)
+    Job::Rehearse(rehearsal)
 }

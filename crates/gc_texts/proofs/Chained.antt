@@ -1,23 +1,23 @@
 -- What holds of a command in a station's text, by the lines before it. The mode at a line is what these lines make hold there:
--- the deadline, the accepted return codes, the retry, whether commands are chained, and the target of the row that a command may
--- continue. A row is a run of commands for one target, which a line `chained`, `unchained`, `retry`, `at start` or `each cycle`
+-- the deadline, the accepted return codes, the retry, whether commands are chained, and the target of the group that a command may
+-- continue. A group is a run of commands for one target, which a line `chained`, `unchained`, `retry`, `at start` or `each cycle`
 -- ends. `Says` says that a mode is what these lines say.
 use Rattle.std.proofs.Common.{◌≡◌, inl, inr, ◌+◌, ◌≤◌, nat_lt, if◌then◌else◌, arith, ℕ, ◌&&◌, Bool, true, false, List, [], ◌∷◌, ◌++◌, length, map, Option, Some, None, refl, sym, ap, ◌∙◌, subst, append_assoc, append-nil}
 use Rattle.std.specs.List.{AllByRecursion}
 use Rattle.std.proofs.lemmas.Bool.{eq-eqb, and_parts, and_from}
 use Rattle.std.proofs.lemmas.List.{length-map, length-append, map-append}
-use Rattle.gc_texts.specs.Chained.{section_after, setup_commands, cycle_commands, IsSetAfter, SaysNoDeadline, IsDeadlineAfter, SaysNoChaining, chaining_line, IsChainingAfter, SaysNoCodes, AreAcceptedAfter, SaysNoRetry, IsRetryAfter, KeepsRow, EndsInRowOf, IsTaskOf, TasksFollowTheirLines}
+use Rattle.std.proofs.SliceLists.{all_by_recursion_push}
+use Rattle.std.proofs.lemmas.Option.{same_Some}
+use Rattle.gc_texts.specs.Chained.{section_after, setup_commands, cycle_commands, IsSetAfter, SaysNoDeadline, IsDeadlineAfter, SaysNoChaining, chaining_line, IsChainingAfter, SaysNoCodes, AreAcceptedAfter, SaysNoRetry, IsRetryAfter, KeepsGroup, EndsInGroupOf, IsTaskOf, TasksFollowTheirLines}
 use Rattle.gc_texts.specs.Attempts.{in_attempt, laid_out}
 use Rattle.gc_texts.specs.Repeats.{RetriesHold}
 use Rattle.gc_texts.specs.Codes.{no_codes}
 use Rattle.gc_texts.specs.Retries.{no_retry}
 use Rattle.gc_texts.specs.declared.again.Again.{Again}
-use Rattle.gc_texts.specs.declared.retry.Retry.{Retry}
 use Rattle.gc_texts.specs.declared.attempts.Planned.{Planned}
 use Rattle.gc_texts.specs.Again.{no_again}
 use Rattle.gc_texts.specs.Nears.{near_of}
-use Rattle.gc_texts.specs.Tasks.{IsTasks, opening, mode_after, continues_row, is_chained, turn_at, task_at, setup_at, setup_of, planned_at, planned_of, tasks_of, placed}
-use Rattle.gc_texts.specs.declared.codes.Codes.{Codes}
+use Rattle.gc_texts.specs.Tasks.{IsTasks, opening, mode_after, continues_group, is_chained, turn_at, task_at, setup_of, planned_of, tasks_of, placed}
 use Rattle.gc_texts.specs.declared.wish.Wish.{Wish}
 use Rattle.gc_texts.specs.declared.name.Name.{Name}
 use Rattle.gc_texts.specs.declared.near.Near.{Near}
@@ -25,43 +25,15 @@ use Rattle.gc_texts.specs.declared.task_line.TaskLine.{TaskLine}
 use Rattle.gc_texts.specs.declared.task_line.TaskLine.TheVariants as says
 use Rattle.gc_texts.specs.declared.mode.Mode.{Mode}
 use Rattle.gc_texts.specs.declared.tasks.Task.{Task}
-use Rattle.gc_texts.proofs.TaskReading.{mode_after_lines}
+use Rattle.gc_texts.proofs.TaskReading.{mode_after_lines, mode_after_both, setup_both, planned_both}
 use Rattle.gc_texts.proofs.FirstAttempts.{chains_have_first}
-use Rattle.gc_texts.proofs.Cutting.{some_injective}
-use Rattle.gc_texts.proofs.TaskLaws.{continued_row}
-
--- the mode after `xs` and then `ys` is the mode after `ys`, where the mode after `xs` holds before them
-mode_after_both : (mode : Mode) (xs ys : List TaskLine) → mode_after_lines mode (xs ++ ys) ≡ mode_after_lines (mode_after_lines mode xs) ys
-mode_after_both mode [] ys = refl
-mode_after_both mode (x ∷ xs) ys = mode_after_both (mode_after mode x) xs ys
-
--- the setup of `xs` and then `ys` is that of `xs`, and then that of `ys`, where the mode after `xs` holds before `ys`
-setup_both : (mode : Mode) (xs ys : List TaskLine) → setup_of mode (xs ++ ys) ≡ setup_of mode xs ++ setup_of (mode_after_lines mode xs) ys
-setup_both mode [] ys = refl
-setup_both mode (x ∷ xs) ys =
-    ap (λ ts. setup_at mode x ++ ts) (setup_both (mode_after mode x) xs ys)
-    ∙ sym (append_assoc (setup_at mode x) (setup_of (mode_after mode x) xs) (setup_of (mode_after_lines (mode_after mode x) xs) ys))
-
--- the cycle's commands of `xs` and then `ys` are those of `xs`, and then those of `ys`
-planned_both : (mode : Mode) (xs ys : List TaskLine) → planned_of mode (xs ++ ys) ≡ planned_of mode xs ++ planned_of (mode_after_lines mode xs) ys
-planned_both mode [] ys = refl
-planned_both mode (x ∷ xs) ys =
-    ap (λ ts. planned_at mode x ++ ts) (planned_both (mode_after mode x) xs ys)
-    ∙ sym (append_assoc (planned_at mode x) (planned_of (mode_after mode x) xs) (planned_of (mode_after_lines (mode_after mode x) xs) ys))
+use Rattle.gc_texts.proofs.TaskLaws.{continued_group}
 
 -- the section after lines is the mode's
 section_after_lines : (mode : Mode) (lines : List TaskLine) → (mode_after_lines mode lines).setup ≡ section_after mode.setup lines
 section_after_lines mode [] = refl
-section_after_lines mode (says.Command c now ∷ later) = section_after_lines (mode_after mode (says.Command c now)) later
-section_after_lines mode (says.Deadline d ∷ later) = section_after_lines (mode_after mode (says.Deadline d)) later
-section_after_lines mode (says.Chained ∷ later) = section_after_lines (mode_after mode says.Chained) later
-section_after_lines mode (says.Unchained ∷ later) = section_after_lines (mode_after mode says.Unchained) later
-section_after_lines mode (says.Naming n ∷ later) = section_after_lines (mode_after mode (says.Naming n)) later
-section_after_lines mode (says.Locating n ∷ later) = section_after_lines (mode_after mode (says.Locating n)) later
-section_after_lines mode (says.Accepting cs ∷ later) = section_after_lines (mode_after mode (says.Accepting cs)) later
-section_after_lines mode (says.Retrying r ∷ later) = section_after_lines (mode_after mode (says.Retrying r)) later
 section_after_lines mode (says.AtStart ∷ later) = section_after_lines (mode_after mode says.AtStart) later
-section_after_lines mode (says.EachCycle ∷ later) = section_after_lines (mode_after mode says.EachCycle) later
+section_after_lines mode (line ∷ later) = section_after_lines (mode_after mode line) later
 
 -- with a task in front of it where `b` is true, and nothing where it is false, a list is longer by one, or as long as before
 setup_one : (b : Bool) (t : Task) (ts : List Task) (n : ℕ) → length ts ≡ n → length ((if b then t ∷ [] else []) ++ ts) ≡ (if b then 1 else 0) + n
@@ -73,185 +45,113 @@ setup_count : (mode : Mode) (lines : List TaskLine) → length (setup_of mode li
 setup_count mode [] = refl
 setup_count mode (says.Command c now ∷ later) = setup_one mode.setup (task_at mode c now) (setup_of (mode_after mode (says.Command c now)) later) (setup_commands mode.setup later)
     (setup_count (mode_after mode (says.Command c now)) later)
-setup_count mode (says.Deadline d ∷ later) = setup_count (mode_after mode (says.Deadline d)) later
-setup_count mode (says.Chained ∷ later) = setup_count (mode_after mode says.Chained) later
-setup_count mode (says.Unchained ∷ later) = setup_count (mode_after mode says.Unchained) later
-setup_count mode (says.Naming n ∷ later) = setup_count (mode_after mode (says.Naming n)) later
-setup_count mode (says.Locating n ∷ later) = setup_count (mode_after mode (says.Locating n)) later
-setup_count mode (says.Accepting cs ∷ later) = setup_count (mode_after mode (says.Accepting cs)) later
-setup_count mode (says.Retrying r ∷ later) = setup_count (mode_after mode (says.Retrying r)) later
-setup_count mode (says.AtStart ∷ later) = setup_count (mode_after mode says.AtStart) later
-setup_count mode (says.EachCycle ∷ later) = setup_count (mode_after mode says.EachCycle) later
+setup_count mode (line ∷ later) = setup_count (mode_after mode line) later
 
--- a command counts where its section is counted
+-- a command counts 1 in the section that is counted if it is of that section (`b`): the sum m of the counts is the same, whether the 1 is
+-- added to the count n before the command or to the count k after it
 counted_in_section : (b : Bool) (n m k : ℕ) → m ≡ (if b then n + 1 else n) + k → m ≡ n + ((if b then 1 else 0) + k)
 counted_in_section true n m k e = omega (arith, e)
 counted_in_section false n m k e = omega (arith, e)
 
--- a command counts where the other section is counted, if it isn't of this one
+-- a command counts 1 in the other section if it isn't of this one (`b` is false): the sum m of the counts is the same, whether the 1 is
+-- added to the count n before the command or to the count k after it
 counted_in_other_section : (b : Bool) (n m k : ℕ) → m ≡ (if b then n else n + 1) + k → m ≡ n + ((if b then 0 else 1) + k)
 counted_in_other_section true n m k e = omega (arith, e)
 counted_in_other_section false n m k e = omega (arith, e)
 
--- the mode counts the commands of the setup
+-- after lines, the mode's count of the setup's commands (`begun`) is greater by as many as these lines have
 setup_counted : (mode : Mode) (lines : List TaskLine) → (mode_after_lines mode lines).begun ≡ mode.begun + setup_commands mode.setup lines
 setup_counted mode [] = omega arith
 setup_counted mode (says.Command c now ∷ later) = counted_in_section mode.setup mode.begun (mode_after_lines (mode_after mode (says.Command c now)) later).begun (setup_commands mode.setup later)
     (setup_counted (mode_after mode (says.Command c now)) later)
-setup_counted mode (says.Deadline d ∷ later) = setup_counted (mode_after mode (says.Deadline d)) later
-setup_counted mode (says.Chained ∷ later) = setup_counted (mode_after mode says.Chained) later
-setup_counted mode (says.Unchained ∷ later) = setup_counted (mode_after mode says.Unchained) later
-setup_counted mode (says.Naming n ∷ later) = setup_counted (mode_after mode (says.Naming n)) later
-setup_counted mode (says.Locating n ∷ later) = setup_counted (mode_after mode (says.Locating n)) later
-setup_counted mode (says.Accepting cs ∷ later) = setup_counted (mode_after mode (says.Accepting cs)) later
-setup_counted mode (says.Retrying r ∷ later) = setup_counted (mode_after mode (says.Retrying r)) later
-setup_counted mode (says.AtStart ∷ later) = setup_counted (mode_after mode says.AtStart) later
-setup_counted mode (says.EachCycle ∷ later) = setup_counted (mode_after mode says.EachCycle) later
+setup_counted mode (line ∷ later) = setup_counted (mode_after mode line) later
 
--- the mode counts the commands of the cycle
+-- after lines, the mode's count of the cycle's commands (`place`) is greater by as many as these lines have
 cycle_counted : (mode : Mode) (lines : List TaskLine) → (mode_after_lines mode lines).place ≡ mode.place + cycle_commands mode.setup lines
 cycle_counted mode [] = omega arith
 cycle_counted mode (says.Command c now ∷ later) = counted_in_other_section mode.setup mode.place (mode_after_lines (mode_after mode (says.Command c now)) later).place (cycle_commands mode.setup later)
     (cycle_counted (mode_after mode (says.Command c now)) later)
-cycle_counted mode (says.Deadline d ∷ later) = cycle_counted (mode_after mode (says.Deadline d)) later
-cycle_counted mode (says.Chained ∷ later) = cycle_counted (mode_after mode says.Chained) later
-cycle_counted mode (says.Unchained ∷ later) = cycle_counted (mode_after mode says.Unchained) later
-cycle_counted mode (says.Naming n ∷ later) = cycle_counted (mode_after mode (says.Naming n)) later
-cycle_counted mode (says.Locating n ∷ later) = cycle_counted (mode_after mode (says.Locating n)) later
-cycle_counted mode (says.Accepting cs ∷ later) = cycle_counted (mode_after mode (says.Accepting cs)) later
-cycle_counted mode (says.Retrying r ∷ later) = cycle_counted (mode_after mode (says.Retrying r)) later
-cycle_counted mode (says.AtStart ∷ later) = cycle_counted (mode_after mode says.AtStart) later
-cycle_counted mode (says.EachCycle ∷ later) = cycle_counted (mode_after mode says.EachCycle) later
-
--- what holds of each of these lines, and of one more, holds of each line of the longer list
-all_more : (P : TaskLine → Type 0) (xs : List TaskLine) (line : TaskLine) → AllByRecursion P xs → P line → AllByRecursion P (xs ++ line ∷ [])
-all_more P [] line all here = (here, tt)
-all_more P (x ∷ xs) line all here = (all.0, all_more P xs line all.1 here)
+cycle_counted mode (line ∷ later) = cycle_counted (mode_after mode line) later
 
 -- `mode` is what these lines say. Its deadline, its accepted codes, its retry and whether commands are chained are as the last
--- line that sets them says; where none does, they are `deadline`, none, none, and `chained`. Where the mode has a row, the row's
+-- line that sets them says; where none does, they are `deadline`, none, none, and `chained`. Where the mode has a group, the group's
 -- target is that of the last command
 record Says (deadline : ℕ) (chained : Bool) (lines : List TaskLine) (mode : Mode) : Type 0 where
   deadline_is : IsDeadlineAfter deadline lines mode.deadline
-  mode_is : IsChainingAfter chained lines mode.chained
+  chained_is : IsChainingAfter chained lines mode.chained
   accepted_are : AreAcceptedAfter lines mode.accepted
   retry_is : IsRetryAfter lines mode.retry
-  row : (target : ℕ) → mode.row ≡ Some target → EndsInRowOf lines target
+  group : (target : ℕ) → mode.group ≡ Some target → EndsInGroupOf lines target
 
 -- where `value` is that of a setting after some lines (`IsSetAfter`), it is so after one more line that leaves the setting as it is
 more_set : {Value : Type 0} (SetsNone : TaskLine → Type 0) (line_of : Value → TaskLine) (given value : Value) (lines : List TaskLine) (line : TaskLine)
     → SetsNone line → IsSetAfter SetsNone line_of given lines value → IsSetAfter SetsNone line_of given (lines ++ line ∷ []) value
-more_set SetsNone line_of given value lines line none (inl all) = inl (all_more SetsNone lines line all.0 none, all.1)
+more_set SetsNone line_of given value lines line none (inl all) = inl (all_by_recursion_push SetsNone lines line all.0 none, all.1)
 more_set SetsNone line_of given value lines line none (inr (before, between, at, without)) =
-    inr (before, between ++ line ∷ [], ap (λ xs. xs ++ line ∷ []) at ∙ append_assoc before (line_of value ∷ between) (line ∷ []), all_more SetsNone between line without none)
+    inr (before, between ++ line ∷ [], ap (λ xs. xs ++ line ∷ []) at ∙ append_assoc before (line_of value ∷ between) (line ∷ []), all_by_recursion_push SetsNone between line without none)
 
--- a line that sets no deadline leaves the deadline as it was
-more_deadline : (deadline d : ℕ) (lines : List TaskLine) (line : TaskLine) → SaysNoDeadline line → IsDeadlineAfter deadline lines d → IsDeadlineAfter deadline (lines ++ line ∷ []) d
-more_deadline deadline d lines line none is = more_set SaysNoDeadline says.Deadline deadline d lines line none is
+-- where the mode has the deadline after some lines, the mode after one more line has the deadline after all of them
+deadline_more : (deadline : ℕ) (lines : List TaskLine) (mode : Mode) (line : TaskLine) → IsDeadlineAfter deadline lines mode.deadline
+    → IsDeadlineAfter deadline (lines ++ line ∷ []) (mode_after mode line).deadline
+deadline_more deadline lines mode (says.Deadline d) is = inr (lines, [], refl, tt)
+deadline_more deadline lines mode line is = more_set SaysNoDeadline says.Deadline deadline mode.deadline lines line tt is
 
--- a line that sets no codes leaves the accepted codes as they were
-more_codes : (accepted : Codes) (lines : List TaskLine) (line : TaskLine) → SaysNoCodes line → AreAcceptedAfter lines accepted → AreAcceptedAfter (lines ++ line ∷ []) accepted
-more_codes accepted lines line none are = more_set SaysNoCodes says.Accepting no_codes accepted lines line none are
+-- where the mode says whether commands are chained after some lines, the mode after one more line says it after all of them
+chaining_more : (chained : Bool) (lines : List TaskLine) (mode : Mode) (line : TaskLine) → IsChainingAfter chained lines mode.chained
+    → IsChainingAfter chained (lines ++ line ∷ []) (mode_after mode line).chained
+chaining_more chained lines mode says.Chained is = inr (lines, [], refl, tt)
+chaining_more chained lines mode says.Unchained is = inr (lines, [], refl, tt)
+chaining_more chained lines mode line is = more_set SaysNoChaining chaining_line chained mode.chained lines line tt is
 
--- a line that sets no retry leaves it as it was
-more_retry : (retry : Retry) (lines : List TaskLine) (line : TaskLine) → SaysNoRetry line → IsRetryAfter lines retry → IsRetryAfter (lines ++ line ∷ []) retry
-more_retry retry lines line none is = more_set SaysNoRetry says.Retrying no_retry retry lines line none is
+-- where the mode has the codes that are accepted after some lines, the mode after one more line has those after all of them
+codes_more : (lines : List TaskLine) (mode : Mode) (line : TaskLine) → AreAcceptedAfter lines mode.accepted → AreAcceptedAfter (lines ++ line ∷ []) (mode_after mode line).accepted
+codes_more lines mode (says.Accepting cs) are = inr (lines, [], refl, tt)
+codes_more lines mode line are = more_set SaysNoCodes says.Accepting no_codes mode.accepted lines line tt are
 
--- whether commands are chained is the same after one more line that is neither `chained` nor `unchained`
-more_chaining : (chained b : Bool) (lines : List TaskLine) (line : TaskLine) → SaysNoChaining line → IsChainingAfter chained lines b → IsChainingAfter chained (lines ++ line ∷ []) b
-more_chaining chained b lines line none is = more_set SaysNoChaining chaining_line chained b lines line none is
+-- where the mode has the retry after some lines, the mode after one more line has the retry after all of them
+retry_more : (lines : List TaskLine) (mode : Mode) (line : TaskLine) → IsRetryAfter lines mode.retry → IsRetryAfter (lines ++ line ∷ []) (mode_after mode line).retry
+retry_more lines mode (says.Retrying r) is = inr (lines, [], refl, tt)
+retry_more lines mode line is = more_set SaysNoRetry says.Retrying no_retry mode.retry lines line tt is
 
--- where the last command of some lines is for a target, and only lines that keep its row (`KeepsRow`) follow it, the same holds
--- with one more line that keeps the row
-more_row : (lines : List TaskLine) (line : TaskLine) (target : ℕ) → KeepsRow line → EndsInRowOf lines target → EndsInRowOf (lines ++ line ∷ []) target
-more_row lines line target keeps (before, command, now, between, at, all, same) = (
+-- where the last command of some lines is for a target, and only lines that keep its group (`KeepsGroup`) follow it, the same holds
+-- with one more line that keeps the group
+more_group : (lines : List TaskLine) (line : TaskLine) (target : ℕ) → KeepsGroup line → EndsInGroupOf lines target → EndsInGroupOf (lines ++ line ∷ []) target
+more_group lines line target keeps (before, command, now, between, at, all, same) = (
   before,
   command,
   now,
   between ++ line ∷ [],
   ap (λ xs. xs ++ line ∷ []) at
       ∙ append_assoc before (says.Command command now ∷ between) (line ∷ []),
-  all_more KeepsRow between line all keeps,
+  all_by_recursion_push KeepsGroup between line all keeps,
   same,
 )
 
--- a mode without a row has no row of a target, so nothing has to be shown of one
-no_row : (lines : List TaskLine) (target : ℕ) → None ≡ Some target → EndsInRowOf lines target
-no_row lines target e = cc
+-- a mode without a group has no group of a target, so nothing has to be shown of one
+no_group : (lines : List TaskLine) (target : ℕ) → None ≡ Some target → EndsInGroupOf lines target
+no_group lines target e = cc
+
+-- where each group of the mode is that of the last command of the lines before (`EndsInGroupOf`), each group of the mode after one more
+-- line is that of the last command of all of them
+group_more : (lines : List TaskLine) (mode : Mode) (line : TaskLine) → ((target : ℕ) → mode.group ≡ Some target → EndsInGroupOf lines target)
+    → (target : ℕ) → (mode_after mode line).group ≡ Some target → EndsInGroupOf (lines ++ line ∷ []) target
+group_more lines mode (says.Command c now) group target e = (lines, c, now, [], refl, tt, same_Some c.target target e)
+group_more lines mode (says.Deadline d) group target e = more_group lines (says.Deadline d) target tt (group target e)
+group_more lines mode (says.Naming n) group target e = more_group lines (says.Naming n) target tt (group target e)
+group_more lines mode (says.Locating n) group target e = more_group lines (says.Locating n) target tt (group target e)
+group_more lines mode (says.Accepting cs) group target e = more_group lines (says.Accepting cs) target tt (group target e)
+group_more lines mode line group target e = no_group (lines ++ line ∷ []) target e
 
 -- where `mode` is what `lines` say (`Says`), the mode after one more line is what all of them say. `deadline` and `chained`
 -- are what holds before all lines
 says_more : (deadline : ℕ) (chained : Bool) (lines : List TaskLine) (mode : Mode) (line : TaskLine) → Says deadline chained lines mode
     → Says deadline chained (lines ++ line ∷ []) (mode_after mode line)
-says_more deadline chained lines mode (says.Command c now) h = record {
-  deadline_is = more_deadline deadline mode.deadline lines (says.Command c now) tt h.deadline_is;
-  mode_is = more_chaining chained mode.chained lines (says.Command c now) tt h.mode_is;
-  accepted_are = more_codes mode.accepted lines (says.Command c now) tt h.accepted_are;
-  retry_is = more_retry mode.retry lines (says.Command c now) tt h.retry_is;
-  row = λ target e. (lines, c, now, [], refl, tt, some_injective c.target target e);
-}
-says_more deadline chained lines mode (says.Deadline d) h = record {
-  deadline_is = inr (lines, [], refl, tt);
-  mode_is = more_chaining chained mode.chained lines (says.Deadline d) tt h.mode_is;
-  accepted_are = more_codes mode.accepted lines (says.Deadline d) tt h.accepted_are;
-  retry_is = more_retry mode.retry lines (says.Deadline d) tt h.retry_is;
-  row = λ target e. more_row lines (says.Deadline d) target tt (h.row target e);
-}
-says_more deadline chained lines mode says.Chained h = record {
-  deadline_is = more_deadline deadline mode.deadline lines says.Chained tt h.deadline_is;
-  mode_is = inr (lines, [], refl, tt);
-  accepted_are = more_codes mode.accepted lines says.Chained tt h.accepted_are;
-  retry_is = more_retry mode.retry lines says.Chained tt h.retry_is;
-  row = λ target e. no_row (lines ++ says.Chained ∷ []) target e;
-}
-says_more deadline chained lines mode says.Unchained h = record {
-  deadline_is = more_deadline deadline mode.deadline lines says.Unchained tt h.deadline_is;
-  mode_is = inr (lines, [], refl, tt);
-  accepted_are = more_codes mode.accepted lines says.Unchained tt h.accepted_are;
-  retry_is = more_retry mode.retry lines says.Unchained tt h.retry_is;
-  row = λ target e. no_row (lines ++ says.Unchained ∷ []) target e;
-}
-says_more deadline chained lines mode (says.Naming n) h = record {
-  deadline_is = more_deadline deadline mode.deadline lines (says.Naming n) tt h.deadline_is;
-  mode_is = more_chaining chained mode.chained lines (says.Naming n) tt h.mode_is;
-  accepted_are = more_codes mode.accepted lines (says.Naming n) tt h.accepted_are;
-  retry_is = more_retry mode.retry lines (says.Naming n) tt h.retry_is;
-  row = λ target e. more_row lines (says.Naming n) target tt (h.row target e);
-}
-says_more deadline chained lines mode (says.Locating n) h = record {
-  deadline_is = more_deadline deadline mode.deadline lines (says.Locating n) tt h.deadline_is;
-  mode_is = more_chaining chained mode.chained lines (says.Locating n) tt h.mode_is;
-  accepted_are = more_codes mode.accepted lines (says.Locating n) tt h.accepted_are;
-  retry_is = more_retry mode.retry lines (says.Locating n) tt h.retry_is;
-  row = λ target e. more_row lines (says.Locating n) target tt (h.row target e);
-}
-says_more deadline chained lines mode (says.Accepting cs) h = record {
-  deadline_is = more_deadline deadline mode.deadline lines (says.Accepting cs) tt h.deadline_is;
-  mode_is = more_chaining chained mode.chained lines (says.Accepting cs) tt h.mode_is;
-  accepted_are = inr (lines, [], refl, tt);
-  retry_is = more_retry mode.retry lines (says.Accepting cs) tt h.retry_is;
-  row = λ target e. more_row lines (says.Accepting cs) target tt (h.row target e);
-}
-says_more deadline chained lines mode (says.Retrying r) h = record {
-  deadline_is = more_deadline deadline mode.deadline lines (says.Retrying r) tt h.deadline_is;
-  mode_is = more_chaining chained mode.chained lines (says.Retrying r) tt h.mode_is;
-  accepted_are = more_codes mode.accepted lines (says.Retrying r) tt h.accepted_are;
-  retry_is = inr (lines, [], refl, tt);
-  row = λ target e. no_row (lines ++ (says.Retrying r) ∷ []) target e;
-}
-says_more deadline chained lines mode says.AtStart h = record {
-  deadline_is = more_deadline deadline mode.deadline lines says.AtStart tt h.deadline_is;
-  mode_is = more_chaining chained mode.chained lines says.AtStart tt h.mode_is;
-  accepted_are = more_codes mode.accepted lines says.AtStart tt h.accepted_are;
-  retry_is = more_retry mode.retry lines says.AtStart tt h.retry_is;
-  row = λ target e. no_row (lines ++ says.AtStart ∷ []) target e;
-}
-says_more deadline chained lines mode says.EachCycle h = record {
-  deadline_is = more_deadline deadline mode.deadline lines says.EachCycle tt h.deadline_is;
-  mode_is = more_chaining chained mode.chained lines says.EachCycle tt h.mode_is;
-  accepted_are = more_codes mode.accepted lines says.EachCycle tt h.accepted_are;
-  retry_is = more_retry mode.retry lines says.EachCycle tt h.retry_is;
-  row = λ target e. no_row (lines ++ says.EachCycle ∷ []) target e;
+says_more deadline chained lines mode line h = record {
+  deadline_is = deadline_more deadline lines mode line h.deadline_is;
+  chained_is = chaining_more chained lines mode line h.chained_is;
+  accepted_are = codes_more lines mode line h.accepted_are;
+  retry_is = retry_more lines mode line h.retry_is;
+  group = λ target e. group_more lines mode line h.group target e;
 }
 
 -- where a mode is what the lines `done` say (`Says`), the mode after further lines is what all of these lines say
@@ -264,42 +164,30 @@ says_all deadline chained done mode (line ∷ later) h =
 
 -- before all lines the opening mode holds, which has the caller's deadline and chaining: no line has said otherwise
 says_opening : (deadline : ℕ) (chained : Bool) → Says deadline chained [] (opening deadline chained)
-says_opening deadline chained = record { deadline_is = inl (tt, refl); mode_is = inl (tt, refl); accepted_are = inl (tt, refl); retry_is = inl (tt, refl); row = λ target e. no_row [] target e }
+says_opening deadline chained = record { deadline_is = inl (tt, refl); chained_is = inl (tt, refl); accepted_are = inl (tt, refl); retry_is = inl (tt, refl); group = λ target e. no_group [] target e }
 
--- lines that are deadlines, names, places and accepted codes leave the row as it is
-row_stays : (mode : Mode) (lines : List TaskLine) → AllByRecursion KeepsRow lines → (mode_after_lines mode lines).row ≡ mode.row
-row_stays mode [] keeps = refl
-row_stays mode (says.Command c now ∷ later) keeps = absurd keeps.0
-row_stays mode (says.Deadline d ∷ later) keeps = row_stays (mode_after mode (says.Deadline d)) later keeps.1
-row_stays mode (says.Chained ∷ later) keeps = absurd keeps.0
-row_stays mode (says.Unchained ∷ later) keeps = absurd keeps.0
-row_stays mode (says.Naming n ∷ later) keeps = row_stays mode later keeps.1
-row_stays mode (says.Locating n ∷ later) keeps = row_stays mode later keeps.1
-row_stays mode (says.Accepting cs ∷ later) keeps = row_stays (mode_after mode (says.Accepting cs)) later keeps.1
-row_stays mode (says.Retrying r ∷ later) keeps = absurd keeps.0
-row_stays mode (says.AtStart ∷ later) keeps = absurd keeps.0
-row_stays mode (says.EachCycle ∷ later) keeps = absurd keeps.0
+-- lines that are deadlines, names, places and accepted codes leave the group as it is
+group_stays : (mode : Mode) (lines : List TaskLine) → AllByRecursion KeepsGroup lines → (mode_after_lines mode lines).group ≡ mode.group
+group_stays mode [] keeps = refl
+group_stays mode (says.Deadline d ∷ later) keeps = group_stays (mode_after mode (says.Deadline d)) later keeps.1
+group_stays mode (says.Naming n ∷ later) keeps = group_stays mode later keeps.1
+group_stays mode (says.Locating n ∷ later) keeps = group_stays mode later keeps.1
+group_stays mode (says.Accepting cs ∷ later) keeps = group_stays (mode_after mode (says.Accepting cs)) later keeps.1
+group_stays mode (line ∷ later) keeps = absurd keeps.0
 
--- where the last command of lines is for a target, and only lines that keep its row (`KeepsRow`) follow it, the row after them
+-- where the last command of lines is for a target, and only lines that keep its group (`KeepsGroup`) follow it, the group after them
 -- is of that target
-row_of : (mode : Mode) (lines : List TaskLine) (target : ℕ) → EndsInRowOf lines target → (mode_after_lines mode lines).row ≡ Some target
-row_of mode lines target (before, command, now, between, at, keeps, same) =
-    ap (λ xs. (mode_after_lines mode xs).row) at ∙ ap (λ (m : Mode). m.row) (mode_after_both mode before (says.Command command now ∷ between))
-    ∙ row_stays (mode_after (mode_after_lines mode before) (says.Command command now)) between keeps ∙ ap Some same
+group_of : (mode : Mode) (lines : List TaskLine) (target : ℕ) → EndsInGroupOf lines target → (mode_after_lines mode lines).group ≡ Some target
+group_of mode lines target (before, command, now, between, at, keeps, same) =
+    ap (λ xs. (mode_after_lines mode xs).group) at ∙ ap (λ (m : Mode). m.group) (mode_after_both mode before (says.Command command now ∷ between))
+    ∙ group_stays (mode_after (mode_after_lines mode before) (says.Command command now)) between keeps ∙ ap Some same
 
 -- whether commands are chained is the same before and after lines of which none is `chained` or `unchained`
 chaining_stays : (mode : Mode) (lines : List TaskLine) → AllByRecursion SaysNoChaining lines → (mode_after_lines mode lines).chained ≡ mode.chained
 chaining_stays mode [] none = refl
-chaining_stays mode (says.Command c now ∷ later) none = chaining_stays (mode_after mode (says.Command c now)) later none.1
-chaining_stays mode (says.Deadline d ∷ later) none = chaining_stays (mode_after mode (says.Deadline d)) later none.1
 chaining_stays mode (says.Chained ∷ later) none = absurd none.0
 chaining_stays mode (says.Unchained ∷ later) none = absurd none.0
-chaining_stays mode (says.Naming n ∷ later) none = chaining_stays mode later none.1
-chaining_stays mode (says.Locating n ∷ later) none = chaining_stays mode later none.1
-chaining_stays mode (says.Accepting cs ∷ later) none = chaining_stays (mode_after mode (says.Accepting cs)) later none.1
-chaining_stays mode (says.Retrying r ∷ later) none = chaining_stays (mode_after mode (says.Retrying r)) later none.1
-chaining_stays mode (says.AtStart ∷ later) none = chaining_stays (mode_after mode says.AtStart) later none.1
-chaining_stays mode (says.EachCycle ∷ later) none = chaining_stays (mode_after mode says.EachCycle) later none.1
+chaining_stays mode (line ∷ later) none = chaining_stays (mode_after mode line) later none.1
 
 -- after `chained` commands are chained, and after `unchained` they aren't
 chaining_line_sets : (mode : Mode) (b : Bool) → (mode_after mode (chaining_line b)).chained ≡ b
@@ -314,13 +202,13 @@ chaining_of_lines mode lines b (inr (before, between, at, none)) =
     ap (λ xs. (mode_after_lines mode xs).chained) at ∙ ap (λ (m : Mode). m.chained) (mode_after_both mode before (chaining_line b ∷ between))
     ∙ chaining_stays (mode_after (mode_after_lines mode before) (chaining_line b)) between none ∙ chaining_line_sets (mode_after_lines mode before) b
 
--- a command for a target continues the row of that target
-row_continued : (row : Option ℕ) (target : ℕ) → row ≡ Some target → continues_row row target ≡ true
-row_continued row target e = ap (λ r. continues_row r target) e ∙ eq-eqb target target refl
+-- a command for a target continues the group of that target
+group_continued : (group : Option ℕ) (target : ℕ) → group ≡ Some target → continues_group group target ≡ true
+group_continued group target e = ap (λ r. continues_group r target) e ∙ eq-eqb target target refl
 
--- a command of the cycle is chained where the mode chains commands and the command continues the row
-cycle_joined : (mode : Mode) (target : ℕ) → mode.setup ≡ false → is_chained mode target ≡ (mode.chained && continues_row mode.row target)
-cycle_joined mode target e = ap (λ b. if b then nat_lt 0 mode.begun else mode.chained && continues_row mode.row target) e
+-- a command of the cycle is chained where the mode chains commands and the command continues the group
+cycle_joined : (mode : Mode) (target : ℕ) → mode.setup ≡ false → is_chained mode target ≡ (mode.chained && continues_group mode.group target)
+cycle_joined mode target e = ap (λ b. if b then nat_lt 0 mode.begun else mode.chained && continues_group mode.group target) e
 
 -- a task of a command is sent as the lines before it say, whatever its rule, its place and its count of others
 module _ (deadline : ℕ) (chained : Bool) (front : List TaskLine) (command : Wish) (now : Bool) (near : Option Near) (again : Again) (others : ℕ) where
@@ -361,7 +249,7 @@ module _ (deadline : ℕ) (chained : Bool) (front : List TaskLine) (command : Wi
             let begun : mode.begun ≡ setup_commands false front = let counted = setup_counted (opening deadline chained) front in omega (arith, counted) in
             record {
               place = ap (λ b. if b then mode.begun else mode.place) setup ∙ begun;
-              chained = ap (λ b. if b then nat_lt 0 mode.begun else mode.chained && continues_row mode.row command.target) setup ∙ ap (nat_lt 0) begun;
+              chained = ap (λ b. if b then nat_lt 0 mode.begun else mode.chained && continues_group mode.group command.target) setup ∙ ap (nat_lt 0) begun;
             };
         in_cycle = λ e.
             let cycle : mode.setup ≡ false = section_after_lines (opening deadline chained) front ∙ e in
@@ -370,10 +258,10 @@ module _ (deadline : ℕ) (chained : Bool) (front : List TaskLine) (command : Wi
             record {
               place = ap (λ b. if b then mode.begun else mode.place) cycle ∙ place;
               only = λ is.
-                  let both = and_parts mode.chained (continues_row mode.row command.target) (sym so ∙ is) in
-                  (subst (λ b. IsChainingAfter chained front b) both.0 said_so.mode_is, said_so.row command.target (continued_row mode.row command.target both.1));
-              found = λ a b. so ∙ and_from mode.chained (continues_row mode.row command.target) (chaining_of_lines (opening deadline chained) front true a)
-                  (row_continued mode.row command.target (row_of (opening deadline chained) front command.target b));
+                  let both = and_parts mode.chained (continues_group mode.group command.target) (sym so ∙ is) in
+                  (subst (λ b. IsChainingAfter chained front b) both.0 said_so.chained_is, said_so.group command.target (continued_group mode.group command.target both.1));
+              found = λ a b. so ∙ and_from mode.chained (continues_group mode.group command.target) (chaining_of_lines (opening deadline chained) front true a)
+                  (group_continued mode.group command.target (group_of (opening deadline chained) front command.target b));
             };
       }
 
@@ -416,7 +304,7 @@ module _
       ∙ ap (λ ps. map (placed nears) ((setups ++ setup_of here (says.Command command now ∷ later)) ++ laid_out ps)) (planned_both (opening deadline chained) front (says.Command command now ∷ later))
       ∙ ap (λ t. map (placed nears) (all t)) e
 
-  -- the law for this command, by whether it is of the setup
+  -- the law for this command, by whether it is of the setup (`b`)
   by_section : (b : Bool) → here.setup ≡ b
       → (earlier : List Task) × (task : Task) × (others : List Task) × (tasks ≡ earlier ++ task ∷ others)
       × (section_after false front ≡ true → length earlier ≡ setup_commands false front) × (section_after false front ≡ false → setup ≤ length earlier)

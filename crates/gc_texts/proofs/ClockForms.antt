@@ -1,27 +1,26 @@
 -- The line `T 5007 now`: it asks one target, and has the form of no other command, because `now` is no list of the six parameters that
 -- procedure 5007 has.
 use Rattle.std.proofs.Common.{◌≡◌, ◌≢◌, ℕ, List, [], ◌∷◌, length, Some, arith, refl, ap, subst, sym, ◌∙◌, codes, unwrap_or}
+use Rattle.std.proofs.lemmas.List.{length-map}
 use Rattle.gc_catalogue.specs.Calls.{IsCall, call_fields}
-use Rattle.gc_catalogue.specs.declared.asked.Asked.{Asked}
-use Rattle.gc_catalogue.specs.declared.asked.Asked.TheVariants.{Table, Raw}
 use Rattle.gc_catalogue.specs.declared.call.Call.{Call}
 use Rattle.gc_values.specs.Params.{IsParam}
-use Rattle.gc_values.specs.Lists.{AreItems}
+use Rattle.gc_values.specs.Item.{kind_of}
 use Rattle.gc_values.specs.Digits.{number}
-use Rattle.gc_values.specs.declared.value.Value.{Value}
+use Rattle.gc_values.proofs.ListLaws.{same_count}
 use Rattle.gc_values.proofs.ParamLists.{one_list, joined_params}
 use Rattle.gc_texts.specs.Commands.{IsCommand}
 use Rattle.gc_texts.specs.Cuts.{Lacks, before, behind}
 use Rattle.gc_texts.specs.TaskLines.{SetsClock}
 use Rattle.gc_texts.specs.Troubles.{parameter_count}
-use Rattle.gc_texts.specs.Wishes.{AsksFor, IsWish}
+use Rattle.gc_texts.specs.Wishes.{IsWish}
 use Rattle.gc_texts.specs.declared.commands.Command.{Command}
 use Rattle.gc_texts.specs.declared.wish.Wish.{Wish}
 use Rattle.gc_texts.proofs.Cutting.{digits_lack_spaces, has_mark}
 use Rattle.gc_texts.proofs.Fronts.{behind_mark}
 use Rattle.gc_texts.proofs.Procedures.{one_number, procedure_parts}
-use Rattle.gc_texts.proofs.Wanted.{parameter_counts_are}
-use Rattle.gc_texts.proofs.WishForms.{same_wish}
+use Rattle.gc_texts.proofs.ParameterCounts.{parameter_counts_are}
+use Rattle.gc_texts.proofs.WishForms.{same_wish, no_wish}
 
 -- `5007` has no space
 spaceless : Lacks 32 (codes "5007")
@@ -49,18 +48,11 @@ now_is =
       commas = λ front rest e. absurd (has_mark 44 front rest (codes "now") (sym e) no_commas);
     }
 
--- as many items are read as there are values
-as_many : (items : List (List ℕ)) (values : List Value) → AreItems items values → length items ≡ length values
-as_many [] [] are = refl
-as_many [] (v ∷ vs) are = absurd are
-as_many (item ∷ items) [] are = absurd are
-as_many (item ∷ items) (v ∷ vs) are = let n : length items ≡ length vs = as_many items vs are.1 in omega (arith, n)
-
 -- no call of procedure 5007 has `now` for its parameters: it has six
 pub no_now : (call : Call) → IsCall 5007 (codes "now") call → ⊥
 no_now call is =
     let one : is.values.items ≡ codes "now" ∷ [] = one_list (codes "now") is.values.items (codes "now" ∷ []) is.values.split (joined_params (codes "now" ∷ []) (now_is, tt) (omega arith, tt)) in
-    let many : length is.values.items ≡ length (call_fields call).values = as_many is.values.items (call_fields call).values is.values.read in
+    let many : length is.values.items ≡ length (call_fields call).values = same_count (call_fields call).values is.values.items is.values.read ∙ length-map (call_fields call).values kind_of in
     let six : 6 ≡ length (call_fields call).values = ap parameter_count (sym is.number) ∙ parameter_counts_are call in
     let single : length is.values.items ≡ 1 = ap length one in
     omega (arith, many, six, single)
@@ -77,16 +69,13 @@ command_is_no_clock line command is e =
     no_now command.call (subst (λ (n : ℕ). IsCall n (codes "now") command.call) rpc (subst (λ (ps : List ℕ). IsCall p.rpc ps command.call) params p.calls))
 
 -- a line that asks for a procedure that isn't in the table doesn't end in `5007 now`
-raw_is_no_clock : (line word : List ℕ) → before 32 (behind 32 line) ≡ codes "raw" → behind 32 line ≡ codes "5007 now" → ⊥
-raw_is_no_clock line word raw e = let bad : codes "5007" ≡ codes "raw" = ap (before 32) (sym e) ∙ raw in cc
+raw_is_no_clock : (line : List ℕ) → before 32 (behind 32 line) ≡ codes "raw" → behind 32 line ≡ codes "5007 now" → ⊥
+raw_is_no_clock line raw e = let bad : codes "5007" ≡ codes "raw" = ap (before 32) (sym e) ∙ raw in cc
 
 -- no line both has the form of a wish and sets a clock
 pub wish_is_no_clock : (line : List ℕ) (v w : Wish) → IsWish line v → SetsClock line w → ⊥
-wish_is_no_clock line v w is sets = by_asked v.target v.call is where
-  -- the same, by what is asked
-  by_asked : (target : ℕ) (asked : Asked) → AsksFor line target asked → ⊥
-  by_asked target (Table call) is = command_is_no_clock line (record { target = target; call = call }) is sets.rest_is
-  by_asked target (Raw raw) is = raw_is_no_clock line [] is.word sets.rest_is
+wish_is_no_clock line v w is sets =
+    no_wish line (λ target raw asks. raw_is_no_clock line asks.word sets.rest_is) (λ command asks. command_is_no_clock line command asks sets.rest_is) v is
 
 -- a line sets the clock of one target at most
 pub one_clock : (line : List ℕ) (v w : Wish) → SetsClock line v → SetsClock line w → v ≡ w

@@ -1,13 +1,14 @@
 -- Which lines have the form of a command, and of which one.
 use Rattle.std.proofs.Common.{◌≡◌, ℕ, List, Option, Some, None, ap, subst, sym, ◌∙◌}
 use Rattle.std.specs.Prelude.{filter}
+use Rattle.std.proofs.lemmas.Option.{same_Some}
 use Rattle.gc_catalogue.specs.declared.call.Call.{Call}
 use Rattle.gc_texts.specs.Commands.{IsCommand, IsCommands}
 use Rattle.gc_texts.specs.Cuts.{Cuts}
 use Rattle.gc_texts.specs.LineForms.{is_kept, text_lines}
 use Rattle.gc_texts.specs.Procedures.{IsNumber, IsProcedure}
 use Rattle.gc_texts.specs.declared.commands.Command.{Command}
-use Rattle.gc_texts.proofs.Cutting.{cut_found, one_front, digits_lack_spaces, some_injective}
+use Rattle.gc_texts.proofs.Cutting.{cut_found, one_front, digits_lack_spaces}
 use Rattle.gc_texts.proofs.OneReading.{one_procedure, one_list}
 use Rattle.gc_texts.proofs.Procedures.{one_number}
 
@@ -28,7 +29,7 @@ module _ (line : List ℕ) (command : Command) (is : IsCommand line command) whe
   -- what follows the first space of a command's line is a call
   pub has_call : (target procedure : List ℕ) → Cuts 32 line target (Some procedure) → ((c : Call) → IsProcedure procedure c → ⊥) → ⊥
   has_call target procedure cut none = none command.call (subst (λ (p : List ℕ). IsProcedure p command.call)
-      (sym (some_injective procedure is.procedure (the_cut target (Some procedure) cut).1)) is.procedure_is)
+      (sym (same_Some procedure is.procedure (the_cut target (Some procedure) cut).1)) is.procedure_is)
 
 -- two commands with equal targets and equal calls are equal
 same_command : (c d : Command) → c.target ≡ d.target → c.call ≡ d.call → c ≡ d

@@ -1,14 +1,16 @@
--- Texts cut at the first mark, which is a byte, as LF between lines or a space between words.
-use Rattle.std.proofs.Common.{◌≡◌, ◌≢◌, ◌<◌, ◌+◌, ◌≤◌, ℕ, zero, suc, List, [], ◌∷◌, ◌++◌, length, take, drop, get_or, Option, Some, None, arith, refl, ap, subst, sym, ◌∙◌}
+-- Texts cut at the first mark, which is a byte, as LF between lines or a space between words; and what is read of a text, if anything.
+use Rattle.std.proofs.Common.{◌≡◌, ◌≢◌, ◌<◌, ◌+◌, ◌≤◌, ℕ, zero, suc, List, [], ◌∷◌, ◌++◌, length, take, drop, get_or, Option, Some, None, MatchOption, arith, refl, ap, subst, sym, ◌∙◌}
 use Rattle.std.proofs.lemmas.Bool.{eqb-true, eq-eqb}
 use Rattle.std.proofs.lemmas.List.{take_all}
 use Rattle.memchr.specs.Find.{IsFirstByte, is_byte}
 use Rattle.gc_values.specs.Digits.{AreDigits}
 use Rattle.gc_texts.specs.Cuts.{Lacks, Cuts}
 
--- equal values within `Some` are equal
-pub some_injective : {A : Type 0} (a b : A) → Some a ≡ Some b → a ≡ b
-some_injective a b e = cc
+-- where one text says a value exactly if another sets it, what is read of the one (`r`; `None`: nothing) is right of the other, too
+pub read_alike : {Value : Type 0} (Says Sets : Value → Type 0) (r : Option Value) → ((v : Value) → Says v → Sets v) → ((v : Value) → Sets v → Says v)
+    → MatchOption r ((v : Value) → Says v → ⊥) (λ v. Says v) → MatchOption r ((v : Value) → Sets v → ⊥) (λ v. Sets v)
+read_alike Says Sets None to from none = λ v is. none v (from v is)
+read_alike Says Sets (Some v) to from is = to v is
 
 -- no byte before place i is the mark
 lacks_before : (mark : ℕ) (bs : List ℕ) (i : ℕ) → i ≤ length bs → ((j : ℕ) → j < i → get_or bs j 0 ≢ mark) → Lacks mark (take i bs)

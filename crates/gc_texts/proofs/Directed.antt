@@ -10,7 +10,7 @@ use Rattle.gc_catalogue.specs.declared.answer.Shape.{Shape}
 use Rattle.gc_catalogue.specs.declared.answer.Shape.TheVariants as shape
 use Rattle.gc_catalogue.specs.declared.call.Call.{Call}
 use Rattle.gc_catalogue.specs.declared.call.Call.TheVariants.{NullProc}
-use Rattle.gc_texts.specs.Nears.{direction_of, asks_direction, DirectionsAreAskedFor}
+use Rattle.gc_texts.specs.Nears.{direction_of, call_gives_direction, DirectionsAreAskedFor}
 
 -- the shapes of answers that have a direction
 abbrev has_direction : Shape → Bool
@@ -24,16 +24,16 @@ answer_has_direction : (answer : Answer) → is_some (direction_of answer) ≡ h
 answer_has_direction Nothing = refl
 answer_has_direction answer = refl
 
--- a call asks for a direction exactly where the shape of its answer has one
-call_asks_direction : (call : Call) → asks_direction call ≡ has_direction (call_fields call).answer
-call_asks_direction NullProc = refl
-call_asks_direction call = refl
+-- the answers of a call have a direction exactly where the shape of its answer has one
+call_has_direction : (call : Call) → call_gives_direction call ≡ has_direction (call_fields call).answer
+call_has_direction NullProc = refl
+call_has_direction call = refl
 
--- the calls that ask for a direction are those of these procedures
-direction_procedures : (call : Call) → asks_direction call ≡ list_any (λ n. n == (call_fields call).number) (2107 ∷ 2108 ∷ 2117 ∷ 17017 ∷ [])
+-- the calls whose answers have a direction are those of these procedures
+direction_procedures : (call : Call) → call_gives_direction call ≡ list_any (λ n. n == (call_fields call).number) (2107 ∷ 2108 ∷ 2117 ∷ 17017 ∷ [])
 direction_procedures NullProc = refl
 direction_procedures call = refl
 
 -- the law: the answers that have a direction are those of the four procedures
 pub directed : DirectionsAreAskedFor
-directed = record { answers = λ call answer of. answer_has_direction answer ∙ ap has_direction of ∙ sym (call_asks_direction call); procedures = direction_procedures }
+directed = record { answers = λ call answer of. answer_has_direction answer ∙ ap has_direction of ∙ sym (call_has_direction call); procedures = direction_procedures }

@@ -45,7 +45,7 @@ first_attempt_has : (again : Again) (commands : ℕ) (c d : List Planned) (p : P
 first_attempt_has again commands c d p =
     record { earlier = map (in_attempt 1 again commands) c; again = again; commands = commands; others = map (in_attempt 1 again commands) d; are = map-append (in_attempt 1 again commands) c (p ∷ d) }
 
--- the attempts of a chain have the first of each of its commands
+-- the attempts of a chain have the first attempt of each of its commands
 attempts_have_first : (times : ℕ) (again : Again) (c d : List Planned) (p : Planned) → HasFirstAttempt p (attempts_from 1 times again (c ++ p ∷ d))
 attempts_have_first zero again c d p = first_attempt_has no_again (length (c ++ p ∷ d)) c d p
 attempts_have_first (suc n) again c d p =
@@ -56,7 +56,7 @@ attempts_have_first (suc n) again c d p =
 chain_has_first : (retry : Retry) (c d later : List Planned) (p : Planned) → HasFirstAttempt p (laid_from retry (c ++ p ∷ d) later)
 chain_has_first retry c d [] p = attempts_have_first retry.times retry.again c d p
 chain_has_first retry c d (q ∷ later) p = by_chained (chain_has_first retry c (d ++ q ∷ []) later p) q.task.chained where
-  -- by whether the next goes on with the chain
+  -- the lemma above for `q ∷ later`, by whether `q` goes on with the chain (`b`)
   by_chained : HasFirstAttempt p (laid_from retry (c ++ p ∷ (d ++ q ∷ [])) later) → (b : Bool)
       → HasFirstAttempt p (if b then laid_from retry ((c ++ p ∷ d) ++ q ∷ []) later else attempts retry (c ++ p ∷ d) ++ laid_from q.retry (q ∷ []) later)
   by_chained on true = subst (λ l. HasFirstAttempt p (laid_from retry l later)) (sym (append_assoc c (p ∷ d) (q ∷ []))) on
@@ -65,12 +65,12 @@ chain_has_first retry c d (q ∷ later) p = by_chained (chain_has_first retry c 
 -- the chains have the first attempt of each command
 pub chains_have_first : (retry : Retry) (chain front later : List Planned) (p : Planned) → HasFirstAttempt p (laid_from retry chain (front ++ p ∷ later))
 chains_have_first retry chain [] later p = by_chained p.task.chained where
-  -- by whether it goes on with the chain
+  -- the lemma above for `p ∷ later`, by whether `p` goes on with the chain (`b`)
   by_chained : (b : Bool) → HasFirstAttempt p (if b then laid_from retry (chain ++ p ∷ []) later else attempts retry chain ++ laid_from p.retry (p ∷ []) later)
   by_chained true = chain_has_first retry chain [] later p
   by_chained false = has_first_after p (attempts retry chain) (laid_from p.retry (p ∷ []) later) (chain_has_first p.retry [] [] later p)
 chains_have_first retry chain (q ∷ front) later p = by_chained (chains_have_first retry (chain ++ q ∷ []) front later p) (chains_have_first q.retry (q ∷ []) front later p) q.task.chained where
-  -- by whether the next goes on with the chain
+  -- the lemma above for `q ∷ front`, by whether `q` goes on with the chain (`b`)
   by_chained : HasFirstAttempt p (laid_from retry (chain ++ q ∷ []) (front ++ p ∷ later)) → HasFirstAttempt p (laid_from q.retry (q ∷ []) (front ++ p ∷ later)) → (b : Bool)
       → HasFirstAttempt p (if b then laid_from retry (chain ++ q ∷ []) (front ++ p ∷ later) else attempts retry chain ++ laid_from q.retry (q ∷ []) (front ++ p ∷ later))
   by_chained on next true = on

@@ -1,6 +1,6 @@
 -- How far the chains of a text are laid out: which attempts were appended to the tasks before (`old`).
 use Rattle.std.proofs.Common.{◌≡◌, ◌<◌, ◌≤◌, ◌+◌, ◌-◌, ◌*◌, ℕ, zero, suc, Bool, true, false, get_or, take, drop, List, [], ◌∷◌, ◌++◌, length, map, arith, refl, ap, subst, sym, ◌∙◌, append_assoc, if◌then◌else◌}
-use Rattle.std.proofs.lemmas.List.{drop_all}
+use Rattle.std.proofs.lemmas.List.{drop_all, drop_more, drop-drop}
 use Rattle.gc_texts.specs.Again.{no_again}
 use Rattle.gc_texts.specs.Attempts.{in_attempt, attempts_from, attempts, laid_from, laid_out}
 use Rattle.gc_texts.specs.Retries.{no_retry}
@@ -37,7 +37,7 @@ pub pushes_last : (old now new : List Task) (retry : Retry) (chain : List Planne
     → new ≡ now ++ map (in_attempt attempt no_again (length chain)) chain → new ≡ old ++ attempts retry chain
 pushes_last old now new retry chain attempt left h none more = more ∙ ap (λ n. now ++ attempts_from attempt n retry.again chain) (sym none) ∙ sym h.same
 
--- the commands of the places from `from` to `to`
+-- the commands from place `from` up to the one before place `to`
 abbrev part_of : List Planned → ℕ → ℕ → List Planned
 part_of cycle from to = take (to - from) (drop from cycle)
 
@@ -52,15 +52,6 @@ pub record Lays (old now : List Task) (cycle : List Planned) (retry : Retry) (fr
 pub lays_none : (tasks : List Task) (cycle : List Planned) → Lays tasks tasks cycle no_retry 0 0
 lays_none tasks cycle = record { same = refl; order = omega arith; within = omega arith }
 
--- the list from place i on is the element at place i, and then the list from the next place on
-drop_at : (xs : List Planned) (i : ℕ) (x : Planned) → i < length xs → x ≡ get_or xs i x → drop i xs ≡ x ∷ drop (i + 1) xs
-drop_at [] i x below is = absurd (omega (arith, below))
-drop_at (y ∷ xs) zero x below is = ap (λ z. z ∷ xs) (sym is)
-drop_at (y ∷ xs) (suc i) x below is = drop_at xs i x (omega (arith, below)) is ∙ ap (λ n. x ∷ drop n (y ∷ xs)) (next i) where
-  -- the place after i + 1, written in both ways
-  next : (i : ℕ) → suc (i + 1) ≡ suc i + 1
-  next i = omega arith
-
 -- the first n + 1 elements are the first n, and the next
 take_next : (xs : List Planned) (n : ℕ) (x : Planned) (rest : List Planned) → drop n xs ≡ x ∷ rest → take (suc n) xs ≡ take n xs ++ x ∷ []
 take_next [] zero x rest is = cc
@@ -68,25 +59,12 @@ take_next [] (suc n) x rest is = cc
 take_next (y ∷ xs) zero x rest is = let same : y ≡ x = cc in ap (λ z. z ∷ []) same
 take_next (y ∷ xs) (suc n) x rest is = ap (λ zs. y ∷ zs) (take_next xs n x rest is)
 
--- an empty list without its first n elements is empty
-drop_empty : (n : ℕ) → drop {A = Planned} n [] ≡ []
-drop_empty zero = refl
-drop_empty (suc n) = refl
-
--- a list without its first m elements, and then without n more, is without its first m + n
-drop_both : (xs : List Planned) (m n : ℕ) → drop n (drop m xs) ≡ drop (m + n) xs
-drop_both xs zero n = ap (λ k. drop k xs) (omega arith)
-drop_both [] (suc m) n = drop_empty n ∙ sym (drop_empty (suc m + n))
-drop_both (x ∷ xs) (suc m) n = drop_both xs m n ∙ ap (λ k. drop k (x ∷ xs)) (sum m n) where
-  -- 1 added to a sum may be added to its first number
-  sum : (m n : ℕ) → suc (m + n) ≡ suc m + n
-  sum m n = omega arith
-
+-- the next command, at `place`, goes on with the chain that was begun, or begins the next
 module _ (old now : List Task) (cycle : List Planned) (retry : Retry) (from place : ℕ) (planned : Planned) (h : Lays old now cycle retry from place) (below : place < length cycle)
     (is : planned ≡ get_or cycle place planned) where
   -- the commands that are left begin with this one
   left_is : drop place cycle ≡ planned ∷ drop (place + 1) cycle
-  left_is = drop_at cycle place planned below is
+  left_is = drop_more cycle place planned below ∙ ap (λ (p : Planned). p ∷ drop (place + 1) cycle) (sym is)
 
   -- the tasks of all chains are those appended (`now`) and those of the chains left, where the command goes on with the chain that was
   -- begun (`b`), or begins the next
@@ -107,7 +85,7 @@ module _ (old now : List Task) (cycle : List Planned) (retry : Retry) (from plac
       let next : place + 1 - from ≡ suc (place - from) = omega (arith, order) in
       let grown : part_of cycle from (place + 1) ≡ part_of cycle from place ++ planned ∷ [] =
       ap (λ n. take n (drop from cycle)) next
-      ∙ take_next (drop from cycle) (place - from) planned (drop (place + 1) cycle) (drop_both cycle from (place - from) ∙ ap (λ n. drop n cycle) gap ∙ left_is) in
+      ∙ take_next (drop from cycle) (place - from) planned (drop (place + 1) cycle) (drop-drop (place - from) from cycle ∙ ap (λ n. drop n cycle) gap ∙ left_is) in
       record {
         same = same_with true e ∙ ap (λ c. now ++ laid_from retry c (drop (place + 1) cycle)) (sym grown);
         order = omega (arith, order);

@@ -9,16 +9,17 @@ mod CommandForms
 mod RawForms
 mod RawTroubles
 mod WishForms
+mod WordForms
 mod CodeForms
 mod TaskForms
 mod TaskReading
 mod TaskLaws
 pub mod SettlementLines
-mod Telling
+mod WritingSettlements
 pub mod ZeroReplies
-mod Wanted
-mod Asked
-mod Dates
+mod ParameterCounts
+mod ParameterTroubles
+pub mod Dates
 mod FaultLines
 pub mod Logs
 pub mod LogStamps

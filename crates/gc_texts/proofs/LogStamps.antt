@@ -20,42 +20,42 @@ use Rattle.gc_texts.proofs.Dates.{few_days}
 use Rattle.gc_texts.proofs.Logs.{high_digit_small, one_reading}
 
 -- a byte of a moment: printable, and no space
-record IsInk (b : ℕ) : Type 0 where
+record IsVisible (b : ℕ) : Type 0 where
   above : 32 < b
   below : b ≤ 126
 
 -- a byte of a log line: printable
-abbrev pub IsShown : ℕ → Type 0
-IsShown b = (32 ≤ b) × (b ≤ 126)
+abbrev pub IsPrintableByte : ℕ → Type 0
+IsPrintableByte b = (32 ≤ b) × (b ≤ 126)
 
 -- a byte from 33 to 126 is printable, and no space
-byte_is_ink : (b : ℕ) → 32 < b → b ≤ 126 → IsInk b
-byte_is_ink b above below = record { above = above; below = below }
+visible_byte : (b : ℕ) → 32 < b → b ≤ 126 → IsVisible b
+visible_byte b above below = record { above = above; below = below }
 
 -- digits are printable, and none is a space
-digits_ink : (ds : List ℕ) → AllDigits 10 ds → AllByRecursion IsInk ds
-digits_ink [] digits = tt
-digits_ink (d ∷ ds) digits = let r = digit_from_value d digits.0 in (byte_is_ink d (omega (arith, r.0)) (omega (arith, r.1)), digits_ink ds digits.1)
+digits_visible : (ds : List ℕ) → AllDigits 10 ds → AllByRecursion IsVisible ds
+digits_visible [] digits = tt
+digits_visible (d ∷ ds) digits = let r = digit_from_value d digits.0 in (visible_byte d (omega (arith, r.0)) (omega (arith, r.1)), digits_visible ds digits.1)
 
 -- a number in decimal is printable, without a space
-decimal_ink : (n : ℕ) → n < 2 ^ 64 → All IsInk (decimal n)
-decimal_ink n h = All-from_recursion IsInk (decimal n) (digits_ink (decimal n) (decimal_is_IsNumeral n h).0.1)
+decimal_visible : (n : ℕ) → n < 2 ^ 64 → All IsVisible (decimal n)
+decimal_visible n h = All-from_recursion IsVisible (decimal n) (digits_visible (decimal n) (decimal_is_IsNumeral n h).0.1)
 
 -- a text of one byte from 33 to 126 is printable, without a space
-one_ink : (b : ℕ) → 32 < b → b ≤ 126 → All IsInk (b ∷ [])
-one_ink b above below = All-from_recursion IsInk (b ∷ []) (byte_is_ink b above below, tt)
+one_visible : (b : ℕ) → 32 < b → b ≤ 126 → All IsVisible (b ∷ [])
+one_visible b above below = All-from_recursion IsVisible (b ∷ []) (visible_byte b above below, tt)
 
 -- two digits are printable, without a space
-two_ink : (n : ℕ) → n < 100 → All IsInk (two_digits n)
-two_ink n h = All-from_recursion IsInk (two_digits n) (byte_is_ink (48 + n / 10) (omega arith) (omega (arith, h, div-add-mod n 10)), (byte_is_ink (48 + n % 10) (omega arith) (omega arith), tt))
+two_visible : (n : ℕ) → n < 100 → All IsVisible (two_digits n)
+two_visible n h =
+    All-from_recursion IsVisible (two_digits n)
+    (visible_byte (48 + n / 10) (omega arith) (omega (arith, h, div-add-mod n 10)), (visible_byte (48 + n % 10) (omega arith) (omega arith), tt))
 
 -- three digits are printable, without a space
-three_ink : (n : ℕ) → n < 1000 → All IsInk (three_digits n)
-three_ink n h = All-append IsInk ((48 + n / 100) ∷ []) (two_digits (n % 100)) (one_ink (48 + n / 100) (omega arith) (omega (arith, h, div-add-mod n 100))) (two_ink (n % 100) (omega arith))
-
--- two printable texts without a space, one after the other, are one printable text without a space
-ink_append : (xs ys : List ℕ) → All IsInk xs → All IsInk ys → All IsInk (xs ++ ys)
-ink_append xs ys = All-append IsInk xs ys
+three_visible : (n : ℕ) → n < 1000 → All IsVisible (three_digits n)
+three_visible n h =
+    All-append IsVisible ((48 + n / 100) ∷ []) (two_digits (n % 100)) (one_visible (48 + n / 100) (omega arith) (omega (arith, h, div-add-mod n 100)))
+    (two_visible (n % 100) (omega arith))
 
 -- the month of a date is at most 12, its day at most 31, and its year at most `year`
 pub record IsWithin (d : Date) (year : ℕ) : Type 0 where
@@ -64,8 +64,8 @@ pub record IsWithin (d : Date) (year : ℕ) : Type 0 where
   pub years : d.year ≤ year
 
 -- where a date's year is at most `year`, the next day's is at most `year + 1`; its month and day keep their bounds
-next_within : (d : Date) (year : ℕ) → IsWithin d year → IsWithin (next_day d) (suc year)
-next_within d year h =
+next_day_within : (d : Date) (year : ℕ) → IsWithin d year → IsWithin (next_day d) (suc year)
+next_day_within d year h =
     cond_both (nat_lt d.day (month_days d.year d.month)) _ _ (λ e. IsWithin e (suc year))
     (λ less. record { month = h.month; day = omega (arith, ltb-true d.day (month_days d.year d.month) less, few_days d.year d.month); years = omega (arith, h.years) })
     (λ _. cond_both (nat_lt d.month 12) _ _ (λ e. IsWithin e (suc year))
@@ -77,107 +77,107 @@ later_within : (n : ℕ) (d : Date) (year : ℕ) → IsWithin d year → IsWithi
 unfolding days_after
 later_within zero d year h = let e : year + 0 ≡ year = omega arith in subst (IsWithin d) (sym e) h
 later_within (suc n) d year h = let e : year + suc n ≡ suc year + n = omega arith in
-    subst (IsWithin (days_after n (next_day d))) (sym e) (later_within n (next_day d) (suc year) (next_within d year h))
+    subst (IsWithin (days_after n (next_day d))) (sym e) (later_within n (next_day d) (suc year) (next_day_within d year h))
 
 -- the date n days after 1 January 1970 has a year of at most 1970 + n, and a month and a day within bounds
 pub date_within : (n : ℕ) → IsWithin (date_of n) (1970 + n)
 date_within n = later_within n (record { year = 1970; month = 1; day = 1 }) 1970 (record { month = omega arith; day = omega arith; years = omega arith })
 
 -- the text of a date is printable, without a space
-date_ink : (d : Date) → d.year < 2 ^ 64 → d.month < 100 → d.day < 100 → All IsInk (date_text d)
-date_ink d year month day =
-    let dash = one_ink 45 (omega arith) (omega arith) in
-    let first = ink_append (decimal d.year) (45 ∷ []) (decimal_ink d.year year) dash in
-    let second = ink_append (decimal d.year ++ 45 ∷ []) (two_digits d.month) first (two_ink d.month month) in
-    let third = ink_append (decimal d.year ++ 45 ∷ [] ++ two_digits d.month) (45 ∷ []) second dash in
-    ink_append (decimal d.year ++ 45 ∷ [] ++ two_digits d.month ++ 45 ∷ []) (two_digits d.day) third (two_ink d.day day)
+date_visible : (d : Date) → d.year < 2 ^ 64 → d.month < 100 → d.day < 100 → All IsVisible (date_text d)
+date_visible d year month day =
+    let dash = one_visible 45 (omega arith) (omega arith) in
+    let first = All-append IsVisible (decimal d.year) (45 ∷ []) (decimal_visible d.year year) dash in
+    let second = All-append IsVisible (decimal d.year ++ 45 ∷ []) (two_digits d.month) first (two_visible d.month month) in
+    let third = All-append IsVisible (decimal d.year ++ 45 ∷ [] ++ two_digits d.month) (45 ∷ []) second dash in
+    All-append IsVisible (decimal d.year ++ 45 ∷ [] ++ two_digits d.month ++ 45 ∷ []) (two_digits d.day) third (two_visible d.day day)
 
 -- the text of a time is printable, without a space
-time_ink : (millis : ℕ) → millis < 86400000 → All IsInk (time_text millis)
-time_ink millis h =
-    let hours = two_ink (millis / 3600000) (omega (arith, h, div-add-mod millis 3600000)) in
-    let minutes = two_ink (millis / 60000 % 60) (omega arith) in
-    let seconds = two_ink (millis / 1000 % 60) (omega arith) in
-    let colon = one_ink 58 (omega arith) (omega arith) in
-    let point = one_ink 46 (omega arith) (omega arith) in
+time_visible : (millis : ℕ) → millis < 86400000 → All IsVisible (time_text millis)
+time_visible millis h =
+    let hours = two_visible (millis / 3600000) (omega (arith, h, div-add-mod millis 3600000)) in
+    let minutes = two_visible (millis / 60000 % 60) (omega arith) in
+    let seconds = two_visible (millis / 1000 % 60) (omega arith) in
+    let colon = one_visible 58 (omega arith) (omega arith) in
+    let point = one_visible 46 (omega arith) (omega arith) in
     let rest = three_digits (millis % 1000) in
-    let least : All IsInk (46 ∷ rest) = ink_append (46 ∷ []) rest point (three_ink (millis % 1000) (omega arith)) in
-    let third : All IsInk (58 ∷ (two_digits (millis / 1000 % 60) ++ 46 ∷ rest)) =
-    ink_append (58 ∷ []) (two_digits (millis / 1000 % 60) ++ 46 ∷ rest) colon (ink_append (two_digits (millis / 1000 % 60)) (46 ∷ rest) seconds least) in
-    let second : All IsInk (58 ∷ (two_digits (millis / 60000 % 60) ++ 58 ∷ (two_digits (millis / 1000 % 60) ++ 46 ∷ rest))) =
-    ink_append (58 ∷ []) (two_digits (millis / 60000 % 60) ++ 58 ∷ (two_digits (millis / 1000 % 60) ++ 46 ∷ rest)) colon
-    (ink_append (two_digits (millis / 60000 % 60)) (58 ∷ (two_digits (millis / 1000 % 60) ++ 46 ∷ rest)) minutes third) in
-    ink_append (two_digits (millis / 3600000)) (58 ∷ (two_digits (millis / 60000 % 60) ++ 58 ∷ (two_digits (millis / 1000 % 60) ++ 46 ∷ rest))) hours second
+    let least : All IsVisible (46 ∷ rest) = All-append IsVisible (46 ∷ []) rest point (three_visible (millis % 1000) (omega arith)) in
+    let third : All IsVisible (58 ∷ (two_digits (millis / 1000 % 60) ++ 46 ∷ rest)) =
+    All-append IsVisible (58 ∷ []) (two_digits (millis / 1000 % 60) ++ 46 ∷ rest) colon (All-append IsVisible (two_digits (millis / 1000 % 60)) (46 ∷ rest) seconds least) in
+    let second : All IsVisible (58 ∷ (two_digits (millis / 60000 % 60) ++ 58 ∷ (two_digits (millis / 1000 % 60) ++ 46 ∷ rest))) =
+    All-append IsVisible (58 ∷ []) (two_digits (millis / 60000 % 60) ++ 58 ∷ (two_digits (millis / 1000 % 60) ++ 46 ∷ rest)) colon
+    (All-append IsVisible (two_digits (millis / 60000 % 60)) (58 ∷ (two_digits (millis / 1000 % 60) ++ 46 ∷ rest)) minutes third) in
+    All-append IsVisible (two_digits (millis / 3600000)) (58 ∷ (two_digits (millis / 60000 % 60) ++ 58 ∷ (two_digits (millis / 1000 % 60) ++ 46 ∷ rest))) hours second
 
 -- a stamp's bytes are printable, and none is a space
-stamp_ink : (utc : ℕ) → utc < 2 ^ 64 → All IsInk (stamp_text utc)
-stamp_ink utc h =
+stamp_visible : (utc : ℕ) → utc < 2 ^ 64 → All IsVisible (stamp_text utc)
+stamp_visible utc h =
     let days = utc / 86400000 in
     let d = date_within days in
     let few : days < 2 ^ 63 = omega (arith, h, div-add-mod utc 86400000) in
     let moment = time_text (utc % 86400000) in
-    let first = ink_append (date_text (date_of days)) (84 ∷ []) (date_ink (date_of days) (omega (arith, few, d.years)) (omega (arith, d.month))
-    (omega (arith, d.day))) (one_ink 84 (omega arith) (omega arith)) in
-    let second = ink_append (date_text (date_of days) ++ 84 ∷ []) moment first (time_ink (utc % 86400000) (omega arith)) in
-    ink_append (date_text (date_of days) ++ 84 ∷ [] ++ moment) (90 ∷ []) second (one_ink 90 (omega arith) (omega arith))
+    let first = All-append IsVisible (date_text (date_of days)) (84 ∷ []) (date_visible (date_of days) (omega (arith, few, d.years)) (omega (arith, d.month))
+    (omega (arith, d.day))) (one_visible 84 (omega arith) (omega arith)) in
+    let second = All-append IsVisible (date_text (date_of days) ++ 84 ∷ []) moment first (time_visible (utc % 86400000) (omega arith)) in
+    All-append IsVisible (date_text (date_of days) ++ 84 ∷ [] ++ moment) (90 ∷ []) second (one_visible 90 (omega arith) (omega arith))
 
 -- a text whose bytes are printable, and none a space, lacks the space
-ink_lacks : (bs : List ℕ) → AllByRecursion IsInk bs → Lacks 32 bs
-ink_lacks [] h = tt
-ink_lacks (b ∷ bs) h = ((λ e. absurd (omega (arith, e, h.0.above))), ink_lacks bs h.1)
+visible_lacks_space : (bs : List ℕ) → AllByRecursion IsVisible bs → Lacks 32 bs
+visible_lacks_space [] h = tt
+visible_lacks_space (b ∷ bs) h = ((λ e. absurd (omega (arith, e, h.0.above))), visible_lacks_space bs h.1)
 
 -- bytes that are printable, and no spaces, are printable
-ink_prints : (bs : List ℕ) → AllByRecursion IsInk bs → AllByRecursion IsShown bs
-ink_prints [] h = tt
-ink_prints (b ∷ bs) h = ((omega (arith, h.0.above), h.0.below), ink_prints bs h.1)
+visible_prints : (bs : List ℕ) → AllByRecursion IsVisible bs → AllByRecursion IsPrintableByte bs
+visible_prints [] h = tt
+visible_prints (b ∷ bs) h = ((omega (arith, h.0.above), h.0.below), visible_prints bs h.1)
 
 -- a digit of base 16, as it is written, is printable
-digit_ink : (n : ℕ) → n < 16 → IsShown (hex_digit n)
-digit_ink n h = cond_both (nat_lt n 10) (48 + n) (87 + n) IsShown (λ e. (omega (arith, h), omega (arith, h))) (λ e. (omega (arith, h), omega (arith, h)))
+hex_digit_prints : (n : ℕ) → n < 16 → IsPrintableByte (hex_digit n)
+hex_digit_prints n h = cond_both (nat_lt n 10) (48 + n) (87 + n) IsPrintableByte (λ e. (omega (arith, h), omega (arith, h))) (λ e. (omega (arith, h), omega (arith, h)))
 
 -- a byte that a log writes as it is, is printable
-as_it_is_prints : (b : ℕ) → is_unescaped b ≡ true → IsShown b
+as_it_is_prints : (b : ℕ) → is_unescaped b ≡ true → IsPrintableByte b
 as_it_is_prints b e =
     let bounds = and_parts (nat_lt 31 b) (nat_lt b 127) (and_parts (nat_lt 31 b && nat_lt b 127) (not (b == 92)) e).0 in
     (omega (arith, ltb-true 31 b bounds.0), omega (arith, ltb-true b 127 bounds.1))
 
 -- the escaped form of a byte is printable
-escape_prints : (b : ℕ) → b < 256 → All IsShown (escape b)
+escape_prints : (b : ℕ) → b < 256 → All IsPrintableByte (escape b)
 escape_prints b h =
-    cond_both (is_unescaped b) (b ∷ []) (92 ∷ 120 ∷ hex_digit (b / 16) ∷ hex_digit (b % 16) ∷ []) (All IsShown)
-    (λ e. All-from_recursion IsShown (b ∷ []) (as_it_is_prints b e, tt))
-    (λ _. All-from_recursion IsShown (92 ∷ 120 ∷ hex_digit (b / 16) ∷ hex_digit (b % 16) ∷ [])
-    ((omega arith, omega arith), ((omega arith, omega arith), (digit_ink (b / 16) (high_digit_small b h), (digit_ink (b % 16) (omega arith), tt)))))
+    cond_both (is_unescaped b) (b ∷ []) (92 ∷ 120 ∷ hex_digit (b / 16) ∷ hex_digit (b % 16) ∷ []) (All IsPrintableByte)
+    (λ e. All-from_recursion IsPrintableByte (b ∷ []) (as_it_is_prints b e, tt))
+    (λ _. All-from_recursion IsPrintableByte (92 ∷ 120 ∷ hex_digit (b / 16) ∷ hex_digit (b % 16) ∷ [])
+    ((omega arith, omega arith), ((omega arith, omega arith), (hex_digit_prints (b / 16) (high_digit_small b h), (hex_digit_prints (b % 16) (omega arith), tt)))))
 
 -- the escaped form of bytes is printable
-pub escaped_prints : (bs : List ℕ) → AllByRecursion (λ b. b < 256) bs → All IsShown (escaped bs)
-escaped_prints [] h = All-from_recursion IsShown [] tt
-escaped_prints (b ∷ bs) h = All-append IsShown (escape b) (escaped bs) (escape_prints b h.0) (escaped_prints bs h.1)
+pub escaped_prints : (bs : List ℕ) → AllByRecursion (λ b. b < 256) bs → All IsPrintableByte (escaped bs)
+escaped_prints [] h = All-from_recursion IsPrintableByte [] tt
+escaped_prints (b ∷ bs) h = All-append IsPrintableByte (escape b) (escaped bs) (escape_prints b h.0) (escaped_prints bs h.1)
 
 -- the text of a mark is printable
-mark_prints : (mark : LogMark) → All IsShown (mark_text mark)
-mark_prints Went = All-from_recursion IsShown (62 ∷ []) ((omega arith, omega arith), tt)
-mark_prints WentPart = All-from_recursion IsShown (62 ∷ 124 ∷ []) ((omega arith, omega arith), ((omega arith, omega arith), tt))
-mark_prints Came = All-from_recursion IsShown (60 ∷ []) ((omega arith, omega arith), tt)
-mark_prints CamePart = All-from_recursion IsShown (60 ∷ 124 ∷ []) ((omega arith, omega arith), ((omega arith, omega arith), tt))
-mark_prints Link = All-from_recursion IsShown (45 ∷ []) ((omega arith, omega arith), tt)
+mark_prints : (mark : LogMark) → All IsPrintableByte (mark_text mark)
+mark_prints Went = All-from_recursion IsPrintableByte (62 ∷ []) ((omega arith, omega arith), tt)
+mark_prints WentPart = All-from_recursion IsPrintableByte (62 ∷ 124 ∷ []) ((omega arith, omega arith), ((omega arith, omega arith), tt))
+mark_prints Came = All-from_recursion IsPrintableByte (60 ∷ []) ((omega arith, omega arith), tt)
+mark_prints CamePart = All-from_recursion IsPrintableByte (60 ∷ 124 ∷ []) ((omega arith, omega arith), ((omega arith, omega arith), tt))
+mark_prints Link = All-from_recursion IsPrintableByte (45 ∷ []) ((omega arith, omega arith), tt)
 
 -- a printable text after a space is printable
-space_prints : (bs : List ℕ) → All IsShown bs → All IsShown (32 ∷ bs)
-space_prints bs h = All-append IsShown (32 ∷ []) bs (All-from_recursion IsShown (32 ∷ []) ((omega arith, omega arith), tt)) h
+space_prints : (bs : List ℕ) → All IsPrintableByte bs → All IsPrintableByte (32 ∷ bs)
+space_prints bs h = All-append IsPrintableByte (32 ∷ []) bs (All-from_recursion IsPrintableByte (32 ∷ []) ((omega arith, omega arith), tt)) h
 
 -- the text of a stamp is printable
-pub stamp_shown : (utc : ℕ) → utc < 2 ^ 64 → All IsShown (stamp_text utc)
-stamp_shown utc h = All-from_recursion IsShown (stamp_text utc) (ink_prints (stamp_text utc) (recursion_from_All IsInk (stamp_text utc) (stamp_ink utc h)))
+pub stamp_prints : (utc : ℕ) → utc < 2 ^ 64 → All IsPrintableByte (stamp_text utc)
+stamp_prints utc h = All-from_recursion IsPrintableByte (stamp_text utc) (visible_prints (stamp_text utc) (recursion_from_All IsVisible (stamp_text utc) (stamp_visible utc h)))
 
 -- the law: a log line that was written reads back, in one way alone
 pub read_back : LogLinesReadBack
 read_back = record {
   written = λ utc mark bytes h are. record {
     is = refl;
-    one_word = ink_lacks (stamp_text utc)
-        (recursion_from_All IsInk (stamp_text utc) (stamp_ink utc h));
-    is_printable = stamp_shown utc h;
+    one_word = visible_lacks_space (stamp_text utc)
+        (recursion_from_All IsVisible (stamp_text utc) (stamp_visible utc h));
+    is_printable = stamp_prints utc h;
     are_bytes = are;
   };
   once = λ text one other mark sign bytes more. one_reading text one other mark sign bytes more;
@@ -186,6 +186,6 @@ read_back = record {
 -- the law: a log line is printable before its line feed
 pub printable : LogLinesArePrintable
 printable utc mark bytes h are =
-    All-append IsShown (stamp_text utc) (32 ∷ (mark_text mark ++ 32 ∷ escaped bytes)) (stamp_shown utc h)
-    (space_prints (mark_text mark ++ 32 ∷ escaped bytes) (All-append IsShown (mark_text mark) (32 ∷ escaped bytes) (mark_prints mark)
+    All-append IsPrintableByte (stamp_text utc) (32 ∷ (mark_text mark ++ 32 ∷ escaped bytes)) (stamp_prints utc h)
+    (space_prints (mark_text mark ++ 32 ∷ escaped bytes) (All-append IsPrintableByte (mark_text mark) (32 ∷ escaped bytes) (mark_prints mark)
     (space_prints (escaped bytes) (escaped_prints bytes (recursion_from_All (λ b. b < 256) bytes are)))))

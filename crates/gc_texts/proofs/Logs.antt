@@ -6,11 +6,12 @@ use Rattle.std.specs.Prelude.{nat_lt, ◌==◌}
 use Rattle.std.proofs.Math.Nat.{div-add-mod}
 use Rattle.std.proofs.lemmas.Bool.{cond_both, eqb-true, ltb-true, ltb-false}
 use Rattle.std.proofs.lemmas.List.Elements.{recursion_from_All}
+use Rattle.std.proofs.lemmas.Option.{same_Some}
 use Rattle.gc_texts.specs.Cuts.{Lacks, Cuts}
 use Rattle.gc_texts.specs.Logs.{mark_text, is_unescaped, hex_digit, escape, escaped, IsPrintable, IsLogLine}
 use Rattle.gc_texts.specs.declared.log_line.LogMark.{LogMark}
 use Rattle.gc_texts.specs.declared.log_line.LogMark.TheVariants.{Went, WentPart, Came, CamePart, Link}
-use Rattle.gc_texts.proofs.Cutting.{cut_found, one_front, some_injective}
+use Rattle.gc_texts.proofs.Cutting.{cut_found, one_front}
 
 -- a byte is a number below 256
 abbrev IsByte : ℕ → Type 0
@@ -59,7 +60,7 @@ small_low : (b : ℕ) → b % 16 < 16
 small_low b = omega arith
 
 -- where two texts are equal, and each is an escaped byte and a rest, the bytes are equal, and the rests are
-one_byte : (b c : ℕ) (s t xs ys : List ℕ) → b < 256 → c < 256 → IsEscape b s → IsEscape c t → s ++ xs ≡ t ++ ys → (b ≡ c) × (xs ≡ ys)
+one_byte : (b c : ℕ) (s t xs ys : List ℕ) (small : b < 256) (few : c < 256) (one : IsEscape b s) (other : IsEscape c t) → s ++ xs ≡ t ++ ys → (b ≡ c) × (xs ≡ ys)
 one_byte b c s t xs ys small few (as_it_is is so) (as_it_is was to) e =
     let same : b ∷ xs ≡ c ∷ ys = sym (ap (λ z. z ++ xs) so) ∙ e ∙ ap (λ z. z ++ ys) to in
     (cc, cc)
@@ -119,7 +120,7 @@ no_more left (b ∷ bs) some none h e = none b (escaped bs) h.0 e
 
 -- where what is left of a text isn't empty, and doesn't begin with an escaped byte, the text isn't the escaped form of any
 -- bytes
-pub reads_no_more : (text bytes left : List ℕ) → ReadsBytes text bytes left → left ≢ [] → ((b : ℕ) (rest : List ℕ) → b < 256 → left ≡ escape b ++ rest → ⊥)
+pub reads_no_more : (text bytes left : List ℕ) (read : ReadsBytes text bytes left) (some : left ≢ []) (none : (b : ℕ) (rest : List ℕ) → b < 256 → left ≡ escape b ++ rest → ⊥)
     → (all : List ℕ) → All IsByte all → text ≡ escaped all → ⊥
 reads_no_more text bytes left h some none all are e =
     let k = behind_bytes bytes left all (recursion_from_All IsByte bytes h.are) (recursion_from_All IsByte all are) (sym h.so ∙ e) in
@@ -131,7 +132,8 @@ some_bytes_left left [] some e = absurd (some e)
 some_bytes_left left (b ∷ bs) some e = omega arith
 
 -- where 514 bytes were read and something is left, the text isn't the escaped form of at most 514 bytes
-pub reads_too_many : (text bytes left : List ℕ) → ReadsBytes text bytes left → left ≢ [] → 514 ≤ length bytes → (all : List ℕ) → length all ≤ 514 → All IsByte all → text ≡ escaped all → ⊥
+pub reads_too_many : (text bytes left : List ℕ) (read : ReadsBytes text bytes left) (some : left ≢ []) (full : 514 ≤ length bytes)
+    → (all : List ℕ) → length all ≤ 514 → All IsByte all → text ≡ escaped all → ⊥
 reads_too_many text bytes left h some full all room are e =
     let k = behind_bytes bytes left all (recursion_from_All IsByte bytes h.are) (recursion_from_All IsByte all are) (sym h.so ∙ e) in
     omega (arith, full, room, ap length k.joins, length-append bytes k.more, some_bytes_left left k.more some k.so)
@@ -166,7 +168,7 @@ module _ (line front : List ℕ) (rest : Option (List ℕ)) (cut : Cuts 32 line 
 
   -- the mark is before the second space
   second_word : (behind word : List ℕ) (text : Option (List ℕ)) → rest ≡ Some behind → Cuts 32 behind word text → (word ≡ mark_text mark) × (text ≡ Some (escaped bytes))
-  second_word behind word text so next = cut_found 32 behind word text (mark_text mark) (escaped bytes) next (some_injective behind _ (sym so ∙ first_word.1)) (mark_lacks mark)
+  second_word behind word text so next = cut_found 32 behind word text (mark_text mark) (escaped bytes) next (same_Some behind _ (sym so ∙ first_word.1)) (mark_lacks mark)
 
   -- a line without a space is no log line
   pub no_moment : rest ≡ None → ⊥
@@ -183,7 +185,7 @@ module _ (line front : List ℕ) (rest : Option (List ℕ)) (cut : Cuts 32 line 
   -- a line whose text after the mark isn't the escaped form of any bytes, 514 at most, is no log line
   pub other_bytes : (behind word text : List ℕ) → rest ≡ Some behind → Cuts 32 behind word (Some text) → length bytes ≤ 514
       → ((all : List ℕ) → length all ≤ 514 → All IsByte all → text ≡ escaped all → ⊥) → ⊥
-  other_bytes behind word text so next room none = none bytes room is.are_bytes (some_injective text (escaped bytes) (second_word behind word (Some text) so next).1)
+  other_bytes behind word text so next room none = none bytes room is.are_bytes (same_Some text (escaped bytes) (second_word behind word (Some text) so next).1)
 
 -- one of two marks by the text after a mark's first byte: `whole` where there is none, else `part`
 by_end : List ℕ → LogMark → LogMark → LogMark

@@ -13,6 +13,7 @@ use Rattle.gc_texts.specs.declared.near.Near.{Near}
 use Rattle.gc_texts.specs.declared.task_line.TaskLine.{TaskLine}
 use Rattle.gc_texts.specs.declared.task_line.TaskLine.TheVariants as says
 use Rattle.gc_texts.specs.declared.tasks.Task.{Task}
+use Rattle.gc_texts.proofs.TaskReading.{nears_both}
 
 -- where each line of a text may follow those before it, and one of them says where a target is, no line before it says where
 -- that target is
@@ -25,15 +26,10 @@ no_place_before names nears (line ∷ front) later near follow =
 
 -- where none of `nears` is a target's place, and the next place is that target's, that is the place that is found
 found_near : (nears others : List Near) (near : Near) → has_near near.target nears ≡ false → near_of near.target (nears ++ near ∷ others) ≡ Some near
-found_near [] others near no_place_before = ap (λ b. cond b (Some near) (near_of near.target others)) (eq-eqb near.target near.target refl)
-found_near (n ∷ nears) others near no_place_before =
-    let apart = or_parts (n.target == near.target) (has_near near.target nears) no_place_before in
+found_near [] others near none = ap (λ b. cond b (Some near) (near_of near.target others)) (eq-eqb near.target near.target refl)
+found_near (n ∷ nears) others near none =
+    let apart = or_parts (n.target == near.target) (has_near near.target nears) none in
     ap (λ b. cond b (Some n) (near_of near.target (nears ++ near ∷ others))) apart.0 ∙ found_near nears others near apart.1
-
--- the lines `xs` and then `ys` give the places of `xs`, and after them those of `ys`
-nears_both : (xs ys : List TaskLine) → nears_of (xs ++ ys) ≡ nears_of xs ++ nears_of ys
-nears_both [] ys = refl
-nears_both (x ∷ xs) ys = ap (λ ns. near_at x ++ ns) (nears_both xs ys) ∙ sym (append_assoc (near_at x) (nears_of xs) (nears_of ys))
 
 -- equal lists have equal first tasks
 head_same : (t u : Task) (ts us : List Task) → ◌≡◌ {A = List Task} (t ∷ ts) (u ∷ us) → t ≡ u
@@ -93,7 +89,7 @@ pub elsewhere_is : (place : Option Near) (answer : Answer) → is_elsewhere plac
 unfolding is_elsewhere
 elsewhere_is None answer away = cc
 elsewhere_is (Some near) answer away = by_direction (direction_of answer) refl where
-  -- by its direction: an answer without one is not elsewhere, so there is one, and it isn't near
+  -- the lemma above, by the answer's direction: without one it isn't elsewhere, so there is one, and it isn't near
   by_direction : (o : Option Direction) → direction_of answer ≡ o
       → (n : Near) × (d : Direction) × (Some near ≡ Some n) × (direction_of answer ≡ Some d) × (IsNear d n.place n.tolerance → ⊥)
   by_direction None has = let bad : false ≡ true = ap (is_away near) (sym has) ∙ away in cc

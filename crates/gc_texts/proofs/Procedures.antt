@@ -45,9 +45,10 @@ one_number digits m n max h k = h.names.value ∙ sym k.names.value
 
 -- where the front of a text is a number, and `r` is the call of that number and the parameters after it, or `None` where
 -- they make none, `r` is the call of the text, too
-pub procedure_is : (text front params : List ℕ) (rest : Option (List ℕ)) (rpc : ℕ) (r : Option Call) → Cuts 32 text front rest → HasBytes rest
-    → params ≡ unwrap_or rest [] → IsNumber front rpc 65535 → MatchOption r ((call : Call) → IsCall rpc params call → ⊥)
-    (λ call. IsCall rpc params call) → MatchOption r ((call : Call) → IsProcedure text call → ⊥) (λ call. IsProcedure text call)
+pub procedure_is : (text front params : List ℕ) (rest : Option (List ℕ)) (rpc : ℕ) (r : Option Call) (cut : Cuts 32 text front rest) (more : HasBytes rest)
+    (same : params ≡ unwrap_or rest []) (number : IsNumber front rpc 65535)
+    → MatchOption r ((call : Call) → IsCall rpc params call → ⊥) (λ call. IsCall rpc params call)
+    → MatchOption r ((call : Call) → IsProcedure text call → ⊥) (λ call. IsProcedure text call)
 procedure_is text front params rest rpc None cut more same number none =
     λ call p.
     let parts = procedure_parts text front rest call cut p in
@@ -76,9 +77,10 @@ with_rest mark text front o rest cut e = let P : Option (List ℕ) → Type 0 = 
 
 -- where the front of a text is a number, with a space and at least one byte of parameters after it, and `r` is the call of
 -- that number and these parameters, or `None` where they make none, `r` is the call of the text, too
-pub with_parameters : (text front params : List ℕ) (o : Option (List ℕ)) (rpc : ℕ) (r : Option Call) → Cuts 32 text front o → o ≡ Some params
-    → 0 < length params → IsNumber front rpc 65535 → MatchOption r ((call : Call) → IsCall rpc params call → ⊥)
-    (λ call. IsCall rpc params call) → MatchOption r ((call : Call) → IsProcedure text call → ⊥) (λ call. IsProcedure text call)
+pub with_parameters : (text front params : List ℕ) (o : Option (List ℕ)) (rpc : ℕ) (r : Option Call) (cut : Cuts 32 text front o) (is : o ≡ Some params)
+    (more : 0 < length params) (number : IsNumber front rpc 65535)
+    → MatchOption r ((call : Call) → IsCall rpc params call → ⊥) (λ call. IsCall rpc params call)
+    → MatchOption r ((call : Call) → IsProcedure text call → ⊥) (λ call. IsProcedure text call)
 with_parameters text front params o rpc r cut e more number called = procedure_is text front params (Some params) rpc r (with_rest 32 text front o (Some params) cut e) more refl number called
 
 -- a text with nothing after its space is no procedure's

@@ -47,7 +47,7 @@ one_raw line m n r s x y = (
 pub first_digit : (line : List ℕ) → AreDigits (first_word line) → 0 < length (first_word line) → get_or line 0 0 ≤ 57
 first_digit [] digits some = omega arith
 first_digit (b ∷ bs) digits some = low (b == 32) (before 32 bs) digits some where
-  -- the same, where `z` says whether that byte is a space
+  -- the lemma above for the line `b ∷ bs`, by whether its first byte is a space (`z`)
   low : (z : Bool) (rest : List ℕ) → AreDigits (cond z [] (b ∷ rest)) → 0 < length (cond z [] (b ∷ rest)) → b ≤ 57
   low true rest digits some = absurd (omega (arith, some))
   low false rest digits some = digits.0.1

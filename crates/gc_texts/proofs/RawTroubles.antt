@@ -1,9 +1,9 @@
 -- What is at fault in a line whose second word is `raw`, and the names of procedures by their numbers.
 use Rattle.std.proofs.Common.{◌≡◌, ◌≢◌, ◌==◌, ◌⊎◌, inl, inr, ℕ, List, [], ◌∷◌, ◌++◌, codes, append_assoc, Option, Some, None, IfSome, cond, refl, ap, subst, sym, ◌∙◌}
 use Rattle.std.proofs.lemmas.Bool.{ne_eqb}
-use Rattle.gc_catalogue.specs.Calls.{call_fields}
+use Rattle.gc_catalogue.specs.Calls.{call_fields, IsNoProcedure, IsProcedure}
 use Rattle.gc_catalogue.specs.Names.{call_name}
-use Rattle.gc_catalogue.specs.Raws.{IsProcedure, IsNoProcedure, IsRawCall, IsRawRefusal}
+use Rattle.gc_catalogue.specs.Raws.{IsRawCall, IsRawRefusal}
 use Rattle.gc_catalogue.specs.declared.call.Call.{Call}
 use Rattle.gc_catalogue.specs.declared.call.Call.TheVariants.{NullProc}
 use Rattle.gc_catalogue.specs.declared.raw.RawFault.{RawFault}
@@ -48,11 +48,11 @@ module _ (line : List ℕ) (word : IsRawLine line) where
   raw_words t (inr (rpc, number, inr (may, told))) =
       subst (IsAskingTrouble line) (sym told) (inr (inr (record { word = word; rpc = rpc; number = number; is = inr (may, refl) })))
 
--- what is at fault after the word `raw` is reported of equal words and of equal parameters
+-- where `t` is what is at fault in a word after `raw` and the parameters after it, it is at fault in an equal word and equal parameters
 pub same_raw_trouble : (word other params others : List ℕ) (t : Trouble) → word ≡ other → params ≡ others → IsRawWordsTrouble word params t → IsRawWordsTrouble other others t
 same_raw_trouble word other params others t e f is = subst (λ (w : List ℕ). IsRawWordsTrouble w others t) e (subst (λ (p : List ℕ). IsRawWordsTrouble word p t) f is)
 
--- the line that names a procedure of the table is the same with its line feed within the last text and after it
+-- the text that a procedure is in the table, with a line feed at the end of its last part, is that text and then a line feed
 pub in_table_line : (rpc name : List ℕ) → rpc ++ (codes " is " ++ (name ++ codes ": leave out raw\n")) ≡ (((rpc ++ codes " is ") ++ name) ++ codes ": leave out raw") ++ codes "\n"
 in_table_line rpc name =
     sym (append_assoc ((rpc ++ codes " is ") ++ name) (codes ": leave out raw") (codes "\n")

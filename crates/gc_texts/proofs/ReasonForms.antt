@@ -1,20 +1,21 @@
 -- Which texts are the words of a line `retry`, and what they name. A word is a return code, a number from 1 to 65535, or an
 -- outcome, and words have one space (byte 32) between two. While they are read, `left` is what is unread of the text (`None`
 -- at its end), `read` the words so far, and `rest` what is left after the next word.
-use Rattle.std.proofs.Common.{◌≡◌, ◌<◌, ◌≤◌, inl, inr, ℕ, Bool, true, false, cond, ne_eqb, ◌==◌, nat_lt, List, [], ◌∷◌, ◌++◌, get_or, Option, Some, None, MatchOption, arith, refl, ap, subst, sym, ◌∙◌, append_assoc, append-nil, codes, if◌then◌else◌}
+use Rattle.std.proofs.Common.{◌≡◌, ◌<◌, ◌≤◌, inl, inr, ℕ, Bool, true, false, cond, ne_eqb, ◌==◌, List, [], ◌∷◌, ◌++◌, get_or, Option, Some, None, MatchOption, arith, refl, ap, subst, sym, ◌∙◌, append-nil, codes, if◌then◌else◌}
 use Rattle.std.proofs.lemmas.Bool.{ltb-true, ltb-false}
 use Rattle.std.proofs.lemmas.List.{append_cancel_left}
 use Rattle.gc_texts.specs.Again.{no_again}
 use Rattle.gc_texts.specs.Cuts.{Cuts, Lacks, before, behind}
-use Rattle.gc_texts.specs.Retries.{IsReason, AreReasons, IsNamedBy, IsRetryRule, has_room, count_with, again_with, codes_with, named_with}
+use Rattle.gc_texts.specs.Retries.{IsReason, AreReasons, NamesRule, IsRetryRule, has_room, count_with, again_with, codes_with, named_with}
 use Rattle.gc_texts.specs.TaskLines.{SetsRetry}
 use Rattle.gc_texts.specs.declared.again.Again.{Again}
 use Rattle.gc_texts.specs.declared.retry.Reason.{Reason}
 use Rattle.gc_texts.specs.declared.retry.Reason.TheVariants as reason
 use Rattle.gc_texts.specs.declared.retry.Retry.{Retry}
 use Rattle.gc_values.specs.Digits.{AreDigits}
-use Rattle.gc_texts.proofs.Cutting.{cut_found, cut_none, one_front, has_mark, digits_lack_spaces}
+use Rattle.gc_texts.proofs.Cutting.{read_alike, digits_lack_spaces}
 use Rattle.gc_texts.proofs.Procedures.{one_number}
+use Rattle.gc_texts.proofs.WordForms.{IsWordForm, one_word_list, AreLeft, ReadsWords, none_read, all_read_are, next_item_of, one_more_read}
 
 -- the second byte of digits is at most 57, that of 9
 second_low : (word : List ℕ) → AreDigits word → get_or word 1 0 ≤ 57
@@ -106,22 +107,13 @@ reason_lacks_space word reason.Skipped is = subst (Lacks 32) (sym is) (
   ),
 )
 
--- a text is one list of words at most
-one_reason_list : (xs ys : List Reason) (text : List ℕ) → AreReasons text xs → AreReasons text ys → xs ≡ ys
-one_reason_list [] ys text a b = absurd a
-one_reason_list (x ∷ xs) [] text a b = absurd b
-one_reason_list (x ∷ []) (y ∷ []) text a b = ap (λ z. z ∷ []) (one_reason text x y a b)
-one_reason_list (x ∷ []) (y ∷ n ∷ ys) text a (word, rest, at, is, others) = absurd (has_mark 32 word rest text (sym at) (reason_lacks_space text x a))
-one_reason_list (x ∷ m ∷ xs) (y ∷ []) text (word, rest, at, is, others) b = absurd (has_mark 32 word rest text (sym at) (reason_lacks_space text y b))
-one_reason_list (x ∷ m ∷ xs) (y ∷ n ∷ ys) text (word, rest, at, is, others) (front, behind, so, says, more) =
-    let parts = one_front 32 word front rest behind (sym at ∙ so) (reason_lacks_space word x is) (reason_lacks_space front y says) in
-    let heads : x ≡ y = one_reason front x y (subst (λ (w : List ℕ). IsReason w x) parts.0 is) says in
-    let tails : m ∷ xs ≡ n ∷ ys = one_reason_list (m ∷ xs) (n ∷ ys) behind (subst (λ (r : List ℕ). AreReasons r (m ∷ xs)) parts.1 others) more in
-    ap (λ z. z ∷ m ∷ xs) heads ∙ ap (λ zs. y ∷ zs) tails
+-- a word of a line `retry` has no space, and is one code or outcome at most
+reason_form : IsWordForm IsReason
+reason_form = record { lacks = reason_lacks_space; one = one_reason }
 
 -- a text names one rule at most
-one_named : (text : List ℕ) (a b : Again) → IsNamedBy text a → IsNamedBy text b → a ≡ b
-one_named text a b x y = x.again_is ∙ ap (named_with no_again 0) (one_reason_list x.reasons y.reasons text x.are y.are) ∙ sym y.again_is
+one_named : (text : List ℕ) (a b : Again) → NamesRule text a → NamesRule text b → a ≡ b
+one_named text a b x y = x.again_is ∙ ap (named_with no_again 0) (one_word_list IsReason reason_form x.reasons y.reasons text x.are y.are) ∙ sym y.again_is
 
 -- two retries with equal times and equal rules are equal
 same_retry : (a b : Retry) → a.times ≡ b.times → a.again ≡ b.again → a ≡ b
@@ -149,12 +141,11 @@ one_retrying line a b (inr x) (inr y) =
 pub retries_so : (line rest : List ℕ) (r : Option Retry) → (line ≡ codes "retry 0" → ⊥) → line ≡ codes "retry " ++ rest
     → MatchOption r ((found : Retry) → IsRetryRule rest found → ⊥) (λ found. IsRetryRule rest found)
     → MatchOption r ((found : Retry) → SetsRetry line found → ⊥) (λ found. SetsRetry line found)
-retries_so line rest None other e none = λ found is. either_none found is where
-  -- the line sets none: it isn't `retry 0`, and `rest` is no rule
-  either_none : (found : Retry) → SetsRetry line found → ⊥
-  either_none found (inl alone) = other alone.0
-  either_none found (inr is) = none found (subst (λ (r : List ℕ). IsRetryRule r found) (append_cancel_left (codes "retry ") is.rest rest (sym is.line_is ∙ e)) is.rule_is)
-retries_so line rest (Some found) other e are = inr (record { rest = rest; line_is = e; rule_is = are })
+retries_so line rest r other e = read_alike (IsRetryRule rest) (SetsRetry line) r (λ found is. inr (record { rest = rest; line_is = e; rule_is = is })) rest_rules where
+  -- `rest` is the rule that the line sets, because the line isn't `retry 0`
+  rest_rules : (found : Retry) → SetsRetry line found → IsRetryRule rest found
+  rest_rules found (inl alone) = absurd (other alone.0)
+  rest_rules found (inr is) = subst (λ (t : List ℕ). IsRetryRule t found) (append_cancel_left (codes "retry ") is.rest rest (sym is.line_is ∙ e)) is.rule_is
 
 -- a line that is neither `retry 0` nor begins with `retry ` sets none
 pub retries_none : (line : List ℕ) → (line ≡ codes "retry 0" → ⊥) → ((rest : List ℕ) → line ≡ codes "retry " ++ rest → ⊥) → (found : Retry) → SetsRetry line found → ⊥
@@ -163,20 +154,10 @@ retries_none line other none found (inr is) = none is.rest is.line_is
 
 -- How far the reading has come.
 
--- what is left of a text is these words; at its end there are none
-abbrev AreLeft : Option (List ℕ) → List Reason → Type 0
-AreLeft None later = later ≡ []
-AreLeft (Some text) later = AreReasons text later
-
--- the words `read` were read from the text: those of all of it are these, and after them those of what is left
-pub record ReadsReasons (text : List ℕ) (left : Option (List ℕ)) (read : List Reason) : Type 0 where
-  pub found : (later : List Reason) → AreLeft left later → AreReasons text (read ++ later)
-  pub only : (all : List Reason) → AreReasons text all → (later : List Reason) × (all ≡ read ++ later) × AreLeft left later
-
--- words of the text were read (`ReadsReasons`) that name this, with `count` codes, at most 16
+-- words of the text were read (`ReadsWords`) that make the rule `again`, with `count` codes among them, at most 16
 pub record NamesSoFar (text : List ℕ) (left : Option (List ℕ)) (again : Again) (count : ℕ) : Type 0 where
   pub read : List Reason
-  pub reads : ReadsReasons text left read
+  pub reads : ReadsWords IsReason text left read
   pub again_is : again ≡ named_with no_again 0 read
   pub count_is : count ≡ codes_with 0 read
   pub few : count ≤ 16
@@ -185,7 +166,7 @@ pub record NamesSoFar (text : List ℕ) (left : Option (List ℕ)) (again : Agai
 pub names_opening : (text : List ℕ) (left : Option (List ℕ)) (again : Again) → left ≡ Some text → again ≡ no_again → NamesSoFar text left again 0
 names_opening text left again some none =
     subst (λ o. NamesSoFar text o again 0) (sym some)
-    (record { read = []; reads = record { found = λ later are. are; only = λ all are. (all, refl, are) }; again_is = none; count_is = refl; few = omega arith })
+    (record { read = []; reads = none_read IsReason text; again_is = none; count_is = refl; few = omega arith })
 
 -- the rule that words and one more make is the rule of the words, with that word added
 more_named : (again : Again) (count : ℕ) (read : List Reason) (r : Reason) → named_with again count (read ++ r ∷ []) ≡ again_with (named_with again count read) (codes_with count read) r
@@ -219,24 +200,6 @@ codes_both : (count : ℕ) (read later : List Reason) → codes_with count (read
 codes_both count [] later = refl
 codes_both count (x ∷ read) later = codes_both (count_with count x) read later
 
--- a list of words, cut at its first space, begins with the word before the space, and the others are those of the rest
-first_reason : (now word : List ℕ) (later : List Reason) (rest : Option (List ℕ)) → Cuts 32 now word rest → AreReasons now later
-    → (r : Reason) × (others : List Reason) × (later ≡ r ∷ others) × IsReason word r × AreLeft rest others
-first_reason now word [] rest cut are = absurd are
-first_reason now word (r ∷ []) rest cut are =
-    let parts = cut_none 32 now word rest cut (reason_lacks_space now r are) in
-    (r, [], refl, subst (λ (w : List ℕ). IsReason w r) (sym parts.0) are, subst (λ o. AreLeft o []) (sym parts.1) refl)
-first_reason now word (r ∷ next ∷ others) rest cut (front, behind, at, is, more) =
-    let parts = cut_found 32 now word rest front behind cut at (reason_lacks_space front r is) in
-    (r, next ∷ others, refl, subst (λ (w : List ℕ). IsReason w r) (sym parts.0) is, subst (λ o. AreLeft o (next ∷ others)) (sym parts.1) more)
-
--- a word before the first space, and the words of the rest, are the words of the whole text
-reasons_joined : (now word : List ℕ) (rest : Option (List ℕ)) (r : Reason) (others : List Reason) → Cuts 32 now word rest → IsReason word r → AreLeft rest others → AreReasons now (r ∷ others)
-reasons_joined now word None r [] cut is left = subst (λ (w : List ℕ). IsReason w r) (sym cut.0) is
-reasons_joined now word None r (next ∷ others) cut is left = let bad : next ∷ others ≡ [] = left in cc
-reasons_joined now word (Some behind) r [] cut is left = absurd left
-reasons_joined now word (Some behind) r (next ∷ others) cut is left = (word, behind, cut.0, is, left)
-
 -- where there is no room for a word, it is one code more, after 16 others
 no_room : (count : ℕ) (r : Reason) → count ≤ 16 → has_room count r ≡ false → 16 < count_with count r
 no_room count (reason.Code code) few e = let full : 16 ≤ count = ltb-false count 16 e in omega (arith, full)
@@ -256,57 +219,46 @@ room_for count reason.Lost few e = few
 room_for count reason.Skipped few e = few
 
 module _ (text now word : List ℕ) (left rest : Option (List ℕ)) (old : Again) (count : ℕ) (f : NamesSoFar text left old count) (some : left ≡ Some now) (cut : Cuts 32 now word rest) where
-  -- the words of what is left are those of the text `now`, which is left
-  left_now : (later : List Reason) → AreLeft left later → AreReasons now later
-  left_now later are = subst (λ o. AreLeft o later) some are
+  -- the words of the text are those that were read, the next one, and those of the rest
+  next_reason : (all : List Reason) → AreReasons text all → (r : Reason) × (others : List Reason) × (all ≡ f.read ++ r ∷ others) × IsReason word r × AreLeft IsReason rest others
+  next_reason all are = next_item_of IsReason reason_form text now word left rest f.read f.reads some cut all are
 
   -- where the next word is neither a code nor an outcome, the text names nothing
-  pub reason_fails : ((r : Reason) → IsReason word r → ⊥) → (found : Again) → IsNamedBy text found → ⊥
+  pub reason_fails : ((r : Reason) → IsReason word r → ⊥) → (found : Again) → NamesRule text found → ⊥
   reason_fails none found is =
-      let o = f.reads.only is.reasons is.are in
-      let first = first_reason now word o.0 rest cut (left_now o.0 o.2) in
-      none first.0 first.3
+      let next = next_reason is.reasons is.are in
+      none next.0 next.3
 
   -- where there is no room for the next word, the text has more codes than there are places
-  pub reasons_too_many : (r : Reason) (room : Bool) → IsReason word r → room ≡ has_room count r → room ≡ false → (found : Again) → IsNamedBy text found → ⊥
+  pub reasons_too_many : (r : Reason) (room : Bool) → IsReason word r → room ≡ has_room count r → room ≡ false → (found : Again) → NamesRule text found → ⊥
   reasons_too_many r room says tested none found is =
-      let o = f.reads.only is.reasons is.are in
-      let first = first_reason now word o.0 rest cut (left_now o.0 o.2) in
-      let same : first.0 ≡ r = one_reason word first.0 r first.3 says in
-      let all : codes_with 0 is.reasons ≡ codes_with (count_with count r) first.1 =
-      ap (codes_with 0) o.1 ∙ codes_both 0 f.read o.0 ∙ ap (codes_with (codes_with 0 f.read)) first.2 ∙ ap (λ x. codes_with (count_with (codes_with 0 f.read) x) first.1) same
-      ∙ ap (λ n. codes_with (count_with n r) first.1) (sym f.count_is) in
-      let more : count_with count r ≤ codes_with (count_with count r) first.1 = codes_grow (count_with count r) first.1 in
+      let next = next_reason is.reasons is.are in
+      let same : next.0 ≡ r = one_reason word next.0 r next.3 says in
+      let all : codes_with 0 is.reasons ≡ codes_with (count_with count r) next.1 =
+      ap (codes_with 0) next.2 ∙ codes_both 0 f.read (next.0 ∷ next.1) ∙ ap (λ x. codes_with (count_with (codes_with 0 f.read) x) next.1) same
+      ∙ ap (λ n. codes_with (count_with n r) next.1) (sym f.count_is) in
+      let more : count_with count r ≤ codes_with (count_with count r) next.1 = codes_grow (count_with count r) next.1 in
       let much : 16 < count_with count r = no_room count r f.few (sym tested ∙ none) in
       omega (arith, all, more, much, is.few)
 
   -- where the next word is a code or an outcome, and there is room for it, one more is read
-  pub reason_reads : (r : Reason) (new : Again) (next : ℕ) (room : Bool) → IsReason word r → new ≡ again_with old count r → next ≡ count_with count r
+  pub reason_reads : (r : Reason) (new : Again) (next : ℕ) (room : Bool) (is : IsReason word r) (more : new ≡ again_with old count r) (counted : next ≡ count_with count r)
       → room ≡ has_room count r → room ≡ true → NamesSoFar text rest new next
   reason_reads r new next room is more counted tested has =
       record {
         read = f.read ++ r ∷ [];
-        reads = record {
-          found = λ later are.
-              subst (AreReasons text) (sym (append_assoc f.read (r ∷ []) later))
-              (f.reads.found (r ∷ later) (subst (λ o. AreLeft o (r ∷ later)) (sym some) (reasons_joined now word rest r later cut is are)));
-          only = λ all are.
-              let o = f.reads.only all are in
-              let first = first_reason now word o.0 rest cut (left_now o.0 o.2) in
-              let same : first.0 ≡ r = one_reason word first.0 r first.3 is in
-              (first.1, o.1 ∙ ap (λ l. f.read ++ l) first.2 ∙ ap (λ c. f.read ++ c ∷ first.1) same ∙ sym (append_assoc f.read (r ∷ []) first.1), first.4);
-        };
+        reads = one_more_read IsReason reason_form text now word left rest f.read f.reads some cut r is;
         again_is = more ∙ ap (λ a. again_with a count r) f.again_is ∙ ap (λ n. again_with (named_with no_again 0 f.read) n r) f.count_is ∙ sym (more_named no_again 0 f.read r);
         count_is = counted ∙ ap (λ n. count_with n r) f.count_is ∙ sym (more_codes 0 f.read r);
         few = subst (λ n. n ≤ 16) (sym counted) (room_for count r f.few (sym tested ∙ has));
       }
 
 -- where nothing is left, the words that were read are those of the text
-pub reasons_are : (text : List ℕ) (left : Option (List ℕ)) (again : Again) (count : ℕ) → NamesSoFar text left again count → left ≡ None → IsNamedBy text again
+pub reasons_are : (text : List ℕ) (left : Option (List ℕ)) (again : Again) (count : ℕ) → NamesSoFar text left again count → left ≡ None → NamesRule text again
 reasons_are text left again count f e =
     record {
       reasons = f.read;
-      are = subst (AreReasons text) (append-nil f.read) (f.reads.found [] (subst (λ o. AreLeft o []) (sym e) refl));
+      are = subst (AreReasons text) (append-nil f.read) (all_read_are IsReason text left f.read f.reads e);
       few = omega (arith, f.few, f.count_is);
       again_is = f.again_is;
     }

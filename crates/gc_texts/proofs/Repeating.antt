@@ -3,13 +3,14 @@ use Rattle.std.proofs.Common.{◌⊎◌, ◌&&◌, nat_lt, Option, subst, ◌≡
 use Rattle.std.proofs.lemmas.Bool.{and_parts}
 use Rattle.std.specs.List.{AllByRecursion, flat_map}
 use Rattle.std.proofs.lemmas.List.{length-map, map-append}
+use Rattle.std.proofs.SliceLists.{all_by_recursion_push}
 use Rattle.gc_texts.specs.Again.{no_again}
 use Rattle.gc_texts.specs.Attempts.{in_attempt, attempts_from, attempts, laid_from, laid_out}
 use Rattle.gc_texts.specs.Laws.{IsOneChain}
 use Rattle.gc_texts.specs.Nears.{near_of}
 use Rattle.gc_texts.specs.Repeats.{as_planned, IsAttempt, AreAttempts, Chain, AreLaidOut, ChainsGoOutAgain}
 use Rattle.gc_texts.specs.Retries.{no_retry}
-use Rattle.gc_texts.specs.Tasks.{opening, mode_after, continues_row, task_at, setup_of, planned_of, placed}
+use Rattle.gc_texts.specs.Tasks.{opening, mode_after, continues_group, task_at, setup_of, planned_of, placed}
 use Rattle.gc_texts.specs.declared.again.Again.{Again}
 use Rattle.gc_texts.specs.declared.near.Near.{Near}
 use Rattle.gc_texts.specs.declared.retry.Retry.{Retry}
@@ -18,9 +19,9 @@ use Rattle.gc_texts.specs.declared.task_line.TaskLine.TheVariants as says
 use Rattle.gc_texts.specs.declared.mode.Mode.{Mode}
 use Rattle.gc_texts.specs.declared.attempts.Planned.{Planned}
 use Rattle.gc_texts.specs.declared.tasks.Task.{Task}
-use Rattle.gc_texts.proofs.TaskLaws.{InRows, commands_in_rows}
+use Rattle.gc_texts.proofs.TaskLaws.{PlannedKeep, commands_keep}
 
--- the task of a command is as its line says it: in the first attempt of its chain, and without a rule
+-- the task of a command is as its line says it: in the first attempt of its chain, without a rule, and without a count of others
 record IsAsItsLineSays (planned : Planned) : Type 0 where
   again : planned.task.again ≡ no_again
   attempt : planned.task.turn.attempt ≡ 1
@@ -30,38 +31,31 @@ record IsAsItsLineSays (planned : Planned) : Type 0 where
 all_as_their_lines_say : (mode : Mode) (lines : List TaskLine) → AllByRecursion IsAsItsLineSays (planned_of mode lines)
 all_as_their_lines_say mode [] = tt
 all_as_their_lines_say mode (says.Command c now ∷ later) = by_setup mode.setup (all_as_their_lines_say (mode_after mode (says.Command c now)) later) where
-  -- the same, by whether the mode is that of the setup
+  -- the lemma above for a command and the lines after it, by whether the mode is that of the setup (`b`)
   by_setup : (b : Bool) → AllByRecursion IsAsItsLineSays (planned_of (mode_after mode (says.Command c now)) later)
       → AllByRecursion IsAsItsLineSays ((if b then [] else record { task = task_at mode c now; retry = mode.retry } ∷ []) ++ planned_of (mode_after mode (says.Command c now)) later)
   by_setup true more = more
   by_setup false more = (record { again = refl; attempt = refl; others = refl }, more)
-all_as_their_lines_say mode (says.Deadline d ∷ later) = all_as_their_lines_say (mode_after mode (says.Deadline d)) later
-all_as_their_lines_say mode (says.Chained ∷ later) = all_as_their_lines_say (mode_after mode says.Chained) later
-all_as_their_lines_say mode (says.Unchained ∷ later) = all_as_their_lines_say (mode_after mode says.Unchained) later
-all_as_their_lines_say mode (says.Naming n ∷ later) = all_as_their_lines_say (mode_after mode (says.Naming n)) later
-all_as_their_lines_say mode (says.Locating n ∷ later) = all_as_their_lines_say (mode_after mode (says.Locating n)) later
-all_as_their_lines_say mode (says.Accepting cs ∷ later) = all_as_their_lines_say (mode_after mode (says.Accepting cs)) later
-all_as_their_lines_say mode (says.Retrying r ∷ later) = all_as_their_lines_say (mode_after mode (says.Retrying r)) later
-all_as_their_lines_say mode (says.AtStart ∷ later) = all_as_their_lines_say (mode_after mode says.AtStart) later
-all_as_their_lines_say mode (says.EachCycle ∷ later) = all_as_their_lines_say (mode_after mode says.EachCycle) later
+all_as_their_lines_say mode (line ∷ later) = all_as_their_lines_say (mode_after mode line) later
 
--- each chained command has the retry of the one before it, and the first that of a command before, which has `retry`
+-- each chained command has the retry of the one before it; `retry` is that of the command before these
 abbrev SameRules : Retry → List Planned → Type 0
 SameRules retry [] = Unit {0}
 SameRules retry (p ∷ later) = (p.task.chained ≡ true → p.retry ≡ retry) × SameRules p.retry later
 
--- where there is no row, no command continues it
-no_row : (row : Option ℕ) (target : ℕ) → row ≡ None → continues_row row target ≡ true → ⊥
-no_row None target e on = cc
-no_row (Some t) target e on = cc
+-- where there is no group, no command continues it
+no_group : (group : Option ℕ) (target : ℕ) → group ≡ None → continues_group group target ≡ true → ⊥
+no_group None target e on = cc
+no_group (Some t) target e on = cc
 
--- where the mode is the setup's, or has no row, or the retry of the command before, each chained command has the retry of the one before it
-same_rules : (mode : Mode) (retry : Retry) (lines : List TaskLine) → (mode.setup ≡ true) ⊎ ((mode.row ≡ None) ⊎ (mode.retry ≡ retry)) → SameRules retry (planned_of mode lines)
+-- where the mode is the setup's, or has no group, or the retry of the command before, each chained command has the retry of the one
+-- before it
+same_rules : (mode : Mode) (retry : Retry) (lines : List TaskLine) → (mode.setup ≡ true) ⊎ ((mode.group ≡ None) ⊎ (mode.retry ≡ retry)) → SameRules retry (planned_of mode lines)
 same_rules mode retry [] h = tt
 same_rules mode retry (says.Command c now ∷ later) h =
     by_setup mode.setup refl h (λ e. same_rules (mode_after mode (says.Command c now)) retry later (inl e)) (same_rules (mode_after mode (says.Command c now)) mode.retry later (inr (inr refl))) where
-      -- the same, by whether the mode is that of the setup
-      by_setup : (b : Bool) → mode.setup ≡ b → (mode.setup ≡ true) ⊎ ((mode.row ≡ None) ⊎ (mode.retry ≡ retry))
+      -- the lemma above for a command and the lines after it, by whether the mode is that of the setup (`b`)
+      by_setup : (b : Bool) → mode.setup ≡ b → (mode.setup ≡ true) ⊎ ((mode.group ≡ None) ⊎ (mode.retry ≡ retry))
           → (mode.setup ≡ true → SameRules retry (planned_of (mode_after mode (says.Command c now)) later))
           → SameRules mode.retry (planned_of (mode_after mode (says.Command c now)) later)
           → SameRules retry ((if b then [] else record { task = task_at mode c now; retry = mode.retry } ∷ []) ++ planned_of (mode_after mode (says.Command c now)) later)
@@ -70,19 +64,16 @@ same_rules mode retry (says.Command c now ∷ later) h =
       by_setup false e (inr (inr is)) at_start in_cycle = ((λ on. is), in_cycle)
       by_setup false e (inr (inl is)) at_start in_cycle = (
         (λ on.
-            let so : (mode.chained && continues_row mode.row c.target) ≡ true = ap (λ b. if b then nat_lt 0 mode.begun else mode.chained && continues_row mode.row c.target) (sym e) ∙ on in
-            absurd (no_row mode.row c.target is (and_parts mode.chained (continues_row mode.row c.target) so).1)),
+            let so : (mode.chained && continues_group mode.group c.target) ≡ true = ap (λ b. if b then nat_lt 0 mode.begun else mode.chained && continues_group mode.group c.target) (sym e) ∙ on in
+            absurd (no_group mode.group c.target is (and_parts mode.chained (continues_group mode.group c.target) so).1)),
         in_cycle,
       )
-same_rules mode retry (says.Deadline d ∷ later) h = same_rules (mode_after mode (says.Deadline d)) retry later h
 same_rules mode retry (says.Chained ∷ later) h = same_rules (mode_after mode says.Chained) retry later (inr (inl refl))
 same_rules mode retry (says.Unchained ∷ later) h = same_rules (mode_after mode says.Unchained) retry later (inr (inl refl))
-same_rules mode retry (says.Naming n ∷ later) h = same_rules (mode_after mode (says.Naming n)) retry later h
-same_rules mode retry (says.Locating n ∷ later) h = same_rules (mode_after mode (says.Locating n)) retry later h
-same_rules mode retry (says.Accepting cs ∷ later) h = same_rules (mode_after mode (says.Accepting cs)) retry later h
 same_rules mode retry (says.Retrying r ∷ later) h = same_rules (mode_after mode (says.Retrying r)) retry later (inr (inl refl))
 same_rules mode retry (says.AtStart ∷ later) h = same_rules (mode_after mode says.AtStart) retry later (inr (inl refl))
 same_rules mode retry (says.EachCycle ∷ later) h = same_rules (mode_after mode says.EachCycle) retry later (inr (inl refl))
+same_rules mode retry (line ∷ later) h = same_rules (mode_after mode line) retry later h
 
 module _ (nears : List Near) where
   -- the task of a command, with the place of its target
@@ -94,17 +85,18 @@ module _ (nears : List Near) where
   made attempt again n ps = map (placed nears) (map (in_attempt attempt again n) ps)
 
   -- without the fields that distinguish attempts, the task of an attempt is the command's
-  said_one : (attempt : ℕ) (again : Again) (n : ℕ) (p : Planned) → IsAsItsLineSays p → as_planned (placed nears (in_attempt attempt again n p)) ≡ own p
-  said_one attempt again n p h =
+  one_as_planned : (attempt : ℕ) (again : Again) (n : ℕ) (p : Planned) → IsAsItsLineSays p → as_planned (placed nears (in_attempt attempt again n p)) ≡ own p
+  one_as_planned attempt again n p h =
       let near = near_of p.task.command.target nears in
       ap (λ a. record p.task { near = near; again = a; turn = record { place = p.task.turn.place; attempt = 1; link = p.task.turn.link }; others = 0 }) (sym h.again)
       ∙ ap (λ k. record p.task { near = near; turn = record { place = p.task.turn.place; attempt = k; link = p.task.turn.link }; others = 0 }) (sym h.attempt)
       ∙ ap (λ k. record p.task { near = near; others = k }) (sym h.others)
 
   -- without these fields, all tasks of an attempt are the commands'
-  said_all : (attempt : ℕ) (again : Again) (n : ℕ) (ps : List Planned) → AllByRecursion IsAsItsLineSays ps → map as_planned (made attempt again n ps) ≡ map own ps
-  said_all attempt again n [] all = refl
-  said_all attempt again n (p ∷ ps) all = ap (λ t. t ∷ map as_planned (made attempt again n ps)) (said_one attempt again n p all.0) ∙ ap (λ ts. own p ∷ ts) (said_all attempt again n ps all.1)
+  all_as_planned : (attempt : ℕ) (again : Again) (n : ℕ) (ps : List Planned) → AllByRecursion IsAsItsLineSays ps → map as_planned (made attempt again n ps) ≡ map own ps
+  all_as_planned attempt again n [] all = refl
+  all_as_planned attempt again n (p ∷ ps) all = ap (λ t. t ∷ map as_planned (made attempt again n ps)) (one_as_planned attempt again n p all.0)
+      ∙ ap (λ ts. own p ∷ ts) (all_as_planned attempt again n ps all.1)
 
   -- the tasks of an attempt say which it is
   all_numbered : (attempt : ℕ) (again : Again) (n : ℕ) (ps : List Planned) → AllByRecursion (λ task. task.turn.attempt ≡ attempt) (made attempt again n ps)
@@ -118,7 +110,7 @@ module _ (nears : List Near) where
 
   -- the tasks of an attempt are an attempt of the commands (`IsAttempt`)
   attempt_is : (attempt : ℕ) (again : Again) (n : ℕ) (ps : List Planned) → AllByRecursion IsAsItsLineSays ps → IsAttempt attempt again (map own ps) (made attempt again n ps)
-  attempt_is attempt again n ps all = record { same = said_all attempt again n ps all; numbered = all_numbered attempt again n ps; ruled = all_ruled attempt again n ps }
+  attempt_is attempt again n ps all = record { same = all_as_planned attempt again n ps all; numbered = all_numbered attempt again n ps; ruled = all_ruled attempt again n ps }
 
   -- the tasks of all attempts of a chain are attempts of its commands (`AreAttempts`)
   attempts_are : (attempt left : ℕ) (again : Again) (ps : List Planned) → AllByRecursion IsAsItsLineSays ps
@@ -131,11 +123,6 @@ module _ (nears : List Near) where
     attempt_is attempt again (length ps * suc (suc left)) ps all,
     attempts_are (attempt + 1) left again ps all,
   )
-
-  -- with one more command that is as its line says it, all commands are
-  said_more : (ps : List Planned) (p : Planned) → AllByRecursion IsAsItsLineSays ps → IsAsItsLineSays p → AllByRecursion IsAsItsLineSays (ps ++ p ∷ [])
-  said_more [] p all is = (is, tt)
-  said_more (q ∷ ps) p all is = (all.0, said_more ps p all.1 is)
 
   -- with one more chained command, all commands are chained
   chained_more : (ps : List Planned) (p : Planned) → AllByRecursion (λ task. task.chained ≡ true) (map own ps) → p.task.chained ≡ true
@@ -164,11 +151,6 @@ module _ (nears : List Near) where
   retries_are retry [] have = refl
   retries_are retry (p ∷ ps) have = ap (λ r. record { task = own p; retry = r } ∷ map (with_retry retry) (map own ps)) (sym have.0) ∙ ap (λ l. own_planned p ∷ l) (retries_are retry ps have.1)
 
-  -- with one more command of this retry, all commands have it
-  retry_more : (retry : Retry) (ps : List Planned) (p : Planned) → HaveRetry retry ps → p.retry ≡ retry → HaveRetry retry (ps ++ p ∷ [])
-  retry_more retry [] p have is = (is, tt)
-  retry_more retry (q ∷ ps) p have is = (have.0, retry_more retry ps p have.1 is)
-
   -- with the attempts of one more chain in front of those of other chains, tasks are still the attempts of chains (`Laid`)
   one_more : (retry : Retry) (chain later : List Planned) (tasks : List Task) → IsOneChain (map own chain) → AllByRecursion IsAsItsLineSays chain → HaveRetry retry chain → Laid tasks later
       → Laid (map (placed nears) (attempts retry chain) ++ tasks) (chain ++ later)
@@ -183,17 +165,17 @@ module _ (nears : List Near) where
   none = ([], refl, refl)
 
   -- the attempts of a chain that was begun, and of the chains after it, are attempts of chains with these commands (`Laid`)
-  laid_are : (retry : Retry) (first : Planned) (chain later : List Planned) → IsOneChain (map own (first ∷ chain)) → AllByRecursion IsAsItsLineSays (first ∷ chain)
-      → AllByRecursion IsAsItsLineSays later → HaveRetry retry (first ∷ chain) → SameRules retry later
+  laid_are : (retry : Retry) (first : Planned) (chain later : List Planned) (one : IsOneChain (map own (first ∷ chain))) (all : AllByRecursion IsAsItsLineSays (first ∷ chain))
+      (rest : AllByRecursion IsAsItsLineSays later) → HaveRetry retry (first ∷ chain) → SameRules retry later
       → Laid (map (placed nears) (laid_from retry (first ∷ chain) later)) ((first ∷ chain) ++ later)
   laid_are retry first chain [] one all rest have follow =
       subst (λ ts. Laid ts ((first ∷ chain) ++ [])) (append-nil (map (placed nears) (attempts retry (first ∷ chain)))) (one_more retry (first ∷ chain) [] [] one all have none)
   laid_are retry first chain (p ∷ later) one all rest have follow =
       by_chained p.task.chained refl
-      (λ e. laid_are retry first (chain ++ p ∷ []) later (one.0, chained_more chain p one.1 e) (all.0, said_more chain p all.1 rest.0) rest.1
-      (have.0, retry_more retry chain p have.1 (follow.0 e)) (subst (λ r. SameRules r later) (follow.0 e) follow.1))
+      (λ e. laid_are retry first (chain ++ p ∷ []) later (one.0, chained_more chain p one.1 e) (all.0, all_by_recursion_push IsAsItsLineSays chain p all.1 rest.0) rest.1
+      (have.0, all_by_recursion_push (λ (q : Planned). q.retry ≡ retry) chain p have.1 (follow.0 e)) (subst (λ r. SameRules r later) (follow.0 e) follow.1))
       (λ e. laid_are p.retry p [] later (e, tt) (rest.0, tt) rest.1 (refl, tt) follow.1) where
-        -- by whether the next goes on with the chain
+        -- the lemma above for `p ∷ later`, by whether `p` goes on with the chain (`b`)
         by_chained : (b : Bool) → p.task.chained ≡ b
             → (p.task.chained ≡ true → Laid (map (placed nears) (laid_from retry (first ∷ (chain ++ p ∷ [])) later)) ((first ∷ (chain ++ p ∷ [])) ++ later))
             → (p.task.chained ≡ false → Laid (map (placed nears) (laid_from p.retry (p ∷ []) later)) (p ∷ later))
@@ -205,10 +187,10 @@ module _ (nears : List Near) where
             (one_more retry (first ∷ chain) (p ∷ later) (map (placed nears) (laid_from p.retry (p ∷ []) later)) one all have (anew e))
 
   -- the attempts of the chains that all commands form are attempts of chains with these commands (`Laid`)
-  all_laid : (planned : List Planned) → InRows None planned → AllByRecursion IsAsItsLineSays planned → SameRules no_retry planned → Laid (map (placed nears) (laid_out planned)) planned
+  all_laid : (planned : List Planned) → PlannedKeep None planned → AllByRecursion IsAsItsLineSays planned → SameRules no_retry planned → Laid (map (placed nears) (laid_out planned)) planned
   all_laid [] are all follow = none
   all_laid (p ∷ later) are all follow = by_chained p.task.chained refl (λ e. laid_are p.retry p [] later (e, tt) (all.0, tt) all.1 (refl, tt) follow.1) where
-    -- the first isn't chained
+    -- the lemma above for `p ∷ later`: `p` isn't chained, because no command is before it
     by_chained : (b : Bool) → p.task.chained ≡ b → (p.task.chained ≡ false → Laid (map (placed nears) (laid_from p.retry (p ∷ []) later)) (p ∷ later))
         → Laid (map (placed nears) (if b then laid_from no_retry ([] ++ p ∷ []) later else attempts no_retry [] ++ laid_from p.retry (p ∷ []) later)) (p ∷ later)
     by_chained true e anew = let bad : None ≡ Some p.task.command.target = are.0 e in cc
@@ -219,7 +201,7 @@ pub chains_go_out_again : ChainsGoOutAgain
 chains_go_out_again text deadline chained setup tasks names nears is =
     let first = opening deadline chained in
     let planned = planned_of first is.said in
-    let laid = all_laid nears planned (commands_in_rows first None is.said (inr (inl refl))) (all_as_their_lines_say first is.said) (same_rules first no_retry is.said (inr (inl refl))) in (
+    let laid = all_laid nears planned (commands_keep first None is.said (inr (inl refl))) (all_as_their_lines_say first is.said) (same_rules first no_retry is.said (inr (inl refl))) in (
       laid.0,
       map (placed nears) (setup_of first is.said),
       map (placed nears) (laid_out planned),

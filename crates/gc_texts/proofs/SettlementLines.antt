@@ -1,6 +1,6 @@
 -- The lines of settlements, one more after those before it.
-use Rattle.std.proofs.Common.{◌≡◌, ◌+◌, ◌<◌, ℕ, List, [], ◌∷◌, ◌++◌, take, drop, map, get_or, length, refl, sym, ap, ◌∙◌, arith, append_assoc, append-nil}
-use Rattle.std.proofs.lemmas.List.{length-map, take_more, drop_more, length-take, take-append-drop}
+use Rattle.std.proofs.Common.{◌≡◌, ◌+◌, ◌<◌, ℕ, List, [], ◌∷◌, ◌++◌, take, drop, map, get_or, length, sym, ap, ◌∙◌, arith, append_assoc, append-nil}
+use Rattle.std.proofs.lemmas.List.{length-map, map_push, take_more, drop_more, length-take, take-append-drop}
 use Rattle.gc_catalogue.specs.declared.call.Call.{Call}
 use Rattle.gc_client.specs.declared.settlement.Settlement.{Settlement}
 use Rattle.gc_client.specs.Rule
@@ -24,22 +24,26 @@ lines_one from (x ∷ before) s =
     ap (λ l. settlement_line from x ++ l) (lines_one (from + 1) before s ∙ ap (λ p. later ++ settlement_line p s) place)
     ∙ sym (append_assoc (settlement_line from x) later (settlement_line (from + length (x ∷ before)) s))
 
--- the values that stand for settlements and one more (`settlement_seen`) are those of the settlements, and then that of the
--- last
-pub map_one : (before : List (Settlement Call)) (s : Settlement Call) → map settlement_seen (before ++ s ∷ []) ≡ map settlement_seen before ++ settlement_seen s ∷ []
-map_one [] s = refl
-map_one (x ∷ before) s = ap (λ l. settlement_seen x ∷ l) (map_one before s)
+-- there are i settlements before the one at place i
+pub front_is : (ss : List (Settlement Call)) (i : ℕ) → i < length ss → length (map settlement_seen (take i ss)) ≡ i
+front_is ss i below = length-map (take i ss) settlement_seen ∙ omega (arith, length-take i ss, below)
 
--- where the lines of the first i settlements were appended, and then that of the next, the lines of the first i + 1 were
-pub lines_more :
+-- the lines of the first i + 1 settlements, numbered from `place` on, are those of the first i, and that of the next one (s)
+pub lines_to_next : (place : ℕ) (ss : List (Settlement Call)) (i : ℕ) (s : Settlement Call) → i < length ss → s ≡ get_or ss i s
+    → lines_from place (map settlement_seen (take (i + 1) ss)) ≡ lines_from place (map settlement_seen (take i ss)) ++ settlement_line (place + i) (settlement_seen s)
+lines_to_next place ss i s below is =
+    let front = map settlement_seen (take i ss) in
+    ap (λ xs. lines_from place (map settlement_seen xs)) (at_place ss i s below is).0 ∙ ap (lines_from place) (map_push settlement_seen (take i ss) s)
+    ∙ lines_one place front (settlement_seen s) ∙ ap (λ n. lines_from place front ++ settlement_line (place + n) (settlement_seen s)) (front_is ss i below)
+
+-- where the lines of the first i settlements were appended to a text, and then that of the next, the lines of the first i + 1 were
+pub appended_next :
     (ss : List (Settlement Call)) (i : ℕ) (s : Settlement Call) (old mid new : List ℕ) → i < length ss → s ≡ get_or ss i s →
     mid ≡ old ++ settlement_lines (map settlement_seen (take i ss)) → new ≡ mid ++ settlement_line i (settlement_seen s) →
     new ≡ old ++ settlement_lines (map settlement_seen (take (i + 1) ss))
-lines_more ss i s old mid new below is so one =
+appended_next ss i s old mid new below is so one =
     let front = map settlement_seen (take i ss) in
-    let next : take (i + 1) ss ≡ take i ss ++ s ∷ [] = take_more ss i s below ∙ ap (λ x. take i ss ++ x ∷ []) (sym is) in
-    let place : 0 + length front ≡ i = omega (arith, length-map (take i ss) settlement_seen, length-take i ss, below) in
+    let zero : 0 + i ≡ i = omega arith in
     let lines : settlement_lines (map settlement_seen (take (i + 1) ss)) ≡ settlement_lines front ++ settlement_line i (settlement_seen s) =
-    ap (λ t. settlement_lines (map settlement_seen t)) next ∙ ap settlement_lines (map_one (take i ss) s) ∙ lines_one 0 front (settlement_seen s)
-    ∙ ap (λ p. settlement_lines front ++ settlement_line p (settlement_seen s)) place in
+    lines_to_next 0 ss i s below is ∙ ap (λ p. settlement_lines front ++ settlement_line p (settlement_seen s)) zero in
     one ∙ ap (λ l. l ++ settlement_line i (settlement_seen s)) so ∙ append_assoc old (settlement_lines front) (settlement_line i (settlement_seen s)) ∙ ap (λ l. old ++ l) (sym lines)

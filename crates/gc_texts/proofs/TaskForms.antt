@@ -9,7 +9,7 @@ use Rattle.gc_texts.specs.Cuts.{Cuts, before, behind}
 use Rattle.gc_texts.specs.Names.{is_name}
 use Rattle.gc_texts.specs.Procedures.{IsNumber}
 use Rattle.gc_texts.specs.Nears.{AreNearWords, IsNearText}
-use Rattle.gc_texts.specs.TaskLines.{IsDeadline, IsNameLine, IsNearLine, SetsAccepted, IsAsking, IsTaskLine}
+use Rattle.gc_texts.specs.TaskLines.{IsDeadline, IsNameLine, IsNearLine, SetsAccepted, AsksForWish, IsTaskLine}
 use Rattle.gc_texts.specs.Wishes.{AsksFor}
 use Rattle.gc_texts.specs.declared.codes.Codes.{Codes}
 use Rattle.gc_texts.specs.declared.wish.Wish.{Wish}
@@ -17,7 +17,7 @@ use Rattle.gc_texts.specs.declared.name.Name.{Name}
 use Rattle.gc_texts.specs.declared.near.Near.{Near}
 use Rattle.gc_texts.specs.declared.task_line.TaskLine.{TaskLine}
 use Rattle.gc_texts.specs.declared.task_line.TaskLine.TheVariants as says
-use Rattle.gc_texts.proofs.Cutting.{cut_found, one_front, digits_lack_spaces}
+use Rattle.gc_texts.proofs.Cutting.{read_alike, cut_found, one_front, digits_lack_spaces}
 use Rattle.gc_texts.proofs.ClockForms.{one_clock, wish_is_no_clock}
 use Rattle.gc_texts.proofs.CodeForms.{one_accepting}
 use Rattle.gc_texts.proofs.ReasonForms.{one_retrying}
@@ -162,8 +162,9 @@ one_locating line m n x y =
 -- that the line says, too
 pub locates_so : (line rest : List ℕ) (r : Option Near) → line ≡ codes "near " ++ rest → MatchOption r ((near : Near) → IsNearText rest near → ⊥) (λ near. IsNearText rest near)
     → MatchOption r ((near : Near) → IsNearLine line near → ⊥) (λ near. IsNearLine line near)
-locates_so line rest None e none = λ near is. none near (subst (λ (r : List ℕ). IsNearText r near) (append_cancel_left (codes "near ") is.rest rest (sym is.line_is ∙ e)) is.near_is)
-locates_so line rest (Some near) e is = record { rest = rest; line_is = e; near_is = is }
+locates_so line rest r e =
+    read_alike (IsNearText rest) (IsNearLine line) r (λ near is. record { rest = rest; line_is = e; near_is = is })
+    (λ near is. subst (λ (t : List ℕ). IsNearText t near) (append_cancel_left (codes "near ") is.rest rest (sym is.line_is ∙ e)) is.near_is)
 
 -- no line both gives a target a name (`name `) and says where a target is (`near `)
 name_is_no_near : (line : List ℕ) (name : Name) (near : Near) → IsNameLine line name → IsNearLine line near → ⊥
@@ -177,7 +178,7 @@ accept_is_no_start line accepted (inl alone) e = let second : ◌≡◌ {A = ℕ
 accept_is_no_start line accepted (inr is) e = let second : ◌≡◌ {A = ℕ} 99 116 = ap (λ bs. get_or bs 1 0) (sym is.line_is ∙ e) in omega (arith, second)
 
 -- a line asks for one thing at most, and either with the moment at which it is sent or without
-one_asked_for : (line : List ℕ) (v w : Wish) (m n : Bool) → IsAsking line v m → IsAsking line w n → says.Command v m ≡ says.Command w n
+one_asked_for : (line : List ℕ) (v w : Wish) (m n : Bool) → AsksForWish line v m → AsksForWish line w n → says.Command v m ≡ says.Command w n
 one_asked_for line v w true true x y = ap (λ u. says.Command u true) (one_clock line v w x y)
 one_asked_for line v w false false x y = ap (λ u. says.Command u false) (one_wish line v w x y)
 one_asked_for line v w true false x y = absurd (wish_is_no_clock line w v y x)

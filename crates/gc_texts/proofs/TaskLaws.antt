@@ -1,16 +1,16 @@
--- Laws of a station's text: it has one reading; a command text (lines of commands alone) is one; and chains stay within rows,
--- which are runs of commands for one target with no line `chained`, `unchained`, `retry`, `at start` or `each cycle` between them.
--- The mode at a line is what the lines before it make hold there.
+-- Laws of a station's text: it has one reading; a command text (lines of commands alone) is one; and chains keep their targets.
+-- The mode at a line is what the lines before it make hold there, and a group a run of commands for one target (`specs/Tasks`).
 use Rattle.std.proofs.Common.{arith, subst, length, ◌+◌, ◌*◌, zero, suc, nat_lt, if◌then◌else◌, append_assoc, append-nil, ◌≡◌, ℕ, List, [], ◌∷◌, ◌++◌, map, Option, Some, None, Bool, true, false, ◌&&◌, ◌⊎◌, inl, inr, refl, ap, sym, ◌∙◌}
 use Rattle.std.specs.Prelude.{filter}
 use Rattle.std.specs.List.{AllByRecursion}
 use Rattle.std.proofs.lemmas.List.{length-map, map-append}
+use Rattle.std.proofs.SliceLists.{all_by_recursion_push}
 use Rattle.std.proofs.lemmas.Bool.{eqb-true, and_parts}
 use Rattle.std.proofs.lemmas.Bool.Decides.{nat_tests}
 use Rattle.gc_texts.specs.Again.{no_again}
 use Rattle.gc_texts.specs.Codes.{no_codes}
 use Rattle.gc_texts.specs.Commands.{IsCommand}
-use Rattle.gc_texts.specs.Laws.{OneTaskList, CommandsAreTasks, plain_tasks, CommandsArePlain, AreRows, IsOneChain, ChainsAreRows}
+use Rattle.gc_texts.specs.Laws.{OneTaskList, CommandsAreTasks, plain_tasks, CommandsArePlain, KeepTargets, IsOneChain, ChainsKeepTargets}
 use Rattle.gc_texts.specs.Attempts.{in_attempt, attempts_from, attempts, laid_from, laid_out}
 use Rattle.gc_texts.specs.Retries.{no_retry}
 use Rattle.gc_texts.specs.declared.again.Again.{Again}
@@ -18,7 +18,7 @@ use Rattle.gc_texts.specs.declared.retry.Retry.{Retry}
 use Rattle.gc_texts.specs.declared.attempts.Planned.{Planned}
 use Rattle.gc_texts.specs.LineForms.{is_kept, text_lines, AreItems}
 use Rattle.gc_texts.specs.TaskLines.{IsTaskLine}
-use Rattle.gc_texts.specs.Tasks.{opening, mode_after, continues_row, task_at, setup_of, planned_of, tasks_of, names_of, nears_of, placed, MayFollow}
+use Rattle.gc_texts.specs.Tasks.{opening, mode_after, continues_group, task_at, setup_of, planned_of, tasks_of, names_of, nears_of, placed, MayFollow}
 use Rattle.gc_texts.specs.Wishes.{wish_of}
 use Rattle.gc_texts.specs.declared.commands.Command.{Command}
 use Rattle.gc_texts.specs.declared.name.Name.{Name}
@@ -30,7 +30,7 @@ use Rattle.gc_texts.specs.declared.tasks.Task.{Task}
 use Rattle.gc_texts.proofs.OneReading.{one_list}
 use Rattle.gc_texts.proofs.TaskForms.{one_said}
 
--- the law: a text gives one list of tasks at most, one of names, and one of places
+-- the law: a text gives one number of setup tasks at most, one list of tasks, one of names, and one of places
 pub one_task_list : OneTaskList
 one_task_list text deadline chained m n xs ys ms ns ps qs h k =
     let same : h.said ≡ k.said = one_list IsTaskLine one_said (filter is_kept (text_lines text)) h.said k.said h.lines.forms k.lines.forms in
@@ -41,31 +41,31 @@ one_task_list text deadline chained m n xs ys ms ns ps qs h k =
       places,
     )
 
--- commands, as what the lines of a station's text say
-abbrev asks : List Command → List TaskLine
-asks commands = map (λ command. says.Command (wish_of command) false) commands
+-- what the lines of a command text say as lines of a station's text: these commands, none of which sets a clock to its moment
+abbrev lines_of : List Command → List TaskLine
+lines_of commands = map (λ command. says.Command (wish_of command) false) commands
 
 -- lines of commands have the forms of a station's text
-asked_forms : (lines : List (List ℕ)) (commands : List Command) → AreItems IsCommand lines commands → AreItems IsTaskLine lines (asks commands)
-asked_forms [] [] are = tt
-asked_forms [] (c ∷ cs) are = absurd are
-asked_forms (line ∷ lines) [] are = absurd are
-asked_forms (line ∷ lines) (c ∷ cs) are = (are.0, asked_forms lines cs are.1)
+lines_have_forms : (lines : List (List ℕ)) (commands : List Command) → AreItems IsCommand lines commands → AreItems IsTaskLine lines (lines_of commands)
+lines_have_forms [] [] are = tt
+lines_have_forms [] (c ∷ cs) are = absurd are
+lines_have_forms (line ∷ lines) [] are = absurd are
+lines_have_forms (line ∷ lines) (c ∷ cs) are = (are.0, lines_have_forms lines cs are.1)
 
 -- lines of commands may follow any names and places
-asked_follow : (names : List Name) (nears : List Near) (commands : List Command) → MayFollow names nears (asks commands)
-asked_follow names nears [] = tt
-asked_follow names nears (c ∷ cs) = (refl, asked_follow (names ++ []) (nears ++ []) cs)
+lines_follow : (names : List Name) (nears : List Near) (commands : List Command) → MayFollow names nears (lines_of commands)
+lines_follow names nears [] = tt
+lines_follow names nears (c ∷ cs) = (refl, lines_follow (names ++ []) (nears ++ []) cs)
 
 -- commands give no names
-asked_names : (commands : List Command) → [] ≡ names_of (asks commands)
-asked_names [] = refl
-asked_names (c ∷ cs) = asked_names cs
+lines_name_none : (commands : List Command) → [] ≡ names_of (lines_of commands)
+lines_name_none [] = refl
+lines_name_none (c ∷ cs) = lines_name_none cs
 
 -- commands give no places
-asked_nears : (commands : List Command) → [] ≡ nears_of (asks commands)
-asked_nears [] = refl
-asked_nears (c ∷ cs) = asked_nears cs
+lines_place_none : (commands : List Command) → [] ≡ nears_of (lines_of commands)
+lines_place_none [] = refl
+lines_place_none (c ∷ cs) = lines_place_none cs
 
 -- a task of a command in its first attempt: without a place, a rule and a count of others
 record IsFirst (task : Task) : Type 0 where
@@ -91,18 +91,14 @@ once_all : (n : ℕ) (ps : List Planned) → AllByRecursion IsSentOnce ps → ma
 once_all n [] all = refl
 once_all n (p ∷ ps) all = ap (λ t. t ∷ map (in_attempt 1 no_again n) ps) (first_attempt_is_task n p all.0) ∙ ap (λ ts. p.task ∷ ts) (once_all n ps all.1)
 
--- with one more command that is sent once, all commands are sent once
-once_more : (ps : List Planned) (p : Planned) → AllByRecursion IsSentOnce ps → IsSentOnce p → AllByRecursion IsSentOnce (ps ++ p ∷ [])
-once_more [] p all is = (is, tt)
-once_more (q ∷ ps) p all is = (all.0, once_more ps p all.1 is)
-
 -- where all chains are sent once, their attempts are the commands' tasks
 laid_once : (retry : Retry) (chain later : List Planned) → retry ≡ no_retry → AllByRecursion IsSentOnce chain → AllByRecursion IsSentOnce later
     → laid_from retry chain later ≡ map (λ p. p.task) chain ++ map (λ p. p.task) later
 laid_once retry chain [] none all rest = ap (λ r. attempts r chain) none ∙ once_all (length chain) chain all ∙ sym (append-nil (map (λ p. p.task) chain))
 laid_once retry chain (p ∷ later) none all rest =
-    by_chained (laid_once retry (chain ++ p ∷ []) later none (once_more chain p all rest.0) rest.1) (laid_once p.retry (p ∷ []) later rest.0.retry (rest.0, tt) rest.1) p.task.chained where
-      -- by whether the next goes on with the chain
+    by_chained (laid_once retry (chain ++ p ∷ []) later none (all_by_recursion_push IsSentOnce chain p all rest.0) rest.1)
+    (laid_once p.retry (p ∷ []) later rest.0.retry (rest.0, tt) rest.1) p.task.chained where
+      -- the lemma above for `p ∷ later`, by whether `p` goes on with the chain (`b`)
       by_chained : laid_from retry (chain ++ p ∷ []) later ≡ map (λ q. q.task) (chain ++ p ∷ []) ++ map (λ q. q.task) later
           → laid_from p.retry (p ∷ []) later ≡ p.task ∷ map (λ q. q.task) later → (b : Bool)
           → (if b then laid_from retry (chain ++ p ∷ []) later else attempts retry chain ++ laid_from p.retry (p ∷ []) later) ≡ map (λ q. q.task) chain ++ p.task ∷ map (λ q. q.task) later
@@ -120,40 +116,41 @@ unplaced (t ∷ ts) all = ap (λ n. record t { near = n } ∷ map (placed []) ts
 -- commands alone, read in a mode of the cycle without accepted codes and without retries, in which `place` of them are in
 -- front, and `link` of the chain
 module _ (deadline : ℕ) (chained : Bool) where
-  -- that mode
+  -- the mode with this group, with `place` commands in front, of which `link` are in the chain
   abbrev at : Option ℕ → ℕ → ℕ → Mode
-  at row place link = record { deadline = deadline; chained = chained; row = row; accepted = no_codes; retry = no_retry; setup = false; begun = 0; place = place; link = link }
+  at group place link = record { deadline = deadline; chained = chained; group = group; accepted = no_codes; retry = no_retry; setup = false; begun = 0; place = place; link = link }
 
   -- how far the chain of the next command for a target is
   abbrev next_link : Option ℕ → ℕ → ℕ → ℕ
-  next_link row link target = (if chained && continues_row row target then link else 0) + 1
+  next_link group link target = (if chained && continues_group group target then link else 0) + 1
 
   -- commands that are read in that mode give no setup
-  no_setup : (row : Option ℕ) (place link : ℕ) (commands : List Command) → setup_of (at row place link) (asks commands) ≡ []
-  no_setup row place link [] = refl
-  no_setup row place link (c ∷ cs) = no_setup (Some c.target) (place + 1) (next_link row link c.target) cs
+  no_setup : (group : Option ℕ) (place link : ℕ) (commands : List Command) → setup_of (at group place link) (lines_of commands) ≡ []
+  no_setup group place link [] = refl
+  no_setup group place link (c ∷ cs) = no_setup (Some c.target) (place + 1) (next_link group link c.target) cs
 
   -- the chain of each command that is read in that mode is sent once
-  all_once : (row : Option ℕ) (place link : ℕ) (commands : List Command) → AllByRecursion IsSentOnce (planned_of (at row place link) (asks commands))
-  all_once row place link [] = tt
-  all_once row place link (c ∷ cs) =
-      (record { retry = refl; first = record { near = refl; again = refl; attempt = refl; others = refl } }, all_once (Some c.target) (place + 1) (next_link row link c.target) cs)
+  all_once : (group : Option ℕ) (place link : ℕ) (commands : List Command) → AllByRecursion IsSentOnce (planned_of (at group place link) (lines_of commands))
+  all_once group place link [] = tt
+  all_once group place link (c ∷ cs) =
+      (record { retry = refl; first = record { near = refl; again = refl; attempt = refl; others = refl } }, all_once (Some c.target) (place + 1) (next_link group link c.target) cs)
 
   -- no task of commands that are read in that mode has a place of its target
-  none_placed : (row : Option ℕ) (place link : ℕ) (commands : List Command) → AllByRecursion (λ task. task.near ≡ None) (map (λ p. p.task) (planned_of (at row place link) (asks commands)))
-  none_placed row place link [] = tt
-  none_placed row place link (c ∷ cs) = (refl, none_placed (Some c.target) (place + 1) (next_link row link c.target) cs)
+  none_placed : (group : Option ℕ) (place link : ℕ) (commands : List Command) → AllByRecursion (λ task. task.near ≡ None) (map (λ p. p.task) (planned_of (at group place link) (lines_of commands)))
+  none_placed group place link [] = tt
+  none_placed group place link (c ∷ cs) = (refl, none_placed (Some c.target) (place + 1) (next_link group link c.target) cs)
 
   -- the tasks of commands that are read in that mode ask for these commands, in order
-  asked_tasks : (row : Option ℕ) (place link : ℕ) (commands : List Command)
-      → map (λ task. task.command) (map (λ p. p.task) (planned_of (at row place link) (asks commands))) ≡ map wish_of commands
-  asked_tasks row place link [] = refl
-  asked_tasks row place link (c ∷ cs) = ap (λ l. wish_of c ∷ l) (asked_tasks (Some c.target) (place + 1) (next_link row link c.target) cs)
+  asked_tasks : (group : Option ℕ) (place link : ℕ) (commands : List Command)
+      → map (λ task. task.command) (map (λ p. p.task) (planned_of (at group place link) (lines_of commands))) ≡ map wish_of commands
+  asked_tasks group place link [] = refl
+  asked_tasks group place link (c ∷ cs) = ap (λ l. wish_of c ∷ l) (asked_tasks (Some c.target) (place + 1) (next_link group link c.target) cs)
 
   -- the text of the commands gives these tasks
-  tasks_are_asked : (commands : List Command) → map (λ p. p.task) (planned_of (opening deadline chained) (asks commands)) ≡ map (placed []) (tasks_of (opening deadline chained) (asks commands))
+  tasks_are_asked : (commands : List Command)
+      → map (λ p. p.task) (planned_of (opening deadline chained) (lines_of commands)) ≡ map (placed []) (tasks_of (opening deadline chained) (lines_of commands))
   tasks_are_asked commands =
-      let planned = planned_of (opening deadline chained) (asks commands) in
+      let planned = planned_of (opening deadline chained) (lines_of commands) in
       let laid : laid_out planned ≡ map (λ p. p.task) planned = laid_once no_retry [] planned refl tt (all_once None 0 0 commands) in
       sym (unplaced (map (λ p. p.task) planned) (none_placed None 0 0 commands)) ∙ ap (map (placed [])) (sym laid)
       ∙ ap (λ ts. map (placed []) (ts ++ laid_out planned)) (sym (no_setup None 0 0 commands))
@@ -161,23 +158,23 @@ module _ (deadline : ℕ) (chained : Bool) where
 -- the law: each command text is a station's text
 pub commands_are_tasks : CommandsAreTasks
 commands_are_tasks text commands deadline chained are = (
-  map (λ p. p.task) (planned_of (opening deadline chained) (asks commands)),
+  map (λ p. p.task) (planned_of (opening deadline chained) (lines_of commands)),
   record {
-    said = asks commands;
-    lines = record { forms = asked_forms (filter is_kept (text_lines text)) commands are; follow = asked_follow [] [] commands };
+    said = lines_of commands;
+    lines = record { forms = lines_have_forms (filter is_kept (text_lines text)) commands are; follow = lines_follow [] [] commands };
     tasks_are = tasks_are_asked deadline chained commands;
     setup_is = ap length (sym (no_setup deadline chained None 0 0 commands));
-    names_are = asked_names commands;
-    nears_are = asked_nears commands;
+    names_are = lines_name_none commands;
+    nears_are = lines_place_none commands;
   },
   asked_tasks deadline chained None 0 0 commands,
 )
 
 -- where commands aren't chained, each gives a task that isn't chained either, with the deadline `deadline`
-unchained_are_plain : (deadline : ℕ) (row : Option ℕ) (place link : ℕ) (commands : List Command)
-    → plain_tasks deadline place commands ≡ map (λ p. p.task) (planned_of (at deadline false row place link) (asks commands))
-unchained_are_plain deadline row place link [] = refl
-unchained_are_plain deadline row place link (c ∷ cs) =
+unchained_are_plain : (deadline : ℕ) (group : Option ℕ) (place link : ℕ) (commands : List Command)
+    → plain_tasks deadline place commands ≡ map (λ p. p.task) (planned_of (at deadline false group place link) (lines_of commands))
+unchained_are_plain deadline group place link [] = refl
+unchained_are_plain deadline group place link (c ∷ cs) =
     ap (λ l. record {
       command = wish_of c;
       deadline = deadline;
@@ -197,118 +194,117 @@ unchained_are_plain deadline row place link (c ∷ cs) =
 pub commands_are_plain : CommandsArePlain
 commands_are_plain text commands deadline are =
     record {
-      said = asks commands;
-      lines = record { forms = asked_forms (filter is_kept (text_lines text)) commands are; follow = asked_follow [] [] commands };
+      said = lines_of commands;
+      lines = record { forms = lines_have_forms (filter is_kept (text_lines text)) commands are; follow = lines_follow [] [] commands };
       tasks_are = unchained_are_plain deadline None 0 0 commands ∙ tasks_are_asked deadline false commands;
       setup_is = ap length (sym (no_setup deadline false None 0 0 commands));
-      names_are = asked_names commands;
-      nears_are = asked_nears commands;
+      names_are = lines_name_none commands;
+      nears_are = lines_place_none commands;
     }
 
--- a row that a command for a target continues is the row of that target
-pub continued_row : (row : Option ℕ) (target : ℕ) → continues_row row target ≡ true → row ≡ Some target
-continued_row None target e = cc
-continued_row (Some before) target e = ap Some (eqb-true before target e)
+-- a group that a command for a target continues is the group of that target
+pub continued_group : (group : Option ℕ) (target : ℕ) → continues_group group target ≡ true → group ≡ Some target
+continued_group None target e = cc
+continued_group (Some before) target e = ap Some (eqb-true before target e)
 
--- `before` is the target of the task before, if there is one. Where the row is none or that target, and it is `target`, the
+-- `before` is the target of the task before, if there is one. Where the group is none or that target, and it is `target`, the
 -- task before is for `target`
-row_before : (row before : Option ℕ) (target : ℕ) → (row ≡ None) ⊎ (row ≡ before) → row ≡ Some target → before ≡ Some target
-row_before row before target (inl none) e = let bad : None ≡ Some target = sym none ∙ e in cc
-row_before row before target (inr same) e = sym same ∙ e
+group_before : (group before : Option ℕ) (target : ℕ) → (group ≡ None) ⊎ (group ≡ before) → group ≡ Some target → before ≡ Some target
+group_before group before target (inl none) e = let bad : None ≡ Some target = sym none ∙ e in cc
+group_before group before target (inr same) e = sym same ∙ e
 
--- commands of the cycle are in rows as their tasks are
-abbrev pub InRows : Option ℕ → List Planned → Type 0
-InRows before planned = AreRows before (map (λ p. p.task) planned)
+-- commands of the cycle keep targets as their tasks do (`KeepTargets`): each chained one follows one for the same target
+abbrev pub PlannedKeep : Option ℕ → List Planned → Type 0
+PlannedKeep before planned = KeepTargets before (map (λ p. p.task) planned)
 
--- `before` is the target of the cycle's command before these lines, if there is one. Where the mode is the setup's, or its row is none or
+-- `before` is the target of the cycle's command before these lines, if there is one. Where the mode is the setup's, or its group is none or
 -- that target, each chained command of the cycle follows one for the same target
-pub commands_in_rows : (mode : Mode) (before : Option ℕ) (said : List TaskLine) → (mode.setup ≡ true) ⊎ ((mode.row ≡ None) ⊎ (mode.row ≡ before)) → InRows before (planned_of mode said)
-commands_in_rows mode before [] h = tt
-commands_in_rows mode before (says.Command c now ∷ later) h =
-    by_setup mode.setup refl h (λ e. commands_in_rows (mode_after mode (says.Command c now)) before later (inl e))
-    (commands_in_rows (mode_after mode (says.Command c now)) (Some c.target) later (inr (inr refl))) where
-      -- by the section
-      by_setup : (b : Bool) → mode.setup ≡ b → (mode.setup ≡ true) ⊎ ((mode.row ≡ None) ⊎ (mode.row ≡ before))
-          → (mode.setup ≡ true → InRows before (planned_of (mode_after mode (says.Command c now)) later))
-          → InRows (Some c.target) (planned_of (mode_after mode (says.Command c now)) later)
-          → InRows before ((if b then [] else record { task = task_at mode c now; retry = mode.retry } ∷ []) ++ planned_of (mode_after mode (says.Command c now)) later)
+pub commands_keep : (mode : Mode) (before : Option ℕ) (said : List TaskLine) → (mode.setup ≡ true) ⊎ ((mode.group ≡ None) ⊎ (mode.group ≡ before)) → PlannedKeep before (planned_of mode said)
+commands_keep mode before [] h = tt
+commands_keep mode before (says.Command c now ∷ later) h =
+    by_setup mode.setup refl h (λ e. commands_keep (mode_after mode (says.Command c now)) before later (inl e))
+    (commands_keep (mode_after mode (says.Command c now)) (Some c.target) later (inr (inr refl))) where
+      -- the lemma above for a command and the lines after it, by whether the mode is that of the setup (`b`)
+      by_setup : (b : Bool) → mode.setup ≡ b → (mode.setup ≡ true) ⊎ ((mode.group ≡ None) ⊎ (mode.group ≡ before))
+          → (mode.setup ≡ true → PlannedKeep before (planned_of (mode_after mode (says.Command c now)) later))
+          → PlannedKeep (Some c.target) (planned_of (mode_after mode (says.Command c now)) later)
+          → PlannedKeep before ((if b then [] else record { task = task_at mode c now; retry = mode.retry } ∷ []) ++ planned_of (mode_after mode (says.Command c now)) later)
       by_setup true e h at_start in_cycle = at_start e
       by_setup false e (inl is) at_start in_cycle = let bad : true ≡ false = sym is ∙ e in cc
       by_setup false e (inr is) at_start in_cycle = (
         (λ on.
-            let so : (mode.chained && continues_row mode.row c.target) ≡ true = ap (λ b. if b then nat_lt 0 mode.begun else mode.chained && continues_row mode.row c.target) (sym e) ∙ on in
-            row_before mode.row before c.target is (continued_row mode.row c.target (and_parts mode.chained (continues_row mode.row c.target) so).1)),
+            let so : (mode.chained && continues_group mode.group c.target) ≡ true = ap (λ b. if b then nat_lt 0 mode.begun else mode.chained && continues_group mode.group c.target) (sym e) ∙ on in
+            group_before mode.group before c.target is (continued_group mode.group c.target (and_parts mode.chained (continues_group mode.group c.target) so).1)),
         in_cycle,
       )
-commands_in_rows mode before (says.Deadline d ∷ later) h = commands_in_rows (mode_after mode (says.Deadline d)) before later h
-commands_in_rows mode before (says.Chained ∷ later) h = commands_in_rows (mode_after mode says.Chained) before later (inr (inl refl))
-commands_in_rows mode before (says.Unchained ∷ later) h = commands_in_rows (mode_after mode says.Unchained) before later (inr (inl refl))
-commands_in_rows mode before (says.Naming n ∷ later) h = commands_in_rows mode before later h
-commands_in_rows mode before (says.Locating n ∷ later) h = commands_in_rows mode before later h
-commands_in_rows mode before (says.Accepting cs ∷ later) h = commands_in_rows (mode_after mode (says.Accepting cs)) before later h
-commands_in_rows mode before (says.Retrying r ∷ later) h = commands_in_rows (mode_after mode (says.Retrying r)) before later (inr (inl refl))
-commands_in_rows mode before (says.AtStart ∷ later) h = commands_in_rows (mode_after mode says.AtStart) before later (inr (inl refl))
-commands_in_rows mode before (says.EachCycle ∷ later) h = commands_in_rows (mode_after mode says.EachCycle) before later (inr (inl refl))
+commands_keep mode before (says.Deadline d ∷ later) h = commands_keep (mode_after mode (says.Deadline d)) before later h
+commands_keep mode before (says.Chained ∷ later) h = commands_keep (mode_after mode says.Chained) before later (inr (inl refl))
+commands_keep mode before (says.Unchained ∷ later) h = commands_keep (mode_after mode says.Unchained) before later (inr (inl refl))
+commands_keep mode before (says.Retrying r ∷ later) h = commands_keep (mode_after mode (says.Retrying r)) before later (inr (inl refl))
+commands_keep mode before (says.AtStart ∷ later) h = commands_keep (mode_after mode says.AtStart) before later (inr (inl refl))
+commands_keep mode before (says.EachCycle ∷ later) h = commands_keep (mode_after mode says.EachCycle) before later (inr (inl refl))
+commands_keep mode before (line ∷ later) h = commands_keep (mode_after mode line) before later h
 
--- rows of which the first isn't chained may follow a task for any target
-rows_behind : (before : Option ℕ) (tasks : List Task) → AreRows None tasks → AreRows before tasks
-rows_behind before [] are = tt
-rows_behind before (t ∷ ts) are = ((λ e. let bad : None ≡ Some t.command.target = are.0 e in cc), are.1)
+-- tasks that keep targets with no task before them do so after a task for any target, because their first isn't chained
+keep_behind : (before : Option ℕ) (tasks : List Task) → KeepTargets None tasks → KeepTargets before tasks
+keep_behind before [] are = tt
+keep_behind before (t ∷ ts) are = ((λ e. let bad : None ≡ Some t.command.target = are.0 e in cc), are.1)
 
--- rows, and after them rows of which the first isn't chained, are rows
-rows_both : (before : Option ℕ) (xs ys : List Task) → AreRows before xs → AreRows None ys → AreRows before (xs ++ ys)
-rows_both before [] ys first mode_after = rows_behind before ys mode_after
-rows_both before (x ∷ xs) ys first mode_after = (first.0, rows_both (Some x.command.target) xs ys first.1 mode_after)
+-- tasks that keep targets, and after them tasks that do so with no task before them, keep targets together
+keep_both : (before : Option ℕ) (xs ys : List Task) → KeepTargets before xs → KeepTargets None ys → KeepTargets before (xs ++ ys)
+keep_both before [] ys first second = keep_behind before ys second
+keep_both before (x ∷ xs) ys first second = (first.0, keep_both (Some x.command.target) xs ys first.1 second)
 
--- an attempt of commands in rows is in rows
-attempt_rows : (attempt : ℕ) (again : Again) (n : ℕ) (before : Option ℕ) (ps : List Planned) → InRows before ps → AreRows before (map (in_attempt attempt again n) ps)
-attempt_rows attempt again n before [] are = tt
-attempt_rows attempt again n before (p ∷ ps) are = (are.0, attempt_rows attempt again n (Some p.task.command.target) ps are.1)
+-- where commands keep targets, the tasks of one attempt of them do
+attempt_keeps : (attempt : ℕ) (again : Again) (n : ℕ) (before : Option ℕ) (ps : List Planned) → PlannedKeep before ps → KeepTargets before (map (in_attempt attempt again n) ps)
+attempt_keeps attempt again n before [] are = tt
+attempt_keeps attempt again n before (p ∷ ps) are = (are.0, attempt_keeps attempt again n (Some p.task.command.target) ps are.1)
 
--- the attempts of a chain are in rows
-attempts_rows : (attempt left : ℕ) (again : Again) (chain : List Planned) → InRows None chain → AreRows None (attempts_from attempt left again chain)
-attempts_rows attempt zero again chain are = attempt_rows attempt no_again (length chain) None chain are
-attempts_rows attempt (suc left) again chain are =
-    rows_both None (map (in_attempt attempt again (length chain * suc (suc left))) chain) (attempts_from (attempt + 1) left again chain)
-    (attempt_rows attempt again (length chain * suc (suc left)) None chain are) (attempts_rows (attempt + 1) left again chain are)
+-- where the commands of a chain keep targets, the tasks of its attempts do
+attempts_keep : (attempt left : ℕ) (again : Again) (chain : List Planned) → PlannedKeep None chain → KeepTargets None (attempts_from attempt left again chain)
+attempts_keep attempt zero again chain are = attempt_keeps attempt no_again (length chain) None chain are
+attempts_keep attempt (suc left) again chain are =
+    keep_both None (map (in_attempt attempt again (length chain * suc (suc left))) chain) (attempts_from (attempt + 1) left again chain)
+    (attempt_keeps attempt again (length chain * suc (suc left)) None chain are) (attempts_keep (attempt + 1) left again chain are)
 
 -- the target of the last of these commands, or `before` where there is none
 abbrev last_target : Option ℕ → List Planned → Option ℕ
 last_target before [] = before
 last_target before (p ∷ ps) = last_target (Some p.task.command.target) ps
 
--- commands in rows, and one more that is in its row, are in rows
-rows_more : (before : Option ℕ) (ps : List Planned) (p : Planned) → InRows before ps → (p.task.chained ≡ true → last_target before ps ≡ Some p.task.command.target) → InRows before (ps ++ p ∷ [])
-rows_more before [] p are is = (is, tt)
-rows_more before (q ∷ ps) p are is = (are.0, rows_more (Some q.task.command.target) ps p are.1 is)
+-- commands that keep targets, and one more that is chained only if the last of them is for its target, keep targets together
+keep_more : (before : Option ℕ) (ps : List Planned) (p : Planned) → PlannedKeep before ps
+    → (p.task.chained ≡ true → last_target before ps ≡ Some p.task.command.target) → PlannedKeep before (ps ++ p ∷ [])
+keep_more before [] p are is = (is, tt)
+keep_more before (q ∷ ps) p are is = (are.0, keep_more (Some q.task.command.target) ps p are.1 is)
 
 -- the last target of commands and one more is that of the one more
 last_more : (before : Option ℕ) (ps : List Planned) (p : Planned) → last_target before (ps ++ p ∷ []) ≡ Some p.task.command.target
 last_more before [] p = refl
 last_more before (q ∷ ps) p = last_more (Some q.task.command.target) ps p
 
--- of a command that isn't chained nothing has to be shown about the row before it
-not_chained : (b : Bool) (row : Option ℕ) → b ≡ false → b ≡ true → None ≡ row
-not_chained true row e f = cc
-not_chained false row e f = cc
+-- a command that isn't chained needs no target before it: if `b`, whether it is chained, is false, it isn't true
+not_chained : (b : Bool) (group : Option ℕ) → b ≡ false → b ≡ true → None ≡ group
+not_chained true group e f = cc
+not_chained false group e f = cc
 
--- the attempts of a chain that was begun, and of those after it, are in rows
-laid_rows : (retry : Retry) (chain later : List Planned) → InRows None chain → InRows (last_target None chain) later → AreRows None (laid_from retry chain later)
-laid_rows retry chain [] are more = attempts_rows 1 retry.times retry.again chain are
-laid_rows retry chain (p ∷ later) are more =
+-- where a chain that was begun and the commands after it keep targets, so do the tasks of all attempts of it and of the chains after it
+laid_keep : (retry : Retry) (chain later : List Planned) → PlannedKeep None chain → PlannedKeep (last_target None chain) later → KeepTargets None (laid_from retry chain later)
+laid_keep retry chain [] are more = attempts_keep 1 retry.times retry.again chain are
+laid_keep retry chain (p ∷ later) are more =
     by_chained p.task.chained refl
-    (laid_rows retry (chain ++ p ∷ []) later (rows_more None chain p are more.0) (subst (λ t. InRows t later) (sym (last_more None chain p)) more.1))
-    (λ e. laid_rows p.retry (p ∷ []) later (not_chained p.task.chained (Some p.task.command.target) e, tt) more.1) where
-      -- by whether the next goes on with the chain
-      by_chained : (b : Bool) → p.task.chained ≡ b → AreRows None (laid_from retry (chain ++ p ∷ []) later) → (p.task.chained ≡ false → AreRows None (laid_from p.retry (p ∷ []) later))
-          → AreRows None (if b then laid_from retry (chain ++ p ∷ []) later else attempts retry chain ++ laid_from p.retry (p ∷ []) later)
+    (laid_keep retry (chain ++ p ∷ []) later (keep_more None chain p are more.0) (subst (λ t. PlannedKeep t later) (sym (last_more None chain p)) more.1))
+    (λ e. laid_keep p.retry (p ∷ []) later (not_chained p.task.chained (Some p.task.command.target) e, tt) more.1) where
+      -- the lemma above for `p ∷ later`, by whether `p` goes on with the chain (`b`)
+      by_chained : (b : Bool) → p.task.chained ≡ b → KeepTargets None (laid_from retry (chain ++ p ∷ []) later) → (p.task.chained ≡ false → KeepTargets None (laid_from p.retry (p ∷ []) later))
+          → KeepTargets None (if b then laid_from retry (chain ++ p ∷ []) later else attempts retry chain ++ laid_from p.retry (p ∷ []) later)
       by_chained true e on anew = on
-      by_chained false e on anew = rows_both None (attempts retry chain) (laid_from p.retry (p ∷ []) later) (attempts_rows 1 retry.times retry.again chain are) (anew e)
+      by_chained false e on anew = keep_both None (attempts retry chain) (laid_from p.retry (p ∷ []) later) (attempts_keep 1 retry.times retry.again chain are) (anew e)
 
--- giving tasks their places changes neither which are chained nor for which target they are, so rows stay rows
-placed_rows : (nears : List Near) (before : Option ℕ) (tasks : List Task) → AreRows before tasks → AreRows before (map (placed nears) tasks)
-placed_rows nears before [] are = tt
-placed_rows nears before (task ∷ later) are = (are.0, placed_rows nears (Some task.command.target) later are.1)
+-- giving tasks their places changes neither which are chained nor for which target they are, so they keep targets
+placed_keep : (nears : List Near) (before : Option ℕ) (tasks : List Task) → KeepTargets before tasks → KeepTargets before (map (placed nears) tasks)
+placed_keep nears before [] are = tt
+placed_keep nears before (task ∷ later) are = (are.0, placed_keep nears (Some task.command.target) later are.1)
 
 -- these tasks, after n others of a chain, are the rest of that chain: all are chained, but for the first where n is 0
 abbrev ContinueChain : ℕ → List Task → Type 0
@@ -335,27 +331,19 @@ setup_chain nears mode [] = none_continues mode.begun where
   none_continues zero = tt
   none_continues (suc n) = tt
 setup_chain nears mode (says.Command c now ∷ later) = by_setup mode.setup refl (setup_chain nears (mode_after mode (says.Command c now)) later) where
-  -- by the section
+  -- the lemma above for a command and the lines after it, by whether the mode is that of the setup (`b`)
   by_setup : (b : Bool) → mode.setup ≡ b → ContinueChain (mode_after mode (says.Command c now)).begun (map (placed nears) (setup_of (mode_after mode (says.Command c now)) later))
       → ContinueChain mode.begun (map (placed nears) ((if b then task_at mode c now ∷ [] else []) ++ setup_of (mode_after mode (says.Command c now)) later))
   by_setup true e more =
       chain_continued mode.begun (placed nears (task_at mode c now)) (map (placed nears) (setup_of (mode_after mode (says.Command c now)) later))
-      (ap (λ b. if b then nat_lt 0 mode.begun else mode.chained && continues_row mode.row c.target) e)
+      (ap (λ b. if b then nat_lt 0 mode.begun else mode.chained && continues_group mode.group c.target) e)
       (subst (λ n. ContinueChain n (map (placed nears) (setup_of (mode_after mode (says.Command c now)) later))) (ap (λ b. if b then mode.begun + 1 else mode.begun) e) more)
   by_setup false e more = subst (λ n. ContinueChain n (map (placed nears) (setup_of (mode_after mode (says.Command c now)) later))) (ap (λ b. if b then mode.begun + 1 else mode.begun) e) more
-setup_chain nears mode (says.Deadline d ∷ later) = setup_chain nears (mode_after mode (says.Deadline d)) later
-setup_chain nears mode (says.Chained ∷ later) = setup_chain nears (mode_after mode says.Chained) later
-setup_chain nears mode (says.Unchained ∷ later) = setup_chain nears (mode_after mode says.Unchained) later
-setup_chain nears mode (says.Naming n ∷ later) = setup_chain nears (mode_after mode (says.Naming n)) later
-setup_chain nears mode (says.Locating n ∷ later) = setup_chain nears (mode_after mode (says.Locating n)) later
-setup_chain nears mode (says.Accepting cs ∷ later) = setup_chain nears (mode_after mode (says.Accepting cs)) later
-setup_chain nears mode (says.Retrying r ∷ later) = setup_chain nears (mode_after mode (says.Retrying r)) later
-setup_chain nears mode (says.AtStart ∷ later) = setup_chain nears (mode_after mode says.AtStart) later
-setup_chain nears mode (says.EachCycle ∷ later) = setup_chain nears (mode_after mode says.EachCycle) later
+setup_chain nears mode (line ∷ later) = setup_chain nears (mode_after mode line) later
 
 -- the law: the setup is one chain, and after it each chained task follows one for the same target
-pub chains_are_rows : ChainsAreRows
-chains_are_rows text deadline chained setup tasks names nears is =
+pub chains_keep_targets : ChainsKeepTargets
+chains_keep_targets text deadline chained setup tasks names nears is =
     let first = opening deadline chained in
     let front = map (placed nears) (setup_of first is.said) in
     let cycle = map (placed nears) (laid_out (planned_of first is.said)) in (
@@ -364,5 +352,5 @@ chains_are_rows text deadline chained setup tasks names nears is =
       is.tasks_are ∙ map-append (placed nears) (setup_of first is.said) (laid_out (planned_of first is.said)),
       is.setup_is ∙ sym (length-map (setup_of first is.said) (placed nears)),
       setup_chain nears first is.said,
-      placed_rows nears None (laid_out (planned_of first is.said)) (laid_rows no_retry [] (planned_of first is.said) tt (commands_in_rows first None is.said (inr (inl refl)))),
+      placed_keep nears None (laid_out (planned_of first is.said)) (laid_keep no_retry [] (planned_of first is.said) tt (commands_keep first None is.said (inr (inl refl)))),
     )

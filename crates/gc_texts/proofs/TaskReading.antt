@@ -23,19 +23,32 @@ abbrev pub mode_after_lines : Mode → List TaskLine → Mode
 mode_after_lines mode [] = mode
 mode_after_lines mode (line ∷ later) = mode_after_lines (mode_after mode line) later
 
+-- the mode after `xs` and then `ys` is the mode after `ys`, where the mode after `xs` holds before them
+pub mode_after_both : (mode : Mode) (xs ys : List TaskLine) → mode_after_lines mode (xs ++ ys) ≡ mode_after_lines (mode_after_lines mode xs) ys
+mode_after_both mode [] ys = refl
+mode_after_both mode (x ∷ xs) ys = mode_after_both (mode_after mode x) xs ys
+
+-- the setup of `xs` and then `ys` is that of `xs`, and then that of `ys`, where the mode after `xs` holds before `ys`
+pub setup_both : (mode : Mode) (xs ys : List TaskLine) → setup_of mode (xs ++ ys) ≡ setup_of mode xs ++ setup_of (mode_after_lines mode xs) ys
+setup_both mode [] ys = refl
+setup_both mode (x ∷ xs) ys =
+    ap (λ ts. setup_at mode x ++ ts) (setup_both (mode_after mode x) xs ys)
+    ∙ sym (append_assoc (setup_at mode x) (setup_of (mode_after mode x) xs) (setup_of (mode_after_lines (mode_after mode x) xs) ys))
+
+-- the cycle's commands of `xs` and then `ys` are those of `xs`, and then those of `ys`
+pub planned_both : (mode : Mode) (xs ys : List TaskLine) → planned_of mode (xs ++ ys) ≡ planned_of mode xs ++ planned_of (mode_after_lines mode xs) ys
+planned_both mode [] ys = refl
+planned_both mode (x ∷ xs) ys =
+    ap (λ ts. planned_at mode x ++ ts) (planned_both (mode_after mode x) xs ys)
+    ∙ sym (append_assoc (planned_at mode x) (planned_of (mode_after mode x) xs) (planned_of (mode_after_lines (mode_after mode x) xs) ys))
+
 -- the setup of lines, and of one more, is that of the lines, and that of the last in the mode after them
 setup_more : (mode : Mode) (lines : List TaskLine) (next : TaskLine) → setup_of mode (lines ++ next ∷ []) ≡ setup_of mode lines ++ setup_at (mode_after_lines mode lines) next
-setup_more mode [] next = append-nil (setup_at mode next)
-setup_more mode (line ∷ lines) next =
-    ap (λ ts. setup_at mode line ++ ts) (setup_more (mode_after mode line) lines next)
-    ∙ sym (append_assoc (setup_at mode line) (setup_of (mode_after mode line) lines) (setup_at (mode_after_lines (mode_after mode line) lines) next))
+setup_more mode lines next = setup_both mode lines (next ∷ []) ∙ ap (λ ts. setup_of mode lines ++ ts) (append-nil (setup_at (mode_after_lines mode lines) next))
 
 -- the cycle's commands of lines, and of one more, are those of the lines, and that of the last in the mode after them
 planned_more : (mode : Mode) (lines : List TaskLine) (next : TaskLine) → planned_of mode (lines ++ next ∷ []) ≡ planned_of mode lines ++ planned_at (mode_after_lines mode lines) next
-planned_more mode [] next = append-nil (planned_at mode next)
-planned_more mode (line ∷ lines) next =
-    ap (λ ts. planned_at mode line ++ ts) (planned_more (mode_after mode line) lines next)
-    ∙ sym (append_assoc (planned_at mode line) (planned_of (mode_after mode line) lines) (planned_at (mode_after_lines (mode_after mode line) lines) next))
+planned_more mode lines next = planned_both mode lines (next ∷ []) ∙ ap (λ ps. planned_of mode lines ++ ps) (append-nil (planned_at (mode_after_lines mode lines) next))
 
 -- each count of a mode is at most n
 record Counted (mode : Mode) (n : ℕ) : Type 0 where
@@ -58,15 +71,7 @@ counted_line mode (says.Command c now) n h = record {
       let low : place_in_chain mode (is_chained mode c.target) ≤ n = either_low mode.setup mode.begun (if is_chained mode c.target then mode.link else 0) n h.begun inner in
       omega (arith, low);
 }
-counted_line mode (says.Deadline d) n h = record { begun = omega (arith, h.begun); place = omega (arith, h.place); link = omega (arith, h.link) }
-counted_line mode says.Chained n h = record { begun = omega (arith, h.begun); place = omega (arith, h.place); link = omega (arith, h.link) }
-counted_line mode says.Unchained n h = record { begun = omega (arith, h.begun); place = omega (arith, h.place); link = omega (arith, h.link) }
-counted_line mode (says.Naming m) n h = record { begun = omega (arith, h.begun); place = omega (arith, h.place); link = omega (arith, h.link) }
-counted_line mode (says.Locating m) n h = record { begun = omega (arith, h.begun); place = omega (arith, h.place); link = omega (arith, h.link) }
-counted_line mode (says.Accepting cs) n h = record { begun = omega (arith, h.begun); place = omega (arith, h.place); link = omega (arith, h.link) }
-counted_line mode (says.Retrying r) n h = record { begun = omega (arith, h.begun); place = omega (arith, h.place); link = omega (arith, h.link) }
-counted_line mode says.AtStart n h = record { begun = omega (arith, h.begun); place = omega (arith, h.place); link = omega (arith, h.link) }
-counted_line mode says.EachCycle n h = record { begun = omega (arith, h.begun); place = omega (arith, h.place); link = omega (arith, h.link) }
+counted_line mode line n h = record { begun = omega (arith, h.begun); place = omega (arith, h.place); link = omega (arith, h.link) }
 
 -- lines add at most one each to each count
 counted_lines : (mode : Mode) (lines : List TaskLine) (n : ℕ) → Counted mode n → Counted (mode_after_lines mode lines) (n + length lines)
@@ -83,15 +88,7 @@ one_planned false p = omega arith
 -- a line gives one command of the cycle at most
 planned_line : (mode : Mode) (line : TaskLine) → length (planned_at mode line) ≤ 1
 planned_line mode (says.Command c now) = one_planned mode.setup (record { task = task_at mode c now; retry = mode.retry })
-planned_line mode (says.Deadline d) = omega arith
-planned_line mode says.Chained = omega arith
-planned_line mode says.Unchained = omega arith
-planned_line mode (says.Naming m) = omega arith
-planned_line mode (says.Locating m) = omega arith
-planned_line mode (says.Accepting cs) = omega arith
-planned_line mode (says.Retrying r) = omega arith
-planned_line mode says.AtStart = omega arith
-planned_line mode says.EachCycle = omega arith
+planned_line mode line = omega arith
 
 -- lines give at most as many commands of the cycle as they are
 planned_few : (mode : Mode) (lines : List TaskLine) → length (planned_of mode lines) ≤ length lines
@@ -103,7 +100,7 @@ planned_few mode (line ∷ lines) =
     length-append (planned_at mode line) (planned_of (mode_after mode line) lines) in
     omega (arith, one, more, all)
 
--- as many lines aren't skipped as things are said
+-- lines say as many things as they are: one each
 said_many : (lines : List (List ℕ)) (said : List TaskLine) → AreItems IsTaskLine lines said → length said ≡ length lines
 said_many [] [] are = refl
 said_many [] (s ∷ said) are = absurd are
@@ -125,15 +122,14 @@ names_more : (lines : List TaskLine) (next : TaskLine) → names_of (lines ++ ne
 names_more [] next = append-nil (name_at next)
 names_more (line ∷ lines) next = ap (λ ns. name_at line ++ ns) (names_more lines next) ∙ sym (append_assoc (name_at line) (names_of lines) (name_at next))
 
+-- the lines `xs` and then `ys` give the places of `xs`, and after them those of `ys`
+pub nears_both : (xs ys : List TaskLine) → nears_of (xs ++ ys) ≡ nears_of xs ++ nears_of ys
+nears_both [] ys = refl
+nears_both (x ∷ xs) ys = ap (λ ns. near_at x ++ ns) (nears_both xs ys) ∙ sym (append_assoc (near_at x) (nears_of xs) (nears_of ys))
+
 -- the places of lines, and of one more, are those of the lines, and that of the last
 nears_more : (lines : List TaskLine) (next : TaskLine) → nears_of (lines ++ next ∷ []) ≡ nears_of lines ++ near_at next
-nears_more [] next = append-nil (near_at next)
-nears_more (line ∷ lines) next = ap (λ ns. near_at line ++ ns) (nears_more lines next) ∙ sym (append_assoc (near_at line) (nears_of lines) (near_at next))
-
--- the mode after lines and one more is the mode that the last leaves, where the mode after the others holds before it
-behind_more : (mode : Mode) (lines : List TaskLine) (next : TaskLine) → mode_after_lines mode (lines ++ next ∷ []) ≡ mode_after (mode_after_lines mode lines) next
-behind_more mode [] next = refl
-behind_more mode (line ∷ lines) next = behind_more (mode_after mode line) lines next
+nears_more lines next = nears_both lines (next ∷ []) ∙ ap (λ ns. nears_of lines ++ ns) (append-nil (near_at next))
 
 -- where lines may follow these names and places, and one more may follow the lines, all of them may follow there
 follow_more : (names : List Name) (nears : List Near) (lines : List TaskLine) (next : TaskLine) → MayFollow names nears lines
@@ -204,7 +200,7 @@ module _
   -- where the cycle has a command, a sound line was reached
   pub cycle_wants : 0 < length cycle → ReachesASoundTaskLine text
   cycle_wants some = by_reached r.reached where
-    -- the same, by whether a line says something
+    -- the lemma above, by whether a line says something
     by_reached : (r.said ≡ []) ⊎ ReachesASoundTaskLine text → ReachesASoundTaskLine text
     by_reached (inl none) = let empty = ap length (r.cycle_are ∙ ap (planned_of (opening deadline chained)) none) in absurd (omega (arith, empty, some))
     by_reached (inr is) = is
@@ -304,10 +300,11 @@ module _
   -- a line that isn't skipped, has a form and is allowed there is read: the lists grow by what it gives, and the mode is the
   -- one after it
   pub task_reads :
-      (said : TaskLine) (new_setup : List Task) (new_cycle : List Planned) (new_names : List Name) (new_nears : List Near) (next : Mode) (allowed : Bool) → skipped ≡ false → IsTaskLine plain said
-      → allowed ≡ may_follow names nears said → allowed ≡ true → new_setup ≡ setup ++ setup_at mode said → new_cycle ≡ cycle ++ planned_at mode said → new_names ≡ names ++ name_at said
-      → new_nears ≡ nears ++ near_at said
-      → next ≡ mode_after mode said → ReadsTasks text first rest (number + 1) new_setup new_cycle new_names new_nears next
+      (said : TaskLine) (new_setup : List Task) (new_cycle : List Planned) (new_names : List Name) (new_nears : List Near) (next : Mode) (allowed : Bool)
+      (isnt : skipped ≡ false) (is : IsTaskLine plain said) (asked : allowed ≡ may_follow names nears said) (did : allowed ≡ true)
+      (more_setup : new_setup ≡ setup ++ setup_at mode said) (more_cycle : new_cycle ≡ cycle ++ planned_at mode said)
+      (more_names : new_names ≡ names ++ name_at said) (more_nears : new_nears ≡ nears ++ near_at said) (more : next ≡ mode_after mode said)
+      → ReadsTasks text first rest (number + 1) new_setup new_cycle new_names new_nears next
   task_reads said new_setup new_cycle new_names new_nears next allowed isnt is asked did more_setup more_cycle more_names more_nears more =
       record {
         said = r.said ++ said ∷ [];
@@ -317,6 +314,6 @@ module _
         cycle_are = more_cycle ∙ ap (λ ts. ts ++ planned_at mode said) r.cycle_are ∙ ap (λ m. planned_of first r.said ++ planned_at m said) r.mode_is ∙ sym (planned_more first r.said said);
         names_are = more_names ∙ ap (λ ns. ns ++ name_at said) r.names_are ∙ sym (names_more r.said said);
         nears_are = more_nears ∙ ap (λ ns. ns ++ near_at said) r.nears_are ∙ sym (nears_more r.said said);
-        mode_is = more ∙ ap (λ m. mode_after m said) r.mode_is ∙ sym (behind_more first r.said said);
+        mode_is = more ∙ ap (λ m. mode_after m said) r.mode_is ∙ sym (mode_after_both first r.said (said ∷ []));
         reached = inr (task_wants said allowed isnt is asked did);
       }

@@ -1,9 +1,10 @@
 -- The lines of a text, one after another. A text is cut into pieces at each LF; `before` is the beginning of the first piece. A
 -- line is a piece without a CR at its end. `Reads` says how far the reading of a text has come. A line that is empty or begins
 -- with `#` is skipped; any other has to have the form of an item. LF is byte 10, and CR byte 13.
-use Rattle.std.proofs.Common.{◌≡◌, ◌≢◌, ◌≤◌, ◌+◌, ℕ, List, [], ◌∷◌, ◌++◌, length, map, Option, Some, None, Bool, true, false, cond, arith, refl, ap, subst, sym, ◌∙◌, ◌==◌, append_assoc, append-nil, length-append, ne_eqb}
+use Rattle.std.proofs.Common.{◌≡◌, ◌≢◌, ◌≤◌, ◌+◌, ℕ, List, [], ◌∷◌, ◌++◌, length, map, Option, Some, None, Bool, true, false, cond, arith, ap, subst, sym, ◌∙◌, ◌==◌, append_assoc, append-nil, length-append, ne_eqb}
 use Rattle.std.specs.Prelude.{filter, not}
 use Rattle.std.proofs.lemmas.List.{length-map}
+use Rattle.std.proofs.lemmas.List.Elements.{filter-append}
 use Rattle.gc_texts.specs.Cuts.{Cuts, Lacks}
 use Rattle.gc_texts.specs.LineForms.{Form, text_pieces, without_cr, text_lines, is_skipped, is_kept, AreItems, FirstFaulty, ReachesASoundLine}
 
@@ -72,19 +73,6 @@ reads_few form text left number items within r =
     let pieces : length (text_lines text) ≡ length (text_pieces [] text) = length-map (text_pieces [] text) without_cr in
     omega (arith, all, pieces, pieces-few [] text, within, r.count)
 
--- where the kept lines of two lists (`all`) are `xs` of the first and then `ys` of the second, they are still with one more
--- line x before the first list, kept (`t`) or not
-filter_one :
-    (x : List ℕ) (xs ys all : List (List ℕ)) (t : Bool) → all ≡ xs ++ ys →
-    cond t (x ∷ all) all ≡ cond t (x ∷ xs) xs ++ ys
-filter_one x xs ys all true e = ap (λ rest. x ∷ rest) e
-filter_one x xs ys all false e = e
-
--- the lines of two lists that are kept are those of the first, and after them those of the second
-filter-append : (xs ys : List (List ℕ)) → filter is_kept (xs ++ ys) ≡ filter is_kept xs ++ filter is_kept ys
-filter-append [] ys = refl
-filter-append (x ∷ xs) ys = filter_one x (filter is_kept xs) (filter is_kept ys) (filter is_kept (xs ++ ys)) (is_kept x) (filter-append xs ys)
-
 -- these are the items of one line: none where it is skipped, else the one whose form it has
 abbrev pub LineItems : {Item : Type 0} → Form Item → List ℕ → List Item → Type 0
 LineItems form line items = AreItems form (filter is_kept (line ∷ [])) items
@@ -100,7 +88,7 @@ reads_on form text now line rest number items more r cut of_line =
       read = r.read ++ without_cr line ∷ [];
       lines_are = r.lines_are ∙ ap (λ ls. r.read ++ ls) next ∙ sym (append_assoc r.read (without_cr line ∷ []) (lines_left rest));
       count = omega (arith, r.count, length-append r.read (without_cr line ∷ []));
-      items_are = subst (λ ls. AreItems form ls (items ++ more)) (sym (filter-append r.read (without_cr line ∷ [])))
+      items_are = subst (λ ls. AreItems form ls (items ++ more)) (sym (filter-append is_kept r.read (without_cr line ∷ [])))
           (AreItems-append form (filter is_kept r.read) (filter is_kept (without_cr line ∷ [])) items more r.items_are of_line);
     }
 

@@ -30,7 +30,7 @@ one_wish line v w x y = let same = one_asking line v.target w.target v.call w.ca
 -- a line that neither asks for a procedure that isn't in the table nor has the form of a command has the form of no wish
 pub no_wish : (line : List ℕ) → ((target : ℕ) (raw : RawCall) → IsRawWish line target raw → ⊥) → ((command : Command) → IsCommand line command → ⊥) → (wish : Wish) → IsWish line wish → ⊥
 no_wish line no_raw no_command wish is = no_asking wish.target wish.call is where
-  -- the same of what is asked
+  -- the lemma above, by what is asked for
   no_asking : (target : ℕ) (asked : Asked) → AsksFor line target asked → ⊥
   no_asking target (Table call) is = no_command (record { target = target; call = call }) is
   no_asking target (Raw raw) is = no_raw target raw is

@@ -88,28 +88,28 @@ SaysNoRetry _ = Unit {0}
 abbrev pub IsRetryAfter : List TaskLine → Retry → Type 0
 IsRetryAfter lines retry = IsSetAfter SaysNoRetry says.Retrying no_retry lines retry
 
--- a line that may come between two commands of a chain without ending it: a deadline, a name, where a target is, or accepted
--- codes
-abbrev pub KeepsRow : TaskLine → Type 0
-KeepsRow (says.Deadline deadline) = Unit {0}
-KeepsRow (says.Naming name) = Unit {0}
-KeepsRow (says.Locating near) = Unit {0}
-KeepsRow (says.Accepting accepted) = Unit {0}
-KeepsRow _ = ⊥
+-- a line that may come between two commands of a group, which is a run of commands for one target, without ending it: a deadline, a
+-- name, where a target is, or accepted codes
+abbrev pub KeepsGroup : TaskLine → Type 0
+KeepsGroup (says.Deadline deadline) = Unit {0}
+KeepsGroup (says.Naming name) = Unit {0}
+KeepsGroup (says.Locating near) = Unit {0}
+KeepsGroup (says.Accepting accepted) = Unit {0}
+KeepsGroup _ = ⊥
 
 -- the last command of these lines is for this target, and only deadlines, names, places and codes follow it
-abbrev pub EndsInRowOf : List TaskLine → ℕ → Type 0
-EndsInRowOf lines target =
-    (before : List TaskLine) × (command : Wish) × (now : Bool) × (between : List TaskLine) × (lines ≡ before ++ says.Command command now ∷ between) × AllByRecursion KeepsRow between
+abbrev pub EndsInGroupOf : List TaskLine → ℕ → Type 0
+EndsInGroupOf lines target =
+    (before : List TaskLine) × (command : Wish) × (now : Bool) × (between : List TaskLine) × (lines ≡ before ++ says.Command command now ∷ between) × AllByRecursion KeepsGroup between
     × (command.target ≡ target)
 
 -- the task of a command of the cycle that follows the lines `front`: its place counts the cycle's commands among them, and
 -- it is chained exactly where commands are chained there and the command before is for the same target, with no line between
--- the two that ends the row
+-- the two that ends their group (`KeepsGroup`)
 pub record IsTaskInCycle (chained : Bool) (front : List TaskLine) (command : Wish) (task : Task) : Type 0 where
   pub place : task.turn.place ≡ cycle_commands false front
-  pub only : task.chained ≡ true → IsChainingAfter chained front true × EndsInRowOf front command.target
-  pub found : IsChainingAfter chained front true → EndsInRowOf front command.target → task.chained ≡ true
+  pub only : task.chained ≡ true → IsChainingAfter chained front true × EndsInGroupOf front command.target
+  pub found : IsChainingAfter chained front true → EndsInGroupOf front command.target → task.chained ≡ true
 
 -- the task of a command of the setup that follows the lines `front`: its place counts the setup's commands among them, and
 -- it is chained exactly where there is one

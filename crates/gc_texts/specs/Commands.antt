@@ -1,8 +1,10 @@
 -- A command text, and the commands that it gives: this project's own.
-use Rattle.std.specs.Prelude.{◌≡◌, ℕ, List, ◌∷◌, ◌++◌}
-use Rattle.gc_texts.specs.LineForms.{IsText, FirstFaulty, ReachesASoundLine}
+use Rattle.std.specs.Prelude.{◌≡◌, ℕ, List, ◌∷◌, ◌++◌, Result, Err}
+use Rattle.gc_texts.specs.LineForms.{IsText, FirstFaulty, ReachesASoundLine, NamesFaulty}
 use Rattle.gc_texts.specs.Procedures.{IsNumber, IsProcedure}
 use Rattle.gc_texts.specs.declared.commands.Command.{Command}
+use Rattle.gc_texts.specs.declared.fault.RunFault.{RunFault}
+use Rattle.gc_texts.specs.declared.fault.RunFault.TheVariants.{Memory}
 
 -- `T RPC` or `T RPC PARAMS`: the target T, and after one space the procedure's number and its parameters
 pub record IsCommand (line : List ℕ) (command : Command) : Type 0 where
@@ -24,3 +26,11 @@ IsFirstFaultyCommand text n = FirstFaulty IsCommand text n
 -- refused there
 abbrev pub ReachesASoundCommand : List ℕ → Type 0
 ReachesASoundCommand text = ReachesASoundLine IsCommand text
+
+-- the reading of this text had this result, and if that is `Schedule`, its line is the first that has the form of no command
+abbrev pub NamesFaultyCommand : {A : Type 0} → List ℕ → Result A RunFault → Type 0
+NamesFaultyCommand text result = NamesFaulty (IsFirstFaultyCommand text) result
+
+-- the reading of this text had this result, and if that is `Memory`, the reader came to a line that has the form of a command
+abbrev pub MemoryAtCommand : {A : Type 0} → List ℕ → Result A RunFault → Type 0
+MemoryAtCommand text result = result ≡ Err Memory → ReachesASoundCommand text

@@ -1,4 +1,4 @@
--- How a command of a station's cycle ended: this project's own.
+-- How a command of a station's setup or cycle ended: this project's own.
 use Rattle.std.specs.Prelude.{ℕ, List, [], Option, Some, None, option_map, codes}
 use Rattle.gc_catalogue.specs.declared.answer.Answer.{Answer}
 use Rattle.gc_values.specs.declared.fault.ValueFault.{ValueFault}
@@ -7,14 +7,15 @@ use Rattle.gc_texts.specs.declared.quality.Quality.{Quality}
 use Rattle.gc_texts.specs.declared.ending.Ending.{Ending}
 use Rattle.gc_texts.specs.declared.ending.Ending.TheVariants as ending
 
--- how a command of a station's cycle ended
+-- how a command of a station's setup or cycle ended
 pub data End : Type 0 where
   -- its reply came in time, with this line, and is an answer of this quality. `answer` is what the reply's values read as, where
   -- both codes are 0, or where the return code is accepted and the values would read with return code 0
   Answered : (quality : Quality) (answer : Option Answer) (line : List ℕ) → End
   -- its reply came in time, with this line, whose codes are 0, and whose values have this fault
   Unreadable : (line : List ℕ) (fault : ValueFault) → End
-  -- its reply came in time, with this line, and was measured away from its target
+  -- its reply came in time, with this line, whose values read, with return code 0 or with an accepted one taken for 0, and have a
+  -- direction that isn't near where its target is
   Elsewhere : (line : List ℕ) → End
   -- a reply to it came after it had timed out
   Late : End

@@ -23,13 +23,14 @@ use Rattle.gc_texts.specs.declared.log_line.LogMark.{LogMark}
 abbrev pub OneCommandList : Type 0
 OneCommandList = (text : List ℕ) (xs ys : List Command) → IsCommands text xs → IsCommands text ys → xs ≡ ys
 
--- a station's text gives one list of tasks at most, one of names, and one of places
+-- with a caller's deadline and chaining, a station's text gives one number of setup tasks at most, one list of tasks, one of names, and
+-- one of places
 abbrev pub OneTaskList : Type 0
 OneTaskList =
     (text : List ℕ) (deadline : ℕ) (chained : Bool) (m n : ℕ) (xs ys : List Task) (ms ns : List Name) (ps qs : List Near) →
     IsTasks text deadline chained m xs ms ps → IsTasks text deadline chained n ys ns qs → (m ≡ n) × (xs ≡ ys) × (ms ≡ ns) × (ps ≡ qs)
 
--- each command text is a station's text: of the same commands in the same order, and without names and places
+-- each command text is a station's text: of the same commands in the same order, and without setup, names and places
 abbrev pub CommandsAreTasks : Type 0
 CommandsAreTasks =
     (text : List ℕ) (commands : List Command) (deadline : ℕ) (chained : Bool) → IsCommands text commands →
@@ -58,22 +59,23 @@ abbrev pub CommandsArePlain : Type 0
 CommandsArePlain =
     (text : List ℕ) (commands : List Command) (deadline : ℕ) → IsCommands text commands → IsTasks text deadline false 0 (plain_tasks deadline 0 commands) [] []
 
--- each chained task follows one for the same target; `before` is the target of the task before all of these, if there is one
-abbrev pub AreRows : Option ℕ → List Task → Type 0
-AreRows before [] = Unit {0}
-AreRows before (task ∷ later) = (task.chained ≡ true → before ≡ Some task.command.target) × AreRows (Some task.command.target) later
+-- chains keep their targets: each chained task follows one for the same target; `before` is the target of the task before all of these,
+-- if there is one
+abbrev pub KeepTargets : Option ℕ → List Task → Type 0
+KeepTargets before [] = Unit {0}
+KeepTargets before (task ∷ later) = (task.chained ≡ true → before ≡ Some task.command.target) × KeepTargets (Some task.command.target) later
 
 -- these tasks are one chain: the first isn't chained, and each after it is
 abbrev pub IsOneChain : List Task → Type 0
 IsOneChain [] = Unit {0}
 IsOneChain (first ∷ later) = (first.chained ≡ false) × AllByRecursion (λ task. task.chained ≡ true) later
 
--- the setup is one chain; of the tasks after it the first isn't chained, and each chained one follows one for the same
--- target
-abbrev pub ChainsAreRows : Type 0
-ChainsAreRows =
+-- the setup is one chain, whatever its targets; of the tasks after it the first isn't chained, and each chained one follows one for the
+-- same target (`KeepTargets`)
+abbrev pub ChainsKeepTargets : Type 0
+ChainsKeepTargets =
     (text : List ℕ) (deadline : ℕ) (chained : Bool) (setup : ℕ) (tasks : List Task) (names : List Name) (nears : List Near) → IsTasks text deadline chained setup tasks names nears
-    → (front : List Task) × (cycle : List Task) × (tasks ≡ front ++ cycle) × (setup ≡ length front) × IsOneChain front × AreRows None cycle
+    → (front : List Task) × (cycle : List Task) × (tasks ≡ front ++ cycle) × (setup ≡ length front) × IsOneChain front × KeepTargets None cycle
 
 -- `parameter_count`, the number of parameters that is printed of a procedure, is the catalogue's number of its parameters
 abbrev pub ParameterCountsAreTheCatalogues : Type 0

@@ -23,7 +23,7 @@ without_cr (b ∷ c ∷ bs) = b ∷ without_cr (c ∷ bs)
 abbrev pub text_lines : List ℕ → List (List ℕ)
 text_lines text = map without_cr (text_pieces [] text)
 
--- line number n of a text, counted from 1; empty where the text has fewer
+-- line number n of a text, counted from 1 (0 gives the first, too); empty where the text has fewer
 abbrev pub line_at : List ℕ → ℕ → List ℕ
 line_at text n = get_or (text_lines text) (n - 1) []
 

@@ -18,7 +18,7 @@ use Rattle.gc_texts.specs.Procedures.{IsNumber}
 use Rattle.gc_texts.specs.Words.{first_word, second_word, third_word, after_three_words}
 use Rattle.gc_texts.specs.declared.near.Near.{Near}
 
--- a text is this decimal number, with or without a point, as a parameter is written
+-- a text is a number as a parameter is written, with or without a point or an exponent, and rounded to 24 places it is this one
 abbrev pub IsDouble : List ℕ → Decimal → Type 0
 IsDouble text d = Spells text d.digits d.scale
 
@@ -53,29 +53,29 @@ direction_of (MeasuredMode hz v distance mode) = Some (record { hz = hz; v = v }
 direction_of _ = None
 
 -- whether the answers of a call have a direction
-abbrev pub asks_direction : Call → Bool
-asks_direction (GetAngle mode) = true
-asks_direction (SimpleMea wait mode) = true
-asks_direction QuickDist = true
-asks_direction (MeasDistance mode) = true
-asks_direction _ = false
+abbrev pub call_gives_direction : Call → Bool
+call_gives_direction (GetAngle mode) = true
+call_gives_direction (SimpleMea wait mode) = true
+call_gives_direction QuickDist = true
+call_gives_direction (MeasDistance mode) = true
+call_gives_direction _ = false
 
 -- whether the answers of what is asked have a direction; those of a raw request have none
-abbrev pub seeks_direction : Asked → Bool
-seeks_direction (Table call) = asks_direction call
-seeks_direction (Raw raw) = false
+abbrev pub asked_gives_direction : Asked → Bool
+asked_gives_direction (Table call) = call_gives_direction call
+asked_gives_direction (Raw raw) = false
 
 -- whether there is a direction that isn't near the place of the target
 abbrev pub is_away : Near → Option Direction → Bool
 is_away near None = false
 is_away near (Some d) = not (is_near d near.place near.tolerance)
 
--- whether an answer was measured away from its target; false where no place is known of the target
+-- whether an answer was measured away from its target; false where no place is known of the target, or the answer has no direction
 unfoldable pub is_elsewhere : Option Near → Answer → Bool
 is_elsewhere None answer = false
 is_elsewhere (Some near) answer = is_away near (direction_of answer)
 
 -- the answers that have a direction are those of procedures 2107, 2108, 2117 and 17017
 pub record DirectionsAreAskedFor : Type 0 where
-  pub answers : (call : Call) (answer : Answer) → IsAnswerOf call answer → is_some (direction_of answer) ≡ asks_direction call
-  pub procedures : (call : Call) → asks_direction call ≡ list_any (λ n. n == (call_fields call).number) (2107 ∷ 2108 ∷ 2117 ∷ 17017 ∷ [])
+  pub answers : (call : Call) (answer : Answer) → IsAnswerOf call answer → is_some (direction_of answer) ≡ call_gives_direction call
+  pub procedures : (call : Call) → call_gives_direction call ≡ list_any (λ n. n == (call_fields call).number) (2107 ∷ 2108 ∷ 2117 ∷ 17017 ∷ [])

@@ -1,4 +1,4 @@
--- Numbers of a text, and procedures with their parameters, as schedules and commands have them: this project's own.
+-- Numbers of a text, and procedures with their parameters, as the texts of commands, stations and schedules have them: this project's own.
 use Rattle.std.specs.Prelude.{◌≡◌, ℕ, ◌<◌, ◌≤◌, List, [], ◌∷◌, ◌++◌, length, Option, Some, None, unwrap_or}
 use Rattle.gc_values.specs.Whole.{NamesNumber}
 use Rattle.gc_catalogue.specs.Calls.{IsCall}

@@ -15,8 +15,8 @@ use Rattle.gc_texts.specs.declared.wish.Wish.{Wish}
 use Rattle.gc_texts.specs.declared.attempts.Planned.{Planned}
 use Rattle.gc_texts.specs.declared.tasks.Task.{Task}
 
--- a task without the fields that distinguish the attempts of its chain: what it asks, its deadline, its places and its
--- accepted codes are left
+-- a task without what distinguishes the attempts of its chain: the rule, the attempt's number and the count of others are those of a
+-- first attempt, and all else is kept
 abbrev pub as_planned : Task → Task
 as_planned task = record task { again = no_again; turn = record { place = task.turn.place; attempt = 1; link = task.turn.link }; others = 0 }
 
@@ -54,7 +54,7 @@ ChainsGoOutAgain =
     × (flat_map {A = Planned} (λ (chain : Chain). map (λ task. record { task = task; retry = chain.retry }) chain.commands) chains
     ≡ map (λ planned. record { task = placed nears planned.task; retry = planned.retry }) (planned_of (opening deadline chained) is.said))
 
--- a command of the cycle has the retry that the last line `retry` before it says
+-- a command of the cycle has the retry that the last line `retry` before it says; without such a line it isn't repeated
 abbrev pub RetriesHold : Type 0
 RetriesHold =
     (deadline : ℕ) (chained : Bool) (front later : List TaskLine) (command : Wish) (now : Bool) → section_after false front ≡ false

@@ -58,8 +58,8 @@ abbrev pub named_with : Again → ℕ → List Reason → Again
 named_with again count [] = again
 named_with again count (reason ∷ others) = named_with (again_with again count reason) (count_with count reason) others
 
--- the words of a text, at least one, and at most 16 codes among them, make this rule
-pub record IsNamedBy (text : List ℕ) (again : Again) : Type 0 where
+-- the words of a text, at least one and with at most 16 codes among them, name this rule: its codes, in their order, and its outcomes
+pub record NamesRule (text : List ℕ) (again : Again) : Type 0 where
   pub reasons : List Reason
   pub are : AreReasons text reasons
   pub few : codes_with 0 reasons ≤ 16
@@ -69,4 +69,4 @@ pub record IsNamedBy (text : List ℕ) (again : Again) : Type 0 where
 pub record IsRetryRule (text : List ℕ) (retry : Retry) : Type 0 where
   pub times_are : IsNumber (before 32 text) retry.times 9
   pub some : 1 ≤ retry.times
-  pub again_is : IsNamedBy (behind 32 text) retry.again
+  pub again_is : NamesRule (behind 32 text) retry.again

@@ -55,7 +55,7 @@ pub record IsRetryLine (line : List ℕ) (retry : Retry) : Type 0 where
   pub line_is : line ≡ codes "retry " ++ rest
   pub rule_is : IsRetryRule rest retry
 
--- `retry N WORD WORD ..`, or `retry 0`: the chains after it aren't repeated
+-- `retry N WORD WORD ..`, or `retry 0`, which says that the chains after it aren't repeated
 abbrev pub SetsRetry : List ℕ → Retry → Type 0
 SetsRetry line retry = ((line ≡ codes "retry 0") × (retry ≡ no_retry)) ⊎ IsRetryLine line retry
 
@@ -67,14 +67,14 @@ pub record SetsClock (line : List ℕ) (wish : Wish) : Type 0 where
   pub call_is : wish.call ≡ Table (SetDate FIRST_MOMENT)
 
 -- a line asks for this wish; `true`: the wish sets the clock to the moment at which it is sent
-abbrev pub IsAsking : List ℕ → Wish → Bool → Type 0
-IsAsking line wish true = SetsClock line wish
-IsAsking line wish false = IsWish line wish
+abbrev pub AsksForWish : List ℕ → Wish → Bool → Type 0
+AsksForWish line wish true = SetsClock line wish
+AsksForWish line wish false = IsWish line wish
 
 -- what a line says: a command, a deadline, that commands are chained or that they aren't, a name, where a target is, which
 -- return codes are accepted, how often chains are repeated, or that the commands after it are setup or those of each cycle
 abbrev pub IsTaskLine : List ℕ → TaskLine → Type 0
-IsTaskLine line (says.Command wish now) = IsAsking line wish now
+IsTaskLine line (says.Command wish now) = AsksForWish line wish now
 IsTaskLine line (says.Deadline deadline) = IsDeadline line deadline
 IsTaskLine line says.Chained = line ≡ codes "chained"
 IsTaskLine line says.Unchained = line ≡ codes "unchained"

@@ -1,16 +1,16 @@
 -- A station's text, and the tasks, the names and the places of targets that it gives: this project's own. The mode at a line
--- is what holds for a command there: its deadline, whether commands are chained, the target of the row that it may continue,
+-- is what holds for a command there: its deadline, whether commands are chained, the target of the group that it may continue,
 -- the codes that are accepted, how often its chain is repeated, whether it is setup, and how many commands of each section
--- are in front. A row is a run of commands for one target, with no line `chained`, `unchained`, `retry`, `at start` or `each
+-- are in front. A group is a run of commands for one target, with no line `chained`, `unchained`, `retry`, `at start` or `each
 -- cycle` between them.
-use Rattle.std.specs.Prelude.{◌≡◌, ℕ, ◌+◌, ◌<◌, ◌≤◌, ◌==◌, ◌&&◌, Bool, true, false, not, nat_lt, List, [], ◌∷◌, ◌++◌, length, map, filter, Option, None, Some, Vec, vec_capacity, vec_len, if◌then◌else◌}
+use Rattle.std.specs.Prelude.{◌≡◌, ℕ, ◌+◌, ◌<◌, ◌≤◌, ◌==◌, ◌&&◌, Bool, true, false, not, nat_lt, List, [], ◌∷◌, ◌++◌, length, map, filter, Option, None, Some, Vec, vec_capacity, vec_len, Result, Err, if◌then◌else◌}
 use Rattle.gc_catalogue.specs.declared.asked.Asked.{Asked}
 use Rattle.gc_catalogue.specs.declared.asked.Asked.TheVariants.{Table}
 use Rattle.gc_catalogue.specs.declared.call.Call.TheVariants.{SetDate}
 use Rattle.gc_texts.specs.Again.{no_again}
 use Rattle.gc_texts.specs.Attempts.{laid_out}
 use Rattle.gc_texts.specs.Codes.{no_codes}
-use Rattle.gc_texts.specs.LineForms.{text_lines, is_kept, AreItems}
+use Rattle.gc_texts.specs.LineForms.{text_lines, is_kept, AreItems, NamesFaulty}
 use Rattle.gc_texts.specs.Names.{is_named}
 use Rattle.gc_texts.specs.Nears.{has_near, near_of}
 use Rattle.gc_texts.specs.Retries.{no_retry}
@@ -25,27 +25,28 @@ use Rattle.gc_texts.specs.declared.task_line.TaskLine.TheVariants as says
 use Rattle.gc_texts.specs.declared.mode.Mode.{Mode}
 use Rattle.gc_texts.specs.declared.attempts.Planned.{Planned}
 use Rattle.gc_texts.specs.declared.tasks.Task.{Task}
+use Rattle.gc_texts.specs.declared.tasks.Tasks.{Tasks}
 use Rattle.gc_texts.specs.declared.turn.Turn.{Turn}
 use Rattle.gc_texts.specs.declared.wish.Wish.{Wish}
 use Rattle.gc_texts.specs.declared.text.TheConstants.{TEXT_LIMIT}
 
--- the mode before any line: the caller's deadline and chaining, no row, no code that is accepted beside 0, and no retry; the commands
+-- the mode before any line: the caller's deadline and chaining, no group, no code that is accepted beside 0, and no retry; the commands
 -- after it are those of each cycle, and none came before it
 abbrev pub opening : ℕ → Bool → Mode
-opening deadline chained = record { deadline = deadline; chained = chained; row = None; accepted = no_codes; retry = no_retry; setup = false; begun = 0; place = 0; link = 0 }
+opening deadline chained = record { deadline = deadline; chained = chained; group = None; accepted = no_codes; retry = no_retry; setup = false; begun = 0; place = 0; link = 0 }
 
--- whether a command for `target` continues the row before it, where there is one: that row is for the target `before`
-abbrev pub continues_row : Option ℕ → ℕ → Bool
-continues_row (Some before) target = before == target
-continues_row None target = false
+-- whether a command for `target` continues the group before it, where there is one: that group is for the target `before`
+abbrev pub continues_group : Option ℕ → ℕ → Bool
+continues_group (Some before) target = before == target
+continues_group None target = false
 
 -- whether a command for this target is chained: in the setup each command but the first is, and in the cycle a command is if the mode
--- chains commands and the command continues the row
+-- chains commands and the command continues the group
 abbrev pub is_chained : Mode → ℕ → Bool
-is_chained mode target = if mode.setup then nat_lt 0 mode.begun else mode.chained && continues_row mode.row target
+is_chained mode target = if mode.setup then nat_lt 0 mode.begun else mode.chained && continues_group mode.group target
 
--- the place of a command in its chain, from 0: a setup command follows all others of the setup, a chained command of the cycle
--- follows the one before it, and any other is the first
+-- the place of a command in its chain, from 0: a setup command follows all of the setup's commands before it, a chained command of the
+-- cycle follows the one before it, and any other is the first
 abbrev pub place_in_chain : Mode → Bool → ℕ
 place_in_chain mode chained = if mode.setup then mode.begun else if chained then mode.link else 0
 
@@ -57,27 +58,26 @@ turn_at mode chained = record { place = if mode.setup then mode.begun else mode.
 abbrev pub mode_after_command : Mode → ℕ → Mode
 mode_after_command mode target =
     record mode {
-      row = Some target;
+      group = Some target;
       begun = if mode.setup then mode.begun + 1 else mode.begun;
       place = if mode.setup then mode.place else mode.place + 1;
       link = place_in_chain mode (is_chained mode target) + 1;
     }
 
--- the mode after a line: after a command its target is that of the row, and it is counted; a deadline changes the deadline;
--- `chained` and `unchained` change whether commands are chained, `retry` changes how often chains are repeated, `at start`
--- and `each cycle` change the section, and each of these five ends the row; `accept` changes which return codes are
--- accepted; and the name or the place of a target changes nothing
+-- the mode after a line. After a command the group is of its target, and the command is counted. A line `deadline` sets the deadline, and
+-- `accept` the return codes that are accepted. `chained` and `unchained` set whether commands are chained, `retry` how often chains are
+-- repeated, and `at start` and `each cycle` the section; these lines also end the group. A name or a place changes nothing
 abbrev pub mode_after : Mode → TaskLine → Mode
 mode_after mode (says.Command command now) = mode_after_command mode command.target
 mode_after mode (says.Deadline deadline) = record mode { deadline = deadline }
-mode_after mode says.Chained = record mode { chained = true; row = None }
-mode_after mode says.Unchained = record mode { chained = false; row = None }
+mode_after mode says.Chained = record mode { chained = true; group = None }
+mode_after mode says.Unchained = record mode { chained = false; group = None }
 mode_after mode (says.Naming name) = mode
 mode_after mode (says.Locating near) = mode
 mode_after mode (says.Accepting accepted) = record mode { accepted = accepted }
-mode_after mode (says.Retrying retry) = record mode { retry = retry; row = None }
-mode_after mode says.AtStart = record mode { setup = true; row = None }
-mode_after mode says.EachCycle = record mode { setup = false; row = None }
+mode_after mode (says.Retrying retry) = record mode { retry = retry; group = None }
+mode_after mode says.AtStart = record mode { setup = true; group = None }
+mode_after mode says.EachCycle = record mode { setup = false; group = None }
 
 -- the task of a command in its first attempt; `now` says whether the command sets the clock to the moment at which it is sent. The place
 -- of its target and the rule of its chain are set later (`placed`, `laid_out`)
@@ -177,6 +177,10 @@ pub record IsTasks (text : List ℕ) (deadline : ℕ) (chained : Bool) (setup : 
   pub names_are : names ≡ names_of said
   pub nears_are : nears ≡ nears_of said
 
+-- the text gives all of these: tasks, of which the first are the setup, names and places
+abbrev pub GivesTasks : List ℕ → ℕ → Bool → Tasks → Type 0
+GivesTasks text deadline chained all = IsTasks text deadline chained all.setup all.tasks.items all.names.items all.nears.items
+
 -- line number n, counted from 1, is the first faulty one: it isn't skipped, and it has no form, or has one and may not
 -- follow those before it
 pub record IsFirstFaultyTask (text : List ℕ) (n : ℕ) : Type 0 where
@@ -204,8 +208,16 @@ pub record ReachesASoundTaskLine (text : List ℕ) : Type 0 where
   pub form : IsTaskLine line said
   pub allowed : may_follow (names_of before) (nears_of before) said ≡ true
 
+-- the reading of this text had this result, and if that is `Schedule`, its line is the first faulty one
+abbrev pub NamesFaultyTask : {A : Type 0} → List ℕ → Result A RunFault → Type 0
+NamesFaultyTask text result = NamesFaulty (IsFirstFaultyTask text) result
+
+-- the reading of this text had this result, and if that is `Memory`, the reader came to a line that isn't faulty
+abbrev pub MemoryAtTask : {A : Type 0} → List ℕ → Result A RunFault → Type 0
+MemoryAtTask text result = result ≡ Err Memory → ReachesASoundTaskLine text
+
 -- why the reading of a station's text gave no tasks: the text is too long; or else line n is its first faulty one; or else
--- memory was refused at a line that isn't faulty
+-- memory was refused, which happens only if the text has a line that isn't faulty and follows no faulty one
 abbrev pub TaskFault : List ℕ → RunFault → Type 0
 TaskFault text InputTooLong = TEXT_LIMIT < length text
 TaskFault text (Schedule n) = (length text ≤ TEXT_LIMIT) × IsFirstFaultyTask text n

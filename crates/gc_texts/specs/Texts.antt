@@ -17,7 +17,8 @@ abbrev pub read_failed : RunFault → Bool → Bool
 read_failed Read failed = true
 read_failed _ failed = failed
 
--- a reading had this result: with the fault `Read` the source has failed, and with any other whether it has (`new`) is as before (`old`)
+-- `old` says whether the source had failed before a reading with this result, and `new` whether it has after it: with the fault `Read` it
+-- has, and with any other result `new` is `old`
 abbrev pub FailsAtRead : {A : Type 0} → (old new : Bool) → Result A RunFault → Type 0
 FailsAtRead old new result = MatchResult result (λ _. new ≡ old) (λ fault. new ≡ read_failed fault old)
 

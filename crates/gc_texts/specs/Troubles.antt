@@ -88,7 +88,7 @@ pub record IsRawCommandTrouble (line : List ℕ) (t : Trouble) : Type 0 where
   pub number : IsNumber (third_word line) rpc 65535
   pub is : IsRawTrouble rpc (after_three_words line) t
 
--- the first word of a line is none of those that begin a line which sets something
+-- the first word of a line is none of `deadline`, `name`, `near`, `accept`, `retry`, `at` and `each`: the line is taken for a command
 pub record BeginsAsCommand (line : List ℕ) : Type 0 where
   pub no_deadline : first_word line ≢ codes "deadline"
   pub no_name : first_word line ≢ codes "name"
@@ -98,7 +98,7 @@ pub record BeginsAsCommand (line : List ℕ) : Type 0 where
   pub no_at : first_word line ≢ codes "at"
   pub no_each : first_word line ≢ codes "each"
 
--- a line that begins as one which sets something is at fault in its target, or in what it sets
+-- a line whose first word is `deadline`, `name`, `near`, `accept`, `retry`, `at` or `each` is at fault in its target, or in what it sets
 abbrev pub IsSettingTrouble : List ℕ → Trouble → Type 0
 IsSettingTrouble line trouble.Deadline = first_word line ≡ codes "deadline"
 IsSettingTrouble line trouble.Name = (first_word line ≡ codes "name") × ((n : ℕ) × IsNumber (second_word line) n 4294967295)

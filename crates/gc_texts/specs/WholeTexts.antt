@@ -73,6 +73,14 @@ RefusesCommands given old new fault = RefusesText (TextFault IsCommand) given ol
 abbrev pub ReadsCommands : (old new : Input) → List Command → Type 0
 ReadsCommands old new commands = Gave old new (λ given. GivesCommands given old new commands)
 
+-- reading took this source from `old` to `new`, and gave the commands of the text that came
+abbrev pub GaveCommands : {S : Type 0} → Source S → (old new : S) → List Command → Type 0
+GaveCommands of_source old new commands = ReadsCommands (input_of of_source old) (input_of of_source new) commands
+
 -- reading took a source from `old` to `new`, and gave no commands, for the reason that this fault says
 abbrev pub ReadsNoCommands : (old new : Input) → RunFault → Type 0
 ReadsNoCommands old new fault = Gave old new (λ given. RefusesCommands given old new fault)
+
+-- reading took this source from `old` to `new`, and gave no commands, for the reason that this fault says
+abbrev pub GaveNoCommands : {S : Type 0} → Source S → (old new : S) → RunFault → Type 0
+GaveNoCommands of_source old new fault = ReadsNoCommands (input_of of_source old) (input_of of_source new) fault

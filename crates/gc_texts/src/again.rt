@@ -1,7 +1,7 @@
 //! After which endings of its commands a chain is repeated.
 
 ghost use Rattle.std.specs.Prelude.{◌≡◌};
-ghost use Rattle.gc_texts.specs.Again.{has_code, is_named, no_again};
+ghost use Rattle.gc_texts.specs.Again.{has_code, repeats_after, no_again};
 ghost use Rattle.gc_texts.specs.Endings.{ending_seen};
 
 use crate::codes::Codes;
@@ -39,7 +39,7 @@ impl Again {
         }
     }
 
-    // Whether a reply's return code is one of `codes`. `None` stands for return code 0, which never is.
+    // Whether a reply's return code is one of `codes`. `None`, which never is: the return code is 0, or the communication code isn't.
     fn has_code(&self, code: Option<u16>) -> bool
         ensures { result ≡ has_code self.now.codes code }
     {
@@ -50,9 +50,10 @@ impl Again {
     }
 
     /// Whether a chain with this rule is repeated after this ending of one of its commands. An answered command decides by `code`, the
-    /// return code of its reply (`None`: 0); any other ending by its outcome alone, and a missed cycle never.
-    pub fn names(&self, code: Option<u16>, ending: Ending<'_>) -> bool
-        ensures { result ≡ is_named self.now code (ending_seen ending.entry) }
+    /// return code of its reply (`None`: it is 0, or the communication code isn't); any other ending by its outcome alone, and a missed
+    /// cycle never.
+    pub fn repeats_after(&self, code: Option<u16>, ending: Ending<'_>) -> bool
+        ensures { result ≡ repeats_after self.now code (ending_seen ending.entry) }
     {
         match ending {
             Ending::Answered(..) => self.has_code(code),

@@ -38,7 +38,8 @@ fn in_attempt(attempt: u64, again: Again, commands: usize, planned: &Planned) ->
     }
 }
 
-// Appends the tasks of one attempt of a chain; `again` and `commands` as in `in_attempt`. Fails if memory was refused.
+// Appends the tasks of one attempt of a chain; `again` and `commands` as in `in_attempt`. Fails if memory was refused: then some of
+// them may have been appended.
 fn push_attempt(
     tasks: &mut Vec<Task>,
     chain: &[Planned],
@@ -56,7 +57,8 @@ fn push_attempt(
     Ok(())
 }
 
-// Appends the tasks of all attempts of a chain: of the first, and of as many more as `retry` allows. Fails if memory was refused.
+// Appends the tasks of all attempts of a chain: of the first, and of as many more as `retry` allows; a chain without commands has no
+// tasks. Fails if memory was refused: then some of them may have been appended.
 fn push_attempts(tasks: &mut Vec<Task>, chain: &[Planned], retry: Retry) -> Result<(), AllocError>
     requires { length chain.now < 4294967296 }
     ensures appends { OnOk result (tasks.new.items ≡ tasks.old.items ++ attempts retry chain.now) }
@@ -82,7 +84,8 @@ fn part(cycle: &[Planned], from: usize, to: usize) -> &[Planned]
     &cycle[from..to]
 }
 
-// Appends the tasks of all attempts of the chains that these commands form, chain by chain. Fails if memory was refused.
+// Appends the tasks of all attempts of the chains that these commands form, chain by chain; each command that isn't chained begins a
+// chain. Fails if memory was refused: then some of the tasks may have been appended.
 pub(crate) fn lay_out(tasks: &mut Vec<Task>, cycle: &[Planned]) -> Result<(), AllocError>
     requires { length cycle.now < 4294967296 }
     ensures appends { OnOk result (tasks.new.items ≡ tasks.old.items ++ laid_out cycle.now) }

@@ -1,9 +1,8 @@
 //! Commands: what is asked of which target, and their text. A command has no deadline.
 
-ghost use Rattle.std.specs.Prelude.{◌≡◌, Err, IfOk, IfErr, MatchOption};
-ghost use Rattle.gc_texts.specs.Commands.{IsCommand, IsCommands, IsFirstFaultyCommand, ReachesASoundCommand};
-ghost use Rattle.gc_texts.specs.LineForms.{RefusesLong, NamesFaulty, TextFault};
-ghost use Rattle.gc_texts.specs.declared.fault.RunFault.{RunFault};
+ghost use Rattle.std.specs.Prelude.{◌≡◌, IfOk, IfErr, MatchOption};
+ghost use Rattle.gc_texts.specs.Commands.{IsCommand, IsCommands, NamesFaultyCommand, MemoryAtCommand};
+ghost use Rattle.gc_texts.specs.LineForms.{RefusesLong, TextFault};
 
 use crate::cuts::cut_at;
 use crate::fault::RunFault;
@@ -49,7 +48,8 @@ impl LineForm for CommandForm {
     }
 }
 
-// Reads `T RPC` or `T RPC PARAMS`: a target's number, a procedure's number and its parameters. `None`: the line has no such form.
+// Reads `T RPC` or `T RPC PARAMS`: a target's number, a procedure's number and its parameters. `None`: the line has no such form, the
+// target's number is above 4294967295, or the procedure is refused (`read_procedure`).
 pub(crate) fn read_command(line: &[u8]) -> Option<Command>
     ensures { MatchOption result ((command : Command) → IsCommand line.now command → ⊥) (λ command. IsCommand line.now command) }
 {
@@ -69,7 +69,7 @@ pub(crate) fn read_command(line: &[u8]) -> Option<Command>
     }
 }
 
-/// Reads a command text, and returns its commands, in order.
+/// Reads a command text, and returns its commands, in order; empty lines and those that begin with `#` are skipped.
 ///
 /// Fails with `InputTooLong` if the text has more than 65,536 bytes, before any line is read; with `Schedule` and the number of the
 /// line, counted from 1, at the first line that has the form of no command; and with `Memory` if memory was refused at a line that has
@@ -77,8 +77,8 @@ pub(crate) fn read_command(line: &[u8]) -> Option<Command>
 pub fn read_commands(alloc: Global, text: &[u8]) -> Result<Vec<Command>, RunFault>
     ensures found { IfOk result (λ commands. IsCommands text.now commands.items) }
     ensures too_long { RefusesLong text.now result }
-    ensures faulty { NamesFaulty (IsFirstFaultyCommand text.now) result }
-    ensures memory { result ≡ Err RunFault.Memory → ReachesASoundCommand text.now }
+    ensures faulty { NamesFaultyCommand text.now result }
+    ensures memory { MemoryAtCommand text.now result }
     ensures faults { IfErr result (λ e. TextFault IsCommand text.now e) }
 {
     read_items::<CommandForm>(alloc, text)

@@ -1,6 +1,6 @@
-//! Texts cut at a mark, which is a byte: lines at an LF, words at a space.
+//! Texts cut at a mark, which is a byte: lines at an LF, words at a space; and texts that are a word, or begin with one.
 
-ghost use Rattle.std.specs.Prelude.{◌≡◌, ◌≤◌, ◌↔◌, length, IsTrue};
+ghost use Rattle.std.specs.Prelude.{◌≡◌, ◌≤◌, ◌↔◌, ◌++◌, ℕ, List, length, IsTrue, MatchOption};
 ghost use Rattle.std.specs.Option.{option_copied};
 ghost use Rattle.gc_texts.specs.Cuts.{Cuts, before, behind};
 
@@ -35,8 +35,15 @@ pub fn behind(mark: u8, text: &[u8]) -> &[u8]
     }
 }
 
+/// What follows the prefix `word` of a line. `None`: the line doesn't begin with `word`.
+pub fn after_word<'a>(word: &[u8], line: &'a [u8]) -> Option<&'a [u8]>
+    ensures { MatchOption result ((rest : List ℕ) → line.now ≡ word.now ++ rest → ⊥) (λ rest. line.now ≡ word.now ++ rest.now) }
+{
+    line.strip_prefix(word)
+}
+
 /// Whether the text is this word.
-pub(crate) fn is_word(word: &[u8], text: &[u8]) -> bool
+pub fn is_word(word: &[u8], text: &[u8]) -> bool
     ensures { IsTrue result ↔ (text.now ≡ word.now) }
 {
     text == word

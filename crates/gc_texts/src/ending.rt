@@ -1,4 +1,4 @@
-//! Endings: how a command of a station's cycle ended, and the word of each.
+//! Endings: how a command of a station's setup or cycle ended, and the word of each.
 
 ghost use Rattle.std.specs.Prelude.{◌≡◌, ◌≤◌, length, option_map};
 ghost use Rattle.gc_texts.specs.Endings.{ending_seen, word_of, fault_of, line_of, quality_of, quality_text};
@@ -8,7 +8,7 @@ use gc_catalogue::Answer;
 use gc_lines::Line;
 use gc_values::ValueFault;
 
-/// How a command of a station's cycle ended.
+/// How a command of a station's setup or cycle ended.
 #[derive(Clone, Copy, Debug, PartialEq, Eq)]
 pub enum Ending<'a> {
     /// Its reply came in time, with this line, and has this quality. `Some`: its values read as this answer, with both codes 0,

@@ -11,16 +11,16 @@ use thiserror::Error;
 /// Why an engine of the program stopped. The text is what the program prints after its name.
 #[derive(Clone, Copy, Debug, PartialEq, Eq, Error)]
 pub enum RunFault {
-    /// The scene has more than 32 targets.
+    /// A scene has more than 32 targets, 32 faults, 16 replies or 32 delays.
     #[error("fault {}", self.number())]
     SceneFull,
     /// A read of the input, or of the link, failed.
     #[error("fault {}", self.number())]
     Read,
-    /// A write to the link failed, after `replies` whole lines and the first `bytes` bytes of the next.
+    /// A write to the link, or of replies to the output, failed, after `replies` whole lines and the first `bytes` bytes of the next.
     #[error("fault {} reply {replies} byte {bytes}", self.number())]
     Write { replies: u64, bytes: usize },
-    /// As many reads were made as are allowed.
+    /// As many reads were made as are allowed, or, by a station, as many acts.
     #[error("fault {}", self.number())]
     TooManyReads,
     /// The other end of the link closed it.
@@ -38,7 +38,7 @@ pub enum RunFault {
     /// Setup commands weren't answered well, and no try is left.
     #[error("fault {}", self.number())]
     SetUp,
-    /// The text has no command.
+    /// A station's text has no command of a cycle.
     #[error("fault {}", self.number())]
     NoCommand,
     /// This line of the text, counted from 1, is the first faulty one.
@@ -50,7 +50,7 @@ pub enum RunFault {
     /// The text has more than 65,536 bytes.
     #[error("fault {}", self.number())]
     InputTooLong,
-    /// A bind, connect or accept failed.
+    /// A bind, connect or accept failed, a name wasn't found, or a device isn't there.
     #[error("fault {}", self.number())]
     Socket,
     /// The output failed.
@@ -59,7 +59,8 @@ pub enum RunFault {
     /// Standard input, output or error is closed.
     #[error("fault {}", self.number())]
     StreamClosed,
-    /// The log could not be opened.
+    /// The log can't be opened for reading and appending, is no regular file or no log, is held by another program, or is the file of
+    /// records.
     #[error("fault {}", self.number())]
     Log,
     /// The path of the device leads to something that is no terminal.
@@ -77,7 +78,7 @@ pub enum RunFault {
     /// Another program, or another opening of this one, holds the file of records.
     #[error("fault {}", self.number())]
     RecordsHeld,
-    /// The file of records contains something other than records.
+    /// The file of records doesn't begin as this run's records do.
     #[error("fault {}", self.number())]
     RecordsForeign,
 }

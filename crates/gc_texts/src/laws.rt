@@ -5,14 +5,15 @@ ghost use Rattle.gc_texts.specs.Chained.{TasksFollowTheirLines, PlacesHoldForAll
 ghost use Rattle.gc_texts.specs.Repeats.{ChainsGoOutAgain, RetriesHold};
 ghost use Rattle.gc_texts.specs.Moments.{StampsAreMoments};
 ghost use Rattle.gc_texts.specs.Nears.{DirectionsAreAskedFor};
-ghost use Rattle.gc_texts.specs.Laws.{OneCommandList, OneTaskList, CommandsAreTasks, CommandsArePlain, ChainsAreRows, ParameterCountsAreTheCatalogues, NamesAreTheCatalogues, LogLinesReadBack, LogLinesArePrintable};
+ghost use Rattle.gc_texts.specs.Laws.{OneCommandList, OneTaskList, CommandsAreTasks, CommandsArePlain, ChainsKeepTargets, ParameterCountsAreTheCatalogues, NamesAreTheCatalogues, LogLinesReadBack, LogLinesArePrintable};
 
 /// A command text gives one list of commands at most.
 pub fn commands_have_one_reading()
     ensures { OneCommandList }
 {}
 
-/// A station's text gives one list of tasks at most, one of names, and one of places.
+/// With the same deadline and chaining of its caller, a station's text gives at most one list of tasks, one count of those that are setup,
+/// one list of names, and one of places.
 pub fn tasks_have_one_reading()
     ensures { OneTaskList }
 {}
@@ -24,14 +25,14 @@ pub fn commands_are_tasks()
     ensures plain { CommandsArePlain }
 {}
 
-/// The setup is one chain. Of the tasks after it the first isn't chained, and one is chained only if the task directly before
-/// it is for the same target.
-pub fn chains_are_rows()
-    ensures { ChainsAreRows }
+/// Each chain of the cycle keeps its target: a task after the setup is chained only if the task directly before it, which isn't of the
+/// setup, is for the same target. The setup is one chain, whatever its targets.
+pub fn chains_keep_targets()
+    ensures { ChainsKeepTargets }
 {}
 
-/// The tasks after the setup are the attempts of the text's chains, in order. A chain has at most as many further attempts as
-/// its line `retry` says. Each begins with the chain's first command, and has the chain's commands, in order, with the same
+/// The tasks after the setup are the attempts of the text's chains, in order. A chain has one attempt, and as many further ones
+/// as its line `retry` says. Each begins with the chain's first command, and has the chain's commands, in order, with the same
 /// deadlines, places and accepted codes. Each but the last has the rule of the line, and the last has none. The commands of the
 /// chains are those of the text, in order, each once.
 pub fn chains_go_out_again()
@@ -69,10 +70,11 @@ pub fn faults_have_their_numbers()
     ensures { FaultsHaveTheirNumbers }
 {}
 
-/// Each command of a station's text has the deadline of the last line `deadline` before it, or else the caller's. One of the
-/// cycle is chained exactly if two things hold: the last line `chained` or `unchained` before it says `chained`, or there is
-/// none and the caller says so; and the command before it is for the same target, with no line between the two that ends the
-/// row. One of the setup is chained exactly if another is before it, and all of the setup is sent before the cycle.
+/// Each command of a station's text has the deadline of the last line `deadline` before it, or else the caller's, and the codes of the
+/// last line `accept` before it, or else none. One of the cycle is chained exactly if two things hold: the last line `chained` or
+/// `unchained` before it says `chained`, or there is none and the caller says so; and the command before it is for the same target, with no
+/// line `chained`, `unchained`, `retry`, `at start` or `each cycle` between the two. One of the setup is chained exactly if another is
+/// before it, and all of the setup is sent before the cycle.
 pub fn commands_go_out_as_their_lines_say()
     ensures { TasksFollowTheirLines }
 {}

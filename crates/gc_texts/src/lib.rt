@@ -33,7 +33,7 @@ pub use again::Again;
 pub use codes::Codes;
 pub use command_text::read_command_text;
 pub use commands::{Command, read_commands};
-pub use cuts::{before, behind, cut_at};
+pub use cuts::{after_word, before, behind, cut_at, is_word};
 pub use ending::Ending;
 pub use fault::RunFault;
 pub use line_forms::{LineForm, line_at, read_items};

@@ -39,8 +39,8 @@ pub(crate) fn without_cr(line: &[u8]) -> &[u8]
     }
 }
 
-/// Line `number` of a text, without a CR at its end. Lines are counted from 1, as in the faults of a text. Where the text has
-/// fewer lines, the result is empty.
+/// Line `number` of a text, without a CR at its end. Lines are counted from 1, as in the faults of a text; 0 gives the first line, too.
+/// Where the text has fewer lines, the result is empty.
 pub fn line_at(text: &[u8], number: u32) -> &[u8]
     ensures { result.now ≡ line_at text.now number }
 {
@@ -64,7 +64,8 @@ pub(crate) fn is_skipped(line: &[u8]) -> bool
     matches!(line, [] | [b'#', ..])
 }
 
-/// Reads a text, and returns the items of its lines, in order; empty lines and those that begin with `#` are skipped.
+/// Reads a text, and returns the items of its lines, in order; empty lines and those that begin with `#` are skipped. Lines are separated
+/// by LF, and one CR at the end of a line is left out.
 ///
 /// Fails with `InputTooLong` if the text has more than 65,536 bytes, before any line is read; with `Schedule` and the number of the
 /// line, counted from 1, at the first line that has the form of no item; and with `Memory` if memory was refused at a line that has the
@@ -80,7 +81,7 @@ pub fn read_items<F: LineForm>(alloc: Global, text: &[u8]) -> Result<Vec<F::Item
     read_lines::<F>(alloc, text)
 }
 
-// For how many further items a list reserves memory, if it holds `count` items and the bytes `left` of the text are unread.
+// For how many further items a list reserves memory, if it holds `count` items; `left` is the text from the next item's line on.
 // An empty list reserves for an item in each eight bytes, because a line rarely has fewer: so it rarely grows again. Any other list
 // reserves for one more.
 fn room_for(count: usize, left: &[u8]) -> usize

@@ -1,10 +1,9 @@
 //! Lines of a log: what was on a link, each with its moment, in printable characters alone.
 
 ghost use Rattle.std.specs.Prelude.{◌≡◌, ◌+◌, ◌*◌, ◌<◌, ◌≤◌, ◌++◌, length, take, OnOk, IfErr};
-ghost use Rattle.std.specs.Io.KnownBytes.{Appends};
 ghost use Rattle.arrayvec.specs.ArrayVec.{array_vec_len};
-ghost use Rattle.gc_lines.specs.Ports.{FailsWith, TakesFront};
-ghost use Rattle.gc_texts.specs.Logs.{mark_text, is_unescaped, hex_digit, escape, escaped, log_line};
+ghost use Rattle.gc_lines.specs.Ports.{FailsWith};
+ghost use Rattle.gc_texts.specs.Logs.{mark_text, is_unescaped, hex_digit, escape, escaped, log_line, TakesLogLine, TakesLogFront};
 
 use crate::stamp::stamp_text;
 use arrayvec::ArrayVec;
@@ -16,7 +15,8 @@ pub type LogBytes = ArrayVec<u8, 514>;
 // The bytes of the longest log line: a moment, a mark of two bytes, each byte as four, two spaces and a line feed.
 const LOG_ROOM: usize = 40 + 1 + 2 + 1 + 4 * 514 + 1;
 
-/// Which way the bytes of a log line were going, and what followed them.
+/// What the bytes of a log line are: bytes that went or came, as a line without its CR LF or as they are, or words about the connection or
+/// the log.
 #[derive(Clone, Copy, Debug, PartialEq, Eq)]
 pub enum LogMark {
     /// `>`: a line that went, without its CR LF.
@@ -28,7 +28,7 @@ pub enum LogMark {
     Came,
     /// `<|`: these bytes came, as with `>|`.
     CamePart,
-    /// `-`: what became of the connection, in words.
+    /// `-`: words on what became of the connection, or that the log is full.
     Link,
 }
 
@@ -48,9 +48,9 @@ impl LogMark {
     }
 }
 
-/// Writes a line of a log, in one write where the sink takes all of it: the moment in milliseconds since 1970, UTC, a space,
-/// the mark, a space, and the bytes. Printable ASCII except the backslash is written as it is; each other byte is `\x` and
-/// two lower-case digits of base 16.
+/// Writes a line of a log, in one write where the sink takes all of it: the moment as `stamp_text` gives it, a space, the mark, a space,
+/// the bytes, and a line feed. `utc` is the moment in milliseconds since 1970, UTC. Printable ASCII except the backslash is written as
+/// it is; each other byte is `\x` and two lower-case digits of base 16.
 ///
 /// `Err(n)`: the sink took the first n bytes of the line, which aren't all, and failed.
 pub fn write_log_line<K: Sink>(
@@ -60,8 +60,8 @@ pub fn write_log_line<K: Sink>(
     bytes: &LogBytes,
 ) -> Result<(), usize>
     ensures failed { FailsWith result (K.failed sink.old) (K.failed sink.new) }
-    ensures ok { OnOk result (Appends (K.taken sink.old) (K.taken sink.new) (log_line utc mark bytes.now.items)) }
-    ensures err { IfErr result (λ n. TakesFront (K.taken sink.old) (K.taken sink.new) n (log_line utc mark bytes.now.items)) }
+    ensures ok { OnOk result (TakesLogLine (K.taken sink.old) (K.taken sink.new) utc mark bytes.now.items) }
+    ensures err { IfErr result (λ n. TakesLogFront (K.taken sink.old) (K.taken sink.new) n utc mark bytes.now.items) }
 {
     write_whole(sink, &log_line(utc, mark, bytes))
 }

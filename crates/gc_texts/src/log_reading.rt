@@ -1,4 +1,5 @@
-//! Reads the lines of a log. Exactly the lines that a log can have are read; any other is refused.
+//! Reads the lines of a log. The mark and the bytes of a line are read in exactly the form that a log gives them. In place of the moment
+//! any word of printable ASCII is accepted.
 
 ghost use Rattle.std.specs.Prelude.{◌≡◌, ◌+◌, ◌<◌, ◌≤◌, ◌∷◌, ◌++◌, ℕ, ◌↔◌, List, length, All, MatchOption, IsTrue};
 ghost use Rattle.gc_texts.specs.Logs.{mark_text, hex_digit, escape, escaped, IsPrintable, IsLogLine};
@@ -10,16 +11,16 @@ use crate::log_line::{LogBytes, LogMark, is_unescaped};
 /// A line of a log, in its parts.
 #[derive(Debug, PartialEq, Eq, Drop)]
 pub struct LogLine<'a> {
-    /// The moment, as the line has it: one word of printable ASCII, which isn't read as a time.
+    /// The moment, as the line has it: one word of printable ASCII, which isn't read as a time, and may be empty.
     pub moment: &'a [u8],
-    /// Which way the bytes were going, and what followed them.
+    /// Whether the bytes went or came, and as what, or are words about the connection or the log.
     pub mark: LogMark,
     /// The bytes themselves.
     pub bytes: LogBytes,
 }
 
-/// Reads a line of a log, without its line feed: a word of printable ASCII, a mark, and at most 514 bytes, each in the one form that a
-/// log gives it. `None`: the line has another form.
+/// Reads a line of a log, without its line feed: a word of printable ASCII, a space, a mark, a space, and at most 514 bytes, each in the
+/// one form that a log gives it. `None`: the line has another form, or more bytes.
 pub fn read_log_line(line: &[u8]) -> Option<LogLine<'_>>
     ensures { MatchOption result
         ((moment : List ℕ) (mark : LogMark) (bytes : List ℕ) → length bytes ≤ 514 → IsLogLine line.now moment mark bytes → ⊥)

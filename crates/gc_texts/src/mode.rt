@@ -1,11 +1,11 @@
 //! The mode at a line of a station's text: the settings for the next command, and the counts of the commands so far.
 //!
-//! A row is a run of commands for one target, with no line `chained`, `unchained`, `retry`, `at start` or `each cycle`
-//! between them. Where commands are chained, each command of a row but the first is chained to the one before it. All
+//! A group is a run of commands for one target, with no line `chained`, `unchained`, `retry`, `at start` or `each cycle`
+//! between them. Where commands are chained, each command of a group but the first is chained to the one before it. All
 //! commands of the setup are one chain.
 
 ghost use Rattle.std.specs.Prelude.{◌≡◌, ◌<◌};
-ghost use Rattle.gc_texts.specs.Tasks.{opening, mode_after, mode_after_command, continues_row, is_chained, place_in_chain, task_at};
+ghost use Rattle.gc_texts.specs.Tasks.{opening, mode_after, mode_after_command, continues_group, is_chained, place_in_chain, task_at};
 
 use crate::again::Again;
 use crate::codes::Codes;
@@ -22,13 +22,13 @@ pub(crate) struct Mode {
     pub(crate) deadline: u64,
     // Whether commands are chained: `chained` or `unchained`, whichever line came last.
     pub(crate) chained: bool,
-    // The target of the row that the next command may continue. `None`: the next command begins a row.
-    pub(crate) row: Option<u32>,
+    // The target of the group that the next command may continue. `None`: the next command begins a group.
+    pub(crate) group: Option<u32>,
     // The return codes that are accepted of commands, beside 0.
     pub(crate) accepted: Codes,
     // How often a chain is repeated, and after what.
     pub(crate) retry: Retry,
-    // Whether commands are setup.
+    // Whether the next command is one of the setup; if not, it is one of each cycle.
     pub(crate) setup: bool,
     // How many commands of the setup are before the line.
     pub(crate) begun: usize,
@@ -45,7 +45,7 @@ pub(crate) fn first_mode(deadline: u64, chained: bool) -> Mode
     Mode {
         deadline,
         chained,
-        row: None,
+        group: None,
         accepted: Codes::none(),
         retry: Retry::none(),
         setup: false,
@@ -55,8 +55,8 @@ pub(crate) fn first_mode(deadline: u64, chained: bool) -> Mode
     }
 }
 
-// The place of a command in its chain, from 0. A command of the setup follows all others of the setup; of the cycle, a chained
-// command follows the one before it, and any other is the first.
+// The place of a command in its chain, from 0; `mode` is the mode before the command. One of the setup, which is one chain, follows all
+// of the setup's commands before it. In the cycle a chained command follows the one before it, and any other is the first.
 fn place_in_chain(mode: Mode, chained: bool) -> usize
     ensures { result ≡ place_in_chain mode chained }
 {
@@ -69,19 +69,19 @@ fn place_in_chain(mode: Mode, chained: bool) -> usize
     }
 }
 
-// Whether a command for this target is chained. In the setup each command but the first is; in the cycle a command is if the mode
-// chains commands and the command continues the row.
+// Whether a command for this target is chained; `mode` is the mode before the command. In the setup each command but the first is; in the
+// cycle a command is if the mode chains commands and the command continues the group.
 fn is_chained(mode: Mode, target: u32) -> bool
     ensures { result ≡ is_chained mode target }
 {
     if mode.setup {
         mode.begun > 0
     } else {
-        mode.chained && continues_row(mode.row, target)
+        mode.chained && continues_group(mode.group, target)
     }
 }
 
-// The mode after a command for this target: the command is counted, and its target is that of the row.
+// The mode after a command for this target: the command is counted, and its target is that of the group.
 fn mode_after_command(mode: Mode, target: u32) -> Mode
     requires begun { mode.begun < 4294967296 }
     requires place { mode.place < 4294967296 }
@@ -91,14 +91,14 @@ fn mode_after_command(mode: Mode, target: u32) -> Mode
     let link = place_in_chain(mode, is_chained(mode, target)) + 1;
     if mode.setup {
         Mode {
-            row: Some(target),
+            group: Some(target),
             begun: mode.begun + 1,
             link,
             ..mode
         }
     } else {
         Mode {
-            row: Some(target),
+            group: Some(target),
             place: mode.place + 1,
             link,
             ..mode
@@ -106,10 +106,10 @@ fn mode_after_command(mode: Mode, target: u32) -> Mode
     }
 }
 
-// The mode after a line, if `mode` holds before it. After a command the row is of its target, and the command is counted. A line
-// `deadline` sets the deadline, `chained` and `unchained` set whether commands are chained, `retry` sets how often chains
-// are repeated, `at start` and `each cycle` set the section, and each of these five ends the row; `accept` sets which return
-// codes are accepted. A name or a place changes nothing.
+// The mode after a line, if `mode` holds before it. After a command the group is of its target, and the command is counted. A line
+// `deadline` sets the deadline, and `accept` the return codes that are accepted. `chained` and `unchained` set whether commands
+// are chained, `retry` how often chains are repeated, and `at start` and `each cycle` the section; these lines also end the group.
+// A name or a place changes nothing.
 pub(crate) fn mode_after(mode: Mode, said: &TaskLine) -> Mode
     requires begun { mode.begun < 4294967296 }
     requires place { mode.place < 4294967296 }
@@ -124,12 +124,12 @@ pub(crate) fn mode_after(mode: Mode, said: &TaskLine) -> Mode
         },
         TaskLine::Chained => Mode {
             chained: true,
-            row: None,
+            group: None,
             ..mode
         },
         TaskLine::Unchained => Mode {
             chained: false,
-            row: None,
+            group: None,
             ..mode
         },
         TaskLine::Naming(_) | TaskLine::Locating(_) => mode,
@@ -139,28 +139,28 @@ pub(crate) fn mode_after(mode: Mode, said: &TaskLine) -> Mode
         },
         TaskLine::Retrying(retry) => Mode {
             retry: *retry,
-            row: None,
+            group: None,
             ..mode
         },
         TaskLine::AtStart => Mode {
             setup: true,
-            row: None,
+            group: None,
             ..mode
         },
         TaskLine::EachCycle => Mode {
             setup: false,
-            row: None,
+            group: None,
             ..mode
         },
     }
 }
 
-// Whether a command for this target continues the row: `row` is the target of that row's commands. `None`: there is no row to
+// Whether a command for this target continues the group: `group` is the target of that group's commands. `None`: there is no group to
 // continue.
-fn continues_row(row: Option<u32>, target: u32) -> bool
-    ensures { result ≡ continues_row row target }
+fn continues_group(group: Option<u32>, target: u32) -> bool
+    ensures { result ≡ continues_group group target }
 {
-    match row {
+    match group {
         Some(before) => before == target,
         None => false,
     }

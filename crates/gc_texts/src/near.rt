@@ -1,7 +1,7 @@
 //! Where a target is, and whether an answer was measured there.
 
 ghost use Rattle.std.specs.Prelude.{◌≡◌, MatchOption};
-ghost use Rattle.gc_texts.specs.Nears.{IsDouble, AreNearWords, IsNearText, has_near, near_of, direction_of, asks_direction, seeks_direction, is_elsewhere};
+ghost use Rattle.gc_texts.specs.Nears.{IsDouble, AreNearWords, IsNearText, has_near, near_of, direction_of, call_gives_direction, asked_gives_direction, is_elsewhere};
 ghost use Rattle.gc_texts.specs.declared.near.Near.{Near};
 ghost use Rattle.gc_values.specs.declared.decimal.Decimal.{Decimal};
 
@@ -38,7 +38,8 @@ pub struct Expected {
     pub turn: Turn,
 }
 
-/// Reads a decimal number, with or without a point. `None`: the text is no number, or has too many digits.
+/// Reads a number in the forms of `Decimal::read`, which rounds it to 24 places. `None`: the text is no number, or the number is more than
+/// 10^13 from zero.
 pub fn read_double(text: &[u8]) -> Option<Decimal>
     ensures { MatchOption result ((d : Decimal) → IsDouble text.now d → ⊥) (λ d. IsDouble text.now d) }
 {
@@ -123,9 +124,9 @@ fn direction_of(answer: &Answer) -> Option<Direction>
     }
 }
 
-// Whether the answers of a call have a direction, that is, a horizontal and a vertical angle.
-fn asks_direction(call: &Call) -> bool
-    ensures { result ≡ asks_direction call.now }
+// Whether the answers of a call have a direction, that is, a measured horizontal and vertical angle (`direction_of`).
+fn call_gives_direction(call: &Call) -> bool
+    ensures { result ≡ call_gives_direction call.now }
 {
     matches!(
         call,
@@ -134,11 +135,11 @@ fn asks_direction(call: &Call) -> bool
 }
 
 /// Whether the answers of what is asked have a direction; those of a raw request have none.
-pub(crate) fn seeks_direction(asked: &Asked) -> bool
-    ensures { result ≡ seeks_direction asked.now }
+pub(crate) fn asked_gives_direction(asked: &Asked) -> bool
+    ensures { result ≡ asked_gives_direction asked.now }
 {
     match asked {
-        Asked::Table(call) => asks_direction(call),
+        Asked::Table(call) => call_gives_direction(call),
         Asked::Raw(_) => false,
     }
 }

@@ -1,4 +1,4 @@
-//! A number of a text, and a procedure's number with its parameters, read: what schedules and commands share.
+//! Reads a number of a text, and a procedure's number with its parameters: what the texts of commands, stations and schedules share.
 
 ghost use Rattle.std.specs.Prelude.{◌≡◌, ◌≤◌, ℕ, length, IsTrue, IsFalse, MatchOption};
 ghost use Rattle.gc_texts.specs.Procedures.{IsNumber, IsProcedure};
@@ -59,8 +59,8 @@ pub fn read_procedure_into(text: &[u8], call: &mut Call) -> bool
     read_call(rpc as u16, params, call)
 }
 
-// Reads the call of a procedure's number and parameters, into `call`, and says whether there is one: a procedure has the number,
-// and the parameters read as its own.
+// Reads the call of a procedure's number and parameters, into `call`, and returns whether there is one: a procedure has the number,
+// and the parameters read as its own. If not, `call` may be any call.
 fn read_call(rpc: u16, params: &[u8], call: &mut Call) -> bool
     ensures found { IsTrue result → IsCall rpc params.now call.new }
     ensures none { IsFalse result → (other : Call) → IsCall rpc params.now other → ⊥ }

@@ -10,7 +10,7 @@ pub enum Quality {
     Fine,
     /// Its communication code is 0, and its return code one that the text accepts.
     Warning,
-    /// Its codes are any others.
+    /// Its communication code isn't 0, or its return code is neither 0 nor one that the text accepts.
     Refused,
 }
 

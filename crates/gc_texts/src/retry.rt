@@ -1,7 +1,7 @@
 //! Lines `retry` of a station's text: how often a chain is repeated, and after which endings of its commands.
 
 ghost use Rattle.std.specs.Prelude.{◌≡◌, ◌<◌, ℕ, true, MatchOption};
-ghost use Rattle.gc_texts.specs.Retries.{IsReason, IsNamedBy, IsRetryRule, again_with, count_with, has_room, no_retry};
+ghost use Rattle.gc_texts.specs.Retries.{IsReason, NamesRule, IsRetryRule, again_with, count_with, has_room, no_retry};
 ghost use Rattle.gc_texts.specs.declared.again.Again.{Again};
 ghost use Rattle.gc_texts.specs.declared.retry.Reason.{Reason};
 ghost use Rattle.gc_texts.specs.declared.retry.Retry.{Retry};
@@ -128,7 +128,7 @@ fn again_with(again: Again, count: usize, reason: Reason) -> Again
 // Reads the words of a line `retry`, with one space between two. `None`: a word is neither a code nor an outcome, or there are more
 // than 16 codes.
 fn read_again(text: &[u8]) -> Option<Again>
-    ensures { MatchOption result ((again : Again) → IsNamedBy text.now again → ⊥) (λ again. IsNamedBy text.now again) }
+    ensures { MatchOption result ((again : Again) → NamesRule text.now again → ⊥) (λ again. NamesRule text.now again) }
 {
     let mut again = Again::none();
     let mut count = 0;
@@ -148,8 +148,8 @@ fn read_again(text: &[u8]) -> Option<Again>
     Some(again)
 }
 
-// Reads what follows `retry ` in a line, `N WORD WORD ..`: N is from 1 to 9, and there is at least one word. `None`: the text has no
-// such form, or more than 16 codes.
+// Reads what follows `retry ` in a line, `N WORD WORD ..`: N is from 1 to 9, and there is at least one word, each a return code or an
+// outcome. `None`: the text has no such form, or more than 16 codes.
 pub(crate) fn read_rule(text: &[u8]) -> Option<Retry>
     ensures { MatchOption result ((retry : Retry) → IsRetryRule text.now retry → ⊥) (λ retry. IsRetryRule text.now retry) }
 {

@@ -13,7 +13,7 @@ use itoa::Buffer;
 use std::alloc::AllocError;
 
 /// Appends the lines of settlements, numbered from place 0. Fails if memory was refused: then the lines of the first settlements were
-/// appended, and no others.
+/// appended, and no others, of which the contract says nothing.
 pub fn append_settlements(
     text: &mut Vec<u8>,
     settlements: &[Settlement<Call>],
@@ -28,7 +28,7 @@ pub fn append_settlements(
 }
 
 // Appends the line of a settlement at a place. `line` is a buffer for it, whose old content is discarded. Fails if memory was
-// refused.
+// refused: then nothing was appended, of which the contract says nothing.
 fn append_settlement(
     text: &mut Vec<u8>,
     line: &mut ArrayVec<u8, LINE_ROOM>,
@@ -42,7 +42,7 @@ fn append_settlement(
 }
 
 /// Writes the lines of settlements, numbered from `place` on, each in one write if the sink takes all of it. Returns `Output` if the
-/// sink failed: it has then taken a part of these lines.
+/// sink failed: it has then taken the whole lines of the earlier settlements, and of the next line some first bytes, or none.
 pub fn write_settlements<K: Sink>(
     sink: &mut K,
     place: usize,

@@ -17,9 +17,9 @@ pub struct Stamp {
     pub sent: Option<u64>,
     /// The last moment that the clock gave when it ended. Of a command of a missed cycle, the moment at which that cycle was due.
     pub utc: u64,
-    /// The cycle, counted from 1.
+    /// The cycle, counted from 1; 0 for a command of the setup.
     pub cycle: u64,
-    /// The place of its task among the tasks of a cycle, counted from 0.
+    /// The place of its task among all tasks, counted from 0: those of the setup are before those of a cycle.
     pub place: usize,
     /// Which command of the text it was, and in which attempt of its chain.
     pub turn: Turn,
@@ -74,11 +74,11 @@ fn date_of(days: u64) -> Date
         left -= year_days(year);
         year += 1;
     }
-    day_of_year(year, left)
+    date_in_year(year, left)
 }
 
 // The date of a day of this year, where `days` days of the year come before it.
-fn day_of_year(year: u64, days: u64) -> Date
+fn date_in_year(year: u64, days: u64) -> Date
     requires { days < year_days year }
     ensures date { result ≡ days_after days (record { year = year; month = 1; day = 1 }) }
     ensures month { result.month ≤ 12 }

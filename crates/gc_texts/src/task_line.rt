@@ -10,7 +10,7 @@ ghost use Rattle.gc_texts.specs.declared.wish.Wish.{Wish};
 ghost use Rattle.gc_texts.specs.declared.task_line.TaskLine.{TaskLine};
 
 use crate::codes::{Codes, read_codes};
-use crate::cuts::{before, behind, cut_at, is_word};
+use crate::cuts::{after_word, before, behind, cut_at, is_word};
 use crate::name::{Name, is_name, named_target};
 use crate::near::{Near, read_near};
 use crate::procedure::{TARGET_MAX, number_of};
@@ -47,13 +47,6 @@ pub(crate) enum TaskLine {
     EachCycle,
 }
 
-// What follows the prefix `word` of a line. `None`: the line doesn't begin with `word`.
-fn after_word<'a>(word: &[u8], line: &'a [u8]) -> Option<&'a [u8]>
-    ensures { MatchOption result ((rest : List ℕ) → line.now ≡ word.now ++ rest → ⊥) (λ rest. line.now ≡ word.now ++ rest.now) }
-{
-    line.strip_prefix(word)
-}
-
 // Reads `deadline MS`: from 1 millisecond to a day. `None`: the line has no such form, or the number lies outside.
 fn read_deadline(line: &[u8]) -> Option<u64>
     ensures { MatchOption result ((deadline : ℕ) → IsDeadline line.now deadline → ⊥) (λ deadline. IsDeadline line.now deadline) }
@@ -70,7 +63,8 @@ fn read_deadline(line: &[u8]) -> Option<u64>
     Some(deadline)
 }
 
-// Reads `name T TEXT`: a target and its name. `None`: the line has no such form.
+// Reads `name T TEXT`: a target and its name. `None`: the line has no such form, the target's number is above 4294967295, or TEXT is
+// no name (`is_name`).
 fn read_naming(line: &[u8]) -> Option<Name>
     ensures { MatchOption result ((name : Name) → IsNameLine line.now name → ⊥) (λ name. IsNameLine line.now name) }
 {
@@ -99,7 +93,7 @@ fn read_locating(line: &[u8]) -> Option<Near>
 }
 
 // Reads `accept C C ..`: the return codes that are accepted beside 0; no code where the line is `accept` alone. `None`: the
-// line has no such form.
+// line has no such form, a word isn't a code from 1 to 65535, or there are more than 16.
 fn read_accepting(line: &[u8]) -> Option<Codes>
     ensures { MatchOption result ((codes : Codes) → SetsAccepted line.now codes → ⊥) (λ codes. SetsAccepted line.now codes) }
 {
@@ -112,7 +106,8 @@ fn read_accepting(line: &[u8]) -> Option<Codes>
     }
 }
 
-// Reads `retry N WORD WORD ..`: how often chains are repeated, and after what; never after `retry 0`. `None`: the line has neither form.
+// Reads `retry N WORD WORD ..`, which says how often chains are repeated, and after what (`read_rule`); or `retry 0`, which says that they
+// aren't repeated. `None`: the line has neither form.
 fn read_retrying(line: &[u8]) -> Option<Retry>
     ensures { MatchOption result ((retry : Retry) → SetsRetry line.now retry → ⊥) (λ retry. SetsRetry line.now retry) }
 {
@@ -126,7 +121,7 @@ fn read_retrying(line: &[u8]) -> Option<Retry>
 }
 
 // Reads `T 5007 now`: a command that sets the clock of target T to the moment at which it is sent. Until then its call has the first
-// moment of 1970. `None`: the line has no such form.
+// moment of 1970. `None`: the line has no such form, or the target's number is above 4294967295.
 fn read_clock(line: &[u8]) -> Option<Wish>
     ensures { MatchOption result ((wish : Wish) → SetsClock line.now wish → ⊥) (λ wish. SetsClock line.now wish) }
 {

@@ -1,13 +1,12 @@
 //! Tasks: the commands of a station's text, with how each is sent and where its target is. `mode.rt` says what the lines
 //! before a command make hold for it, and `attempts.rt` which tasks the chains give.
 
-ghost use Rattle.std.specs.Prelude.{◌≡◌, ◌≤◌, ◌⊎◌, ◌++◌, ◌==◌, ◌&&◌, length, map, Err, IfOk, IfErr, OnOk, OnErr};
+ghost use Rattle.std.specs.Prelude.{◌≡◌, ◌≤◌, ◌⊎◌, ◌++◌, ◌==◌, ◌&&◌, length, map, IfOk, IfErr, OnOk, OnErr};
 ghost use Rattle.std.specs.List.{list_any};
-ghost use Rattle.gc_texts.specs.LineForms.{RefusesLong, NamesFaulty};
+ghost use Rattle.gc_texts.specs.LineForms.{RefusesLong};
 ghost use Rattle.gc_texts.specs.Names.{name_text};
-ghost use Rattle.gc_texts.specs.Nears.{seeks_direction};
-ghost use Rattle.gc_texts.specs.Tasks.{IsFull, setup_at, planned_at, call_at, name_at, near_at, placed, may_follow, IsTasks, IsFirstFaultyTask, ReachesASoundTaskLine, TaskFault};
-ghost use Rattle.gc_texts.specs.declared.fault.RunFault.{RunFault};
+ghost use Rattle.gc_texts.specs.Nears.{asked_gives_direction};
+ghost use Rattle.gc_texts.specs.Tasks.{IsFull, setup_at, planned_at, call_at, name_at, near_at, placed, may_follow, GivesTasks, NamesFaultyTask, MemoryAtTask, TaskFault};
 ghost use Rattle.gc_texts.specs.declared.text.TheConstants.{TEXT_LIMIT};
 
 use crate::again::Again;
@@ -18,7 +17,7 @@ use crate::fault::RunFault;
 use crate::line_forms::{is_skipped, without_cr};
 use crate::mode::{Mode, first_mode, mode_after, task_at};
 use crate::name::{Name, is_named, name_text};
-use crate::near::{Near, has_near, near_of, seeks_direction};
+use crate::near::{Near, asked_gives_direction, has_near, near_of};
 use crate::stamp::date_time;
 use crate::task_line::{TaskLine, read_task_line};
 use crate::text::TEXT_LIMIT;
@@ -87,12 +86,12 @@ impl Tasks {
         name_text(target, self.names.as_slice())
     }
 
-    /// Whether some task of this target has answers with a direction (`seeks_direction`).
+    /// Whether some task of this target has answers with a direction (`asked_gives_direction`).
     pub fn asks_direction_of(&self, target: u32) -> bool
-        ensures { result ≡ list_any (λ task. (task.command.target == target) && seeks_direction task.command.call) self.now.tasks.items }
+        ensures { result ≡ list_any (λ task. (task.command.target == target) && asked_gives_direction task.command.call) self.now.tasks.items }
     {
         self.tasks.iter().any(|task| task.command.target == target
-            && seeks_direction(&task.command.call))
+            && asked_gives_direction(&task.command.call))
     }
 }
 
@@ -117,7 +116,7 @@ fn may_follow(names: &Vec<Name>, nears: &Vec<Near>, said: &TaskLine) -> bool
 }
 
 // Appends what a line gives: a command to `setup` or `cycle`, a name to `names`, a place to `nears`, and nothing for any other line.
-// `mode` is the mode before the line. Fails if memory was refused.
+// `mode` is the mode before the line. Fails if memory was refused: then nothing was appended, of which the contract says nothing.
 fn append_given(
     setup: &mut Vec<Task>,
     cycle: &mut Vec<Planned>,
@@ -186,19 +185,20 @@ fn place_tasks(tasks: &mut Vec<Task>, nears: &[Near])
 /// The tasks are those of the setup, which are one chain, and after them those of the cycle: each chain as often as it may
 /// be sent, one attempt after the other, each from the chain's first command on.
 ///
-/// Fails with `InputTooLong` if the text has more than 65,536 bytes, before any line is read; with `Schedule` and the number of the
-/// line, counted from 1, at the first faulty line: one that has no form, or gives a target a second name or place, or gives a 65th name or
-/// place; and with `Memory` if memory was refused at a line that isn't faulty and follows no faulty one.
+/// Empty lines and those that begin with `#` are skipped. Fails with `InputTooLong` if the text has more than 65,536 bytes, before any
+/// line is read; with `Schedule` and the number of the line, counted from 1, at the first faulty line: one that has no form, or gives a
+/// target a second name or place, or gives a 65th name or place; and with `Memory` if memory was refused, at a line that isn't faulty
+/// and follows no faulty one, or, after the last line, for the attempts of the chains.
 pub fn read_tasks(
     alloc: Global,
     text: &[u8],
     deadline: u64,
     chained: bool,
 ) -> Result<Tasks, RunFault>
-    ensures found { IfOk result (λ all. IsTasks text.now deadline chained all.setup all.tasks.items all.names.items all.nears.items) }
+    ensures found { IfOk result (λ all. GivesTasks text.now deadline chained all) }
     ensures too_long { RefusesLong text.now result }
-    ensures faulty { NamesFaulty (IsFirstFaultyTask text.now) result }
-    ensures memory { result ≡ Err RunFault.Memory → ReachesASoundTaskLine text.now }
+    ensures faulty { NamesFaultyTask text.now result }
+    ensures memory { MemoryAtTask text.now result }
     ensures faults { IfErr result (λ e. TaskFault text.now e) }
 {
     if text.len() > TEXT_LIMIT {
@@ -207,7 +207,7 @@ pub fn read_tasks(
     read_task_lines(alloc, text, deadline, chained)
 }
 
-// Reads the lines of a station's text that isn't too long, as `read_tasks` does. Fails with `Schedule` and `Memory`.
+// Reads the lines of a station's text that isn't too long, as `read_tasks` does. Fails with `Schedule` and `Memory`, as `read_tasks`.
 fn read_task_lines(
     alloc: Global,
     text: &[u8],
@@ -215,7 +215,7 @@ fn read_task_lines(
     chained: bool,
 ) -> Result<Tasks, RunFault>
     requires { length text.now ≤ TEXT_LIMIT }
-    ensures found { IfOk result (λ all. IsTasks text.now deadline chained all.setup all.tasks.items all.names.items all.nears.items) }
+    ensures found { IfOk result (λ all. GivesTasks text.now deadline chained all) }
     ensures fault { IfErr result (λ e. TaskFault text.now e) }
 {
     let mut tasks = Vec::new(alloc);

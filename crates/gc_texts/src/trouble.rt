@@ -29,9 +29,10 @@ pub enum Trouble {
     Target,
     /// The deadline is no number from 1 to 86400000.
     Deadline,
-    /// The text of the name is none of a name, its target has a name already, or 64 targets have names.
+    /// A line `name` gives no text, or one that no name may have, its target has a name already, or 64 targets have names.
     Name,
-    /// The place has no form or lies outside its range, its target has a place already, or 64 targets have places.
+    /// A line `near` has words that don't read as a place and a tolerance, or numbers outside their ranges; or its target has a place
+    /// already, or 64 targets have places.
     Near,
     /// The procedure with this number is in the table, so the word `raw` is to be left out.
     RawInTable(u16),
@@ -41,15 +42,16 @@ pub enum Trouble {
     RawTooLong,
     /// A word after `accept` is no code from 1 to 65535, or there are more than 16.
     Accept,
-    /// A line `retry` names no number from 0 to 9, a word that is neither a code nor an outcome, no word, or more than 16 codes.
+    /// A line `retry` has no number from 0 to 9, a word that is neither a code nor an outcome, more than 16 codes, no word after a number
+    /// other than 0, or a word after 0.
     Retry,
-    /// The line begins as `at start`, and more or something else is there.
+    /// The line's first word is `at`, and the line isn't `at start`.
     AtStart,
-    /// The line begins as `each cycle`, and more or something else is there.
+    /// The line's first word is `each`, and the line isn't `each cycle`.
     EachCycle,
     /// More follows `5007 now`.
     Now,
-    /// The line has the form of nothing.
+    /// The line has no form: it is one word that says nothing, or it ends in a space after a procedure's number.
     NoForm,
 }
 
@@ -183,11 +185,12 @@ fn raw_words_trouble(number: &[u8], params: &[u8]) -> Trouble
     }
 }
 
-// Which field is at fault of a line that is taken for a command, or for one of any other procedure where its second word is `raw`.
+// Which field is at fault of a line that is taken for a command, or, if its second word is `raw`, for a request of a procedure that
+// isn't in the table. `NoForm`: the line is one word, or each of its fields reads.
 fn asking_trouble(line: &[u8]) -> Trouble
     ensures { IsAskingTrouble line.now result }
 {
-    if begins_with_now(line) {
+    if begins_as_5007_now(line) {
         return Trouble::Now;
     }
     let rest = behind(b' ', line);
@@ -208,8 +211,9 @@ fn asking_trouble(line: &[u8]) -> Trouble
     }
 }
 
-// Whether a line begins with a target's number, `5007` and `now`.
-fn begins_with_now(line: &[u8]) -> bool
+// Whether a line begins with `T 5007 now`, where T is a target's number. The contract says nothing of the first word, nor of any line for
+// which it isn't so.
+fn begins_as_5007_now(line: &[u8]) -> bool
     ensures { IsTrue result → (second_word line.now ≡ codes "5007") × (third_word line.now ≡ codes "now") }
 {
     let rest = behind(b' ', line);
@@ -229,7 +233,8 @@ fn has_target(line: &[u8]) -> bool
     }
 }
 
-// Which field is at fault of a line whose first word is one of those that set something. `None`: the first word is none of them.
+// Which field is at fault of a line whose first word is `deadline`, `name`, `near`, `accept`, `retry`, `at` or `each`. `None`: the first
+// word is none of these.
 fn setting_trouble(line: &[u8]) -> Option<Trouble>
     ensures { MatchOption result (BeginsAsCommand line.now) (λ t. IsSettingTrouble line.now t) }
 {
@@ -267,9 +272,10 @@ fn setting_trouble(line: &[u8]) -> Option<Trouble>
 }
 
 /// Which field of a line is at fault, if the line is a faulty one of a station's text. A line that begins with `deadline`, `name`,
-/// `near`, `accept`, `retry`, `at` or `each` is at fault in its target or in what it sets. Any other line is taken for a command, or
-/// for one of any other procedure if its second word is `raw`, and its first field that doesn't read is at fault. Of a line that isn't
-/// faulty the result says nothing: a command gives `NoForm`, for example, and a line `retry` gives `Retry`.
+/// `near`, `accept`, `retry`, `at` or `each` is at fault in its target or in what it sets. Any other line is taken for a command,
+/// or, if its second word is `raw`, for a request of a procedure that isn't in the table. Of these a line that begins as `T 5007 now`
+/// gives `Now`; one that is one word, or each of whose fields reads, `NoForm`; and any other is at fault in its first field that doesn't
+/// read. Of a line that isn't faulty the result says nothing: a command gives `NoForm`, for example, and a line `retry` gives `Retry`.
 pub fn trouble_of(line: &[u8]) -> Trouble
     ensures { IsTrouble line.now result }
 {

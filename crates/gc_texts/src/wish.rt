@@ -32,7 +32,8 @@ impl Wish {
 }
 
 // Reads `T raw RPC` or `T raw RPC PARAMS`: a target's number, and a procedure that isn't in the table with its parameters as
-// they are. `None`: the line has no such form.
+// they are. `None`: the line has no such form, a number lies outside its range, or the request is refused (`raw_call`): its procedure
+// is in the table, for example.
 fn read_raw(line: &[u8]) -> Option<(u32, RawCall)>
     ensures { MatchOption result ((target : ℕ) (raw : RawCall) → IsRawWish line.now target raw → ⊥) (λ r. IsRawWish line.now r.0 r.1) }
 {

@@ -22,12 +22,12 @@ pub spells_unique : (text : List ℕ) (d e : Decimal) → Spells text d.digits d
 spells_unique text d e x y = let same = spells_once text d.digits d.scale e.digits e.scale x y in same_decimal d e same.0 same.1
 
 -- a text that spells a decimal isn't out of range
-pub spells-no_range : (text : List ℕ) (d : Decimal) → Spells text d.digits d.scale → SpellsBeyond text → ⊥
-spells-no_range text d x beyond = in_range_only text d.digits d.scale x d.is_in_range beyond
+pub spelled_not_beyond : (text : List ℕ) (d : Decimal) → Spells text d.digits d.scale → SpellsBeyond text → ⊥
+spelled_not_beyond text d x beyond = in_range_only text d.digits d.scale x d.is_in_range beyond
 
 -- a text that spells a decimal has a number's form
-pub spells-no_spelling : (text : List ℕ) (d : Decimal) → Spells text d.digits d.scale → SpellsNothing text → ⊥
-spells-no_spelling text d x nothing = nothing x.0 x.1
+pub spelled_has_form : (text : List ℕ) (d : Decimal) → Spells text d.digits d.scale → SpellsNothing text → ⊥
+spelled_has_form text d x nothing = nothing x.0 x.1
 
 -- a text has at most one fault
 pub one_fault : (text : List ℕ) → SpellsBeyond text → SpellsNothing text → ⊥

@@ -19,7 +19,7 @@ use Rattle.gc_values.specs.declared.value.Value.{Value}
 use Rattle.gc_values.specs.declared.value.Value.TheVariants as value
 use Rattle.gc_values.proofs.EachDecimal.{each_decimal}
 use Rattle.gc_values.proofs.EachWhole.{IsDecided, whole_between}
-use Rattle.gc_values.proofs.ParamLists.{has_pieces, odd_or}
+use Rattle.gc_values.proofs.ParamLists.{has_pieces, not_even_is_odd}
 use Rattle.gc_values.proofs.TextLemmas.{one_quoted}
 
 -- an item is read as a value of the kind, or has a fault for the kind
@@ -229,7 +229,7 @@ spaces_or_not (b ∷ bs) = elim (cases_eq b 32) [
 -- each list of parameters is read as values of the kinds, or has a fault
 pub each_list : (ks : List Kind) (params : List ℕ) → IsListReadOrFaulty ks params
 each_list ks params = elim (cases_eq (quotes params % 2) 0) [
-  | inr odd ↦ inr (fault.OpenQuote, open_quote refl (odd_or (quotes params) odd))
+  | inr odd ↦ inr (fault.OpenQuote, open_quote refl (not_even_is_odd (quotes params) odd))
   | inl even ↦ elim (spaces_or_not params) [
     | inl spaces ↦ params_read ks params [] spaces
     | inr some ↦

@@ -1,12 +1,13 @@
 -- What the laws of items say: an item is read as one value of a kind, or has one fault, and never both; and a value's text reads
 -- back.
-use Rattle.std.proofs.Common.{◌≡◌, ℕ, ◌<◌, Bool, true, false, List, length, ℤ, pos, refl, sym, ap, ◌∙◌, subst, ◌⊎◌, inl, inr, arith, Result, Ok, Err, IfErr, Some}
+use Rattle.std.proofs.Common.{◌≡◌, ℕ, ◌<◌, Bool, true, false, List, length, ℤ, pos, refl, sym, ap, ◌∙◌, subst, inl, inr, arith, Result, Ok, Err, IfErr, Some}
 use Rattle.hex.specs.Hex.{hex_digit_value}
 use Rattle.gc_values.specs.Boolean.{number_of}
 use Rattle.gc_values.specs.Byte.{IsByte}
 use Rattle.gc_values.specs.Item.{kind_of, IsItem, HasNoForm, IsBeyond, IsItemFault, IsValue, text}
 use Rattle.gc_values.specs.Spelling.{SpellsBeyond, SpellsNothing}
 use Rattle.gc_values.specs.Text.{IsTextItem, IsLongString}
+use Rattle.gc_values.specs.ValueFault.{IsEither}
 use Rattle.gc_values.specs.Whole.{NamesWhole, NamesWholeBeyond, IsBetween}
 use Rattle.gc_values.specs.declared.decimal.Decimal.{Decimal}
 use Rattle.gc_values.specs.declared.fault.ValueFault.{ValueFault}
@@ -102,8 +103,8 @@ one_fault k item e f (inr x) (inr y) = x.0 ∙ sym y.0
 
 -- where r answers `Range` only for a number out of range, and `Spelling` only for no number, as `Decimal::read` does, its fault
 -- is the item's fault for the kind `Double`
-pub double_fault : (r : Result Decimal ValueFault) (item : List ℕ) → IfErr r
-    (λ e. (e ≡ fault.Range) ⊎ (e ≡ fault.Spelling)) → (r ≡ Err fault.Range → SpellsBeyond item) → (r ≡ Err fault.Spelling → SpellsNothing item)
+pub double_fault : (r : Result Decimal ValueFault) (item : List ℕ) → IfErr r (λ e. IsEither fault.Range fault.Spelling e)
+    → (r ≡ Err fault.Range → SpellsBeyond item) → (r ≡ Err fault.Spelling → SpellsNothing item)
     → IfErr r (λ e. IsItemFault kind.Double item e)
 double_fault (Ok d) item h range spelling = h
 double_fault (Err e) item (inl is) range spelling = inr (is, range (ap Err is))

@@ -135,8 +135,8 @@ pub at_neither : (xs ys : List ℕ) (i : ℕ) → length xs ≤ i → length ys 
 at_neither xs ys i h h' = ap (λ b. b - 48) (sym (get_or_past ys (i - length xs) 48 h') ∙ sym (get_or-append_right xs ys i 48 h))
 
 -- the element of digits at a place is at least '0'
-pub is_digit : (ds : List ℕ) (i : ℕ) → AreDigits ds → i < length ds → 48 ≤ get_or ds i 0
-is_digit ds i h lt = (AreDigits-at ds i 0 h lt).0
+pub digit_at_least_48 : (ds : List ℕ) (i : ℕ) → AreDigits ds → i < length ds → 48 ≤ get_or ds i 0
+digit_at_least_48 ds i h lt = (AreDigits-at ds i 0 h lt).0
 
 -- past the last digit, `kept_and_rounded` is the number of all digits with zeros after it: nothing is rounded in
 pub kept_behind : (ds : List ℕ) (i : ℕ) → length ds ≤ i → kept_and_rounded ds i ≡ kept ds (length ds) * 10 ^ (i - length ds)

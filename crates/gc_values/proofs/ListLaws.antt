@@ -1,8 +1,9 @@
 -- One list of values for parameters and kinds, or one fault, and never both.
-use Rattle.std.specs.Prelude.{◌≡◌, ◌<◌, ◌≤◌, ◌%◌, ℕ, suc, List, [], ◌∷◌, map, length, Result, Err, ◌⊎◌, refl}
+use Rattle.std.specs.Prelude.{◌≡◌, ◌≤◌, ℕ, suc, List, [], ◌∷◌, map, length, Result, Err, refl}
 use Rattle.std.proofs.Common.{sym, ◌∙◌, ap, subst, inl, inr, arith}
 use Rattle.gc_values.specs.Item.{kind_of, text, IsItemFault}
-use Rattle.gc_values.specs.Params.{IsParams, joined, quotes}
+use Rattle.gc_values.specs.Params.{AreTooMany, HasOpenQuote, joined, quotes}
+use Rattle.gc_values.specs.ValueFault.{IsEither}
 use Rattle.gc_values.specs.declared.fault.ValueFault.{ValueFault}
 use Rattle.gc_values.specs.declared.fault.ValueFault.TheVariants.{OpenQuote, TooMany}
 use Rattle.gc_values.specs.declared.value.Kind.{Kind}
@@ -106,8 +107,7 @@ pub params_fit : (vs : List Value) (params : List ℕ) → AreParams params vs �
 params_fit vs params x = items_fit vs x.items x.read
 
 -- a refusal of splitting is a fault of the list
-pub split_fault : {X : Type 0} (r : Result X ValueFault) (ks : List Kind) (params : List ℕ) (e : ValueFault) → r ≡ Err e → ((e ≡ OpenQuote) ⊎ (e ≡ TooMany))
-    → (r ≡ Err OpenQuote → quotes params % 2 ≡ 1) → (r ≡ Err TooMany → (items : List (List ℕ)) × IsParams params items × (16 < length items))
-    → IsListFault ks params e
+pub split_fault : {X : Type 0} (r : Result X ValueFault) (ks : List Kind) (params : List ℕ) (e : ValueFault) → r ≡ Err e → IsEither OpenQuote TooMany e
+    → (r ≡ Err OpenQuote → HasOpenQuote params) → (r ≡ Err TooMany → AreTooMany params) → IsListFault ks params e
 split_fault r ks params e was (inl q) odd many = open_quote q (odd (was ∙ ap (λ f. Err f) q))
 split_fault r ks params e was (inr q) odd many = let found = many (was ∙ ap (λ f. Err f) q) in faulty_items found.0 found.1 (too_many q found.2)

@@ -1,10 +1,10 @@
 -- What the code of directions computes, in whole numbers that 128 bits hold.
-use Rattle.std.proofs.Common.{◌≡◌, zero, suc, ◌*◌, ◌^◌, ◌≤◌, ◌&&◌, ◌||◌, ◌⊎◌, inl, inr, Bool, true, false, ℤ, pos, negsuc, ◌+ℤ◌, ◌-ℤ◌, ◌*ℤ◌, unsigned_abs, FitsSigned, to_z, of_z, refl, sym, ap, ◌∙◌, arith}
-use Rattle.std.proofs.lemmas.Bool.{and_parts, or_left, or_right}
+use Rattle.std.proofs.Common.{◌≡◌, zero, suc, ◌*◌, ◌^◌, ◌≤◌, ◌&&◌, ◌||◌, ◌⊎◌, inl, inr, Bool, true, ℤ, pos, negsuc, ◌+ℤ◌, ◌-ℤ◌, ◌*ℤ◌, unsigned_abs, FitsSigned, to_z, of_z, refl, sym, ap, ◌∙◌, arith}
+use Rattle.std.proofs.lemmas.Bool.{and_parts, or_cases, or_left, or_right}
 use mir.Syntax.{w128}
 use Rattle.std.proofs.lemmas.Int.{ints, to_z-of_z, fits_signed_from_abs, unsigned_abs-mul}
 use Rattle.gc_values.specs.Decimals.{units}
-use Rattle.gc_values.specs.Directions.{turn, v_of, hz_of, is_close, is_close_turned, is_close_on_circle, is_near, NearIsWithinTheTolerance}
+use Rattle.gc_values.specs.Directions.{turn, v_in_face_one, hz_in_face_one, is_close, is_close_turned, is_close_on_circle, is_near, NearIsWithinTheTolerance}
 use Rattle.gc_values.specs.declared.decimal.Decimal.{Decimal}
 use Rattle.gc_values.specs.declared.direction.Direction.{Direction}
 use Rattle.gc_values.proofs.WithinLemmas.{int_le_is}
@@ -42,19 +42,14 @@ close_turned most turns x y fits few small low =
     ∙ ap (λ z. is_close most (x +ℤ turns *ℤ turn) z) (as_i128_same y (omega (arith, low)))
 
 -- where v and hz are the tests of the two angles, both together are `is_near`
-pub near_is : (d place : Direction) (tolerance : Decimal) (v hz : Bool) → v ≡ is_close (units tolerance) (v_of d) (units place.v)
-    → hz ≡ is_close_on_circle (units tolerance) (hz_of d) (units place.hz) → (v && hz) ≡ is_near d place tolerance
+pub near_is : (d place : Direction) (tolerance : Decimal) (v hz : Bool) → v ≡ is_close (units tolerance) (v_in_face_one d) (units place.v)
+    → hz ≡ is_close_on_circle (units tolerance) (hz_in_face_one d) (units place.hz) → (v && hz) ≡ is_near d place tolerance
 unfolding is_near
-near_is d place tolerance v hz e f = ap (λ b. b && hz) e ∙ ap (λ b. is_close (units tolerance) (v_of d) (units place.v) && b) f
-
--- where one of two tests holds, the first or the second does
-or_true : (a b : Bool) → (a || b) ≡ true → (a ≡ true) ⊎ (b ≡ true)
-or_true true b e = inl refl
-or_true false b e = inr e
+near_is d place tolerance v hz e f = ap (λ b. b && hz) e ∙ ap (λ b. is_close (units tolerance) (v_in_face_one d) (units place.v) && b) f
 
 -- numbers that are close on the circle are close after some number of turns, at most two either way
 some_turns : (most x y : ℤ) → is_close_on_circle most x y ≡ true → (k : ℤ) × (unsigned_abs k ≤ 2) × (is_close_turned most k x y ≡ true)
-some_turns most x y e = first (or_true _ _ e) where
+some_turns most x y e = first (or_cases _ _ e) where
   -- where x is close to y after 1 or 2 turns, it is so after k turns, for a k of at most 2 either way
   last : (is_close_turned most (pos 1) x y ≡ true) ⊎ (is_close_turned most (pos 2) x y ≡ true) → (k : ℤ) × (unsigned_abs k ≤ 2) × (is_close_turned most k x y ≡ true)
   last (inl h) = (pos 1, omega arith, h)
@@ -64,20 +59,20 @@ some_turns most x y e = first (or_true _ _ e) where
   third : (is_close_turned most (pos 0) x y ≡ true) ⊎ ((is_close_turned most (pos 1) x y || is_close_turned most (pos 2) x y) ≡ true)
       → (k : ℤ) × (unsigned_abs k ≤ 2) × (is_close_turned most k x y ≡ true)
   third (inl h) = (pos 0, omega arith, h)
-  third (inr h) = last (or_true _ _ h)
+  third (inr h) = last (or_cases _ _ h)
 
   -- where x is close to y after -1, 0, 1 or 2 turns, it is so after k turns, for a k of at most 2 either way
   second : (is_close_turned most (negsuc 0) x y ≡ true) ⊎ ((is_close_turned most (pos 0) x y || (is_close_turned most (pos 1) x y || is_close_turned most (pos 2) x y)) ≡ true)
       → (k : ℤ) × (unsigned_abs k ≤ 2) × (is_close_turned most k x y ≡ true)
   second (inl h) = (negsuc 0, omega arith, h)
-  second (inr h) = third (or_true _ _ h)
+  second (inr h) = third (or_cases _ _ h)
 
   -- where x is close to y after -2, -1, 0, 1 or 2 turns, it is so after k turns, for a k of at most 2 either way
   first : (is_close_turned most (negsuc 1) x y ≡ true)
       ⊎ ((is_close_turned most (negsuc 0) x y || (is_close_turned most (pos 0) x y || (is_close_turned most (pos 1) x y || is_close_turned most (pos 2) x y))) ≡ true)
       → (k : ℤ) × (unsigned_abs k ≤ 2) × (is_close_turned most k x y ≡ true)
   first (inl h) = (negsuc 1, omega arith, h)
-  first (inr h) = second (or_true _ _ h)
+  first (inr h) = second (or_cases _ _ h)
 
 -- one of five tests holds where any does
 or_of_five : (a b c d e : Bool) → (a ≡ true) ⊎ ((b ≡ true) ⊎ ((c ≡ true) ⊎ ((d ≡ true) ⊎ (e ≡ true)))) → (a || (b || (c || (d || e)))) ≡ true
@@ -121,17 +116,17 @@ pub near_is_within : NearIsWithinTheTolerance
 unfolding is_near
 near_is_within d place tolerance = (
   (λ e.
-      let parts = and_parts (is_close (units tolerance) (v_of d) (units place.v)) (is_close_on_circle (units tolerance) (hz_of d) (units place.hz)) e in
-      let some = some_turns (units tolerance) (hz_of d) (units place.hz) parts.1 in
+      let parts = and_parts (is_close (units tolerance) (v_in_face_one d) (units place.v)) (is_close_on_circle (units tolerance) (hz_in_face_one d) (units place.hz)) e in
+      let some = some_turns (units tolerance) (hz_in_face_one d) (units place.hz) parts.1 in
       record {
         turns = some.0;
         few = some.1;
-        v_near = (int_le_is (pos (unsigned_abs (v_of d -ℤ units place.v))) (units tolerance)).0 parts.0;
-        hz_near = (int_le_is (pos (unsigned_abs (hz_of d +ℤ some.0 *ℤ turn -ℤ units place.hz))) (units tolerance)).0 some.2;
+        v_near = (int_le_is (pos (unsigned_abs (v_in_face_one d -ℤ units place.v))) (units tolerance)).0 parts.0;
+        hz_near = (int_le_is (pos (unsigned_abs (hz_in_face_one d +ℤ some.0 *ℤ turn -ℤ units place.hz))) (units tolerance)).0 some.2;
       }),
   (λ is.
-      let v : is_close (units tolerance) (v_of d) (units place.v) ≡ true = (int_le_is (pos (unsigned_abs (v_of d -ℤ units place.v))) (units tolerance)).1 is.v_near in
-      let hz = (int_le_is (pos (unsigned_abs (hz_of d +ℤ is.turns *ℤ turn -ℤ units place.hz))) (units tolerance)).1 is.hz_near in
-      ap (λ b. b && is_close_on_circle (units tolerance) (hz_of d) (units place.hz)) v
-      ∙ on_circle (units tolerance) (hz_of d) (units place.hz) is.turns is.few hz),
+      let v : is_close (units tolerance) (v_in_face_one d) (units place.v) ≡ true = (int_le_is (pos (unsigned_abs (v_in_face_one d -ℤ units place.v))) (units tolerance)).1 is.v_near in
+      let hz = (int_le_is (pos (unsigned_abs (hz_in_face_one d +ℤ is.turns *ℤ turn -ℤ units place.hz))) (units tolerance)).1 is.hz_near in
+      ap (λ b. b && is_close_on_circle (units tolerance) (hz_in_face_one d) (units place.hz)) v
+      ∙ on_circle (units tolerance) (hz_in_face_one d) (units place.hz) is.turns is.few hz),
 )

@@ -2,10 +2,10 @@
 -- fraction part is the digits after the point. `IsTextOf` says of a text that it is what is written of some digits and places,
 -- as a decimal has them.
 use Rattle.std.proofs.Common.{◌≡◌, ◌≢◌, ◌↔◌, ℕ, zero, suc, ◌+◌, ◌-◌, ◌*◌, ◌/◌, ◌%◌, ◌^◌, ◌<◌, ◌≤◌, Bool, true, false, cond, get_or, ℤ, pos, negsuc, List, [], ◌∷◌, ◌++◌, length, map, refl, sym, ap, ◌∙◌, subst, inl, inr, arith, lit<, lit≤, length-append}
-use Rattle.std.proofs.Math.Nat.{pow-suc, pos_of_ne-zero, div-one, div-add-mod', mul-pos}
+use Rattle.std.proofs.Math.Nat.{pow-suc, pos_of_ne-zero, div-one, mul-pos}
 use Rattle.std.proofs.lemmas.Bool.{cases_order}
 use Rattle.std.proofs.lemmas.Bool.Decides.{eqb_tells}
-use Rattle.std.proofs.lemmas.Nat.{div-mul-add}
+use Rattle.std.proofs.lemmas.Nat.{div-mul-add, mod-mul-add}
 use Rattle.std.specs.Int.Digits.{digits_of}
 use Rattle.std.proofs.lemmas.Int.Digits.{first_digits_of}
 use Rattle.gc_values.specs.Digits.{IsDigit, AreDigits, number}
@@ -214,10 +214,6 @@ behind_again s n ds digits long is some = elim (eqb_tells s 0) [
       (number-last_digits s n (subst (λ x. x < 10 ^ s) is (subst (λ k. number ds < 10 ^ k) long (number-lt ds digits))) ∙ sym is)
 ]
 
--- where a is a multiple of p plus f, and f is below p, f is the remainder of a by p
-mod_of_multiple : (a w p f : ℕ) → f < p → a ≡ w * p + f → a % p ≡ f
-mod_of_multiple a w p f few e = let d : a / p ≡ w = ap (λ x. x / p) e ∙ div-mul-add w p f few in omega (arith, e, div-add-mod' a p, ap (λ x. x * p) d)
-
 -- `IsTextOf` is true of a text of a decimal's form whose digits after the point don't end in 0
 is_text_of_fraction : (text : List ℕ) (f : HasDecimalForm text) → number f.fraction % 10 ≢ 0 → IsTextOf text
 is_text_of_fraction text f other =
@@ -228,7 +224,7 @@ is_text_of_fraction text f other =
     is_text_of text f (number (f.whole ++ f.fraction)) (length f.fraction) f.no_minus_on_zero (λ _ divides. other (sym tens ∙ divides)) f.fraction_is.few
     (ap (λ x. x / p) all ∙ div-mul-add (number f.whole) p (number f.fraction) few)
     (behind_again (length f.fraction) (number (f.whole ++ f.fraction) % p) f.fraction f.fraction_is.are_digits refl
-    (sym (mod_of_multiple (number (f.whole ++ f.fraction)) (number f.whole) p (number f.fraction) few all)) f.fraction_is.some) where
+    (sym (ap (λ x. x % p) all ∙ mod-mul-add (number f.whole) p (number f.fraction) few)) f.fraction_is.some) where
       -- the last digit of two runs of digits in a row is that of the second run
       last_of_all : (ws fs : List ℕ) → 0 < length fs → number (ws ++ fs) % 10 ≡ number fs % 10
       last_of_all ws [] some = absurd (omega (arith, some))

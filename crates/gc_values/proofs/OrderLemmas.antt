@@ -66,7 +66,8 @@ less_at_other_scale b m c n a a' d d' p some e f h =
     let right : n * d' * p ≡ n * a * (a' * d') = omega (arith, ap (λ x. n * d' * x) e) in
     less_over b (m * d) c (n * a) (a' * d') (subst (λ x. signed_less b x c (n * a * (a' * d'))) left (subst (λ y. signed_less b (m * a' * p) c y) right (less_times b (m * a') c (n * d') p some h)))
 
--- the same as `less_at_other_scale`, of integers that are made of a sign and a magnitude: where m * a' is below n * d', m * d is below n * a
+-- the same as `less_at_other_scale`, of integers that are made of a sign and a magnitude: where m * a' is below n * d', m * d is below
+-- n * a
 less_at_other_scale_signed : (b : Bool) (m : ℕ) (c : Bool) (n a a' d d' p : ℕ) → 0 < p → a * a' ≡ p → d * d' ≡ p → (signed b m *ℤ pos a') <ℤ (signed c n *ℤ pos d')
     → (signed b m *ℤ pos d) <ℤ (signed c n *ℤ pos a)
 less_at_other_scale_signed b m c n a a' d d' p some e f h =

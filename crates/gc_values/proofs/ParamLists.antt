@@ -144,8 +144,8 @@ pub even_not_odd : (n : ℕ) → n % 2 ≡ 0 → n % 2 ≡ 1 → ⊥
 even_not_odd n e o = omega arith
 
 -- a number that isn't even is odd
-pub odd_or : (n : ℕ) → (n % 2 ≡ 0 → ⊥) → n % 2 ≡ 1
-odd_or n h = omega (arith, h)
+pub not_even_is_odd : (n : ℕ) → (n % 2 ≡ 0 → ⊥) → n % 2 ≡ 1
+not_even_is_odd n h = omega (arith, h)
 
 -- a text with its quotes in pairs has pieces; `front` is the part of its first piece that was read so far
 has_pieces_from : (front bytes : List ℕ) → HasCommasInQuotes front → quotes (front ++ bytes) % 2 ≡ 0 → HasPieces (front ++ bytes)
@@ -157,7 +157,7 @@ has_pieces_from front (b ∷ bs) keeps even =
     elim (cases_eq b 44) [
       | inr other ↦ step (λ h. absurd (other h))
       | inl comma ↦ elim (cases_eq (quotes front % 2) 0) [
-        | inr inside ↦ step (λ _. odd_or (quotes front) inside)
+        | inr inside ↦ step (λ _. not_even_is_odd (quotes front) inside)
         | inl outside ↦
             let after : quotes (front ++ 44 ∷ bs) % 2 ≡ 0 = ap (λ x. quotes (front ++ x ∷ bs) % 2) (sym comma) ∙ even in
             subst (λ x. HasPieces (front ++ x ∷ bs)) (sym comma) (more_pieces front bs keeps outside (has_pieces_from [] bs HasCommasInQuotes-nil (even_behind front bs outside after)))

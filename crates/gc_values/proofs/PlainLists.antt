@@ -7,12 +7,7 @@ use Rattle.gc_values.specs.Lists.{AreParams}
 use Rattle.gc_values.specs.Plainly.{ArePlain, CutsPlain, LeftPlain}
 use Rattle.gc_values.specs.declared.value.Value.{Value}
 use Rattle.gc_values.proofs.ParamLists.{joined_params}
-use Rattle.gc_values.proofs.TextShape.{AreBare, IsBare, bare_param}
-
--- bare bytes with one more after them are bare
-all_snoc : (xs : List ℕ) (b : ℕ) → AreBare xs → IsBare b → AreBare (xs ++ b ∷ [])
-all_snoc [] b h k = (k, tt)
-all_snoc (x ∷ xs) b h k = (h.0, all_snoc xs b h.1 k)
+use Rattle.gc_values.proofs.TextShape.{AreBare, bare_param}
 
 -- bare bytes up to a comma are cut off as an item
 pub plain_cut : (text : List ℕ) (i : ℕ) → AreBare (take i text) → 0 < i → i < length text → get_or text i 0 ≡ 44 → CutsPlain text (take i text) (Some (drop (i + 1) text))

@@ -82,7 +82,7 @@ reads_beyond text negative whole fraction up down units p r c above =
       subst (λ n. 10 ^ 13 * 10 ^ z.1 < n) (sym (unsigned_abs-signed negative z.0)) (beyond_bound c.m p z.0 z.1 large z.2),
     )
 
--- a text spells at most one decimal
+-- a text spells at most one m / 10^s: two that it spells have the same digits and places
 pub spells_once : (text : List ℕ) (m : ℤ) (s : ℕ) (n : ℤ) (t : ℕ) → Spells text m s → Spells text n t → (m ≡ n) × (s ≡ t)
 spells_once text m s n t x y = rounds_to_one x.0 24 m s n t x.2 (subst (λ q. IsRounded q 24 n t) (names_once text y.0 x.0 y.1 x.1) y.2)
 

@@ -20,7 +20,7 @@ zeros_off m s = ((stripped m s).digits, (stripped m s).places, stripped_is m s)
 gap_comm : (a b : ℕ) → gap a b ≡ gap b a
 gap_comm a b = omega arith
 
--- numbers of one sign are as far apart as their magnitudes
+-- the distance of n / 10^s and a / 10^k, both with the same sign, is that of the magnitudes, multiplied out
 distance_signed : (neg : Bool) (n s a k : ℕ) → distance (signed neg n) s (signed neg a) k ≡ gap (n * 10 ^ k) (a * 10 ^ s)
 distance_signed neg n s a k =
     ap (λ x. unsigned_abs (x -ℤ signed neg a *ℤ pos (10 ^ s))) (signed-mul neg n (10 ^ k))
@@ -68,14 +68,14 @@ abs_pos_neg x y = omega (arith, ints)
 pub abs_neg_pos : (x y : ℕ) → unsigned_abs (neg_ℤ (pos x) -ℤ pos y) ≡ x + y
 abs_neg_pos x y = omega (arith, ints)
 
--- a negative number and one from 0 on are as far apart as the sum of their magnitudes
+-- a negative number over 10^s and one from 0 on over 10^k: their distance is the sum of their magnitudes, multiplied out
 opposite_false : (x s a k : ℕ) → distance (negsuc x) s (pos a) k ≡ suc x * 10 ^ k + a * 10 ^ s
 opposite_false x s a k =
     ap (λ z. unsigned_abs (z -ℤ pos a *ℤ pos (10 ^ s))) (signed-mul true (suc x) (10 ^ k))
     ∙ ap (λ z. unsigned_abs (signed true (suc x * 10 ^ k) -ℤ z)) (signed-mul false a (10 ^ s))
     ∙ abs_neg_pos (suc x * 10 ^ k) (a * 10 ^ s)
 
--- a positive number and one from 0 down are as far apart as the sum of their magnitudes
+-- a positive number over 10^s and one from 0 down over 10^k: their distance is the sum of their magnitudes, multiplied out
 opposite_true : (x s a k : ℕ) → distance (pos (suc x)) s (signed true a) k ≡ suc x * 10 ^ k + a * 10 ^ s
 opposite_true x s a k =
     ap (λ z. unsigned_abs (z -ℤ signed true a *ℤ pos (10 ^ s))) (signed-mul false (suc x) (10 ^ k))
@@ -131,7 +131,7 @@ rounding_is_nearest_units neg a k p m s r =
     let there : IsRounded (record { n = signed neg a; k = k }) p (signed neg sign.0) s = subst (λ z. IsRounded (record { n = signed neg a; k = k }) p z s) sign.1 r in
     subst (λ z. IsNearestUnits neg a k p z s) (sym sign.1) (with_sign_known neg a k p sign.0 s there)
 
--- a fraction with a sign rounds to at most one decimal
+-- as `rounds_to_one`, of a fraction that is given by its sign and its magnitude
 pub rounded_once : (neg : Bool) (a k p : ℕ) (m : ℤ) (s : ℕ) (n : ℤ) (t : ℕ) → IsRounded (record { n = signed neg a; k = k }) p m s
     → IsRounded (record { n = signed neg a; k = k }) p n t → (m ≡ n) × (s ≡ t)
 rounded_once neg a k p m s n t r q =
@@ -146,7 +146,7 @@ pub has_sign : (z : ℤ) → (neg : Bool) × (a : ℕ) × (z ≡ signed neg a)
 has_sign (pos n) = (false, n, refl)
 has_sign (negsuc n) = (true, suc n, refl)
 
--- a fraction rounds to at most one decimal
+-- a fraction rounds to at most one m / 10^s: two that it rounds to have the same digits and places
 pub rounds_to_one : (q : Fraction) (p : ℕ) (m : ℤ) (s : ℕ) (n : ℤ) (t : ℕ) → IsRounded q p m s → IsRounded q p n t → (m ≡ n) × (s ≡ t)
 rounds_to_one q p m s n t r r' =
     let z = has_sign q.n in

@@ -17,6 +17,6 @@ pub gap_signed : (b : Bool) (m n : ℕ) → unsigned_abs (signed b m -ℤ signed
 gap_signed false m n = omega (arith, ints)
 gap_signed true m n = omega (arith, ints)
 
--- a number with a sign has its magnitude
+-- a number z that is made of a sign and a magnitude has that magnitude
 pub abs_from : (z : ℤ) (b : Bool) (m : ℕ) → z ≡ signed b m → unsigned_abs z ≡ m
 abs_from z b m e = ap unsigned_abs e ∙ unsigned_abs-signed b m

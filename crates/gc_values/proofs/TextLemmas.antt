@@ -1,34 +1,14 @@
 -- Strings between double quotes, and the bytes that a text keeps of one: 64 in all, the unused ones zero.
-use Rattle.std.proofs.Common.{◌≡◌, ℕ, zero, suc, ◌-◌, ◌<◌, ◌≤◌, List, [], ◌∷◌, ◌++◌, length, get_or, take, drop, replicate, refl, sym, ap, ◌∙◌, subst, arith, length-append}
-use Rattle.std.proofs.lemmas.List.{length-replicate}
+use Rattle.std.proofs.Common.{◌≡◌, ℕ, ◌-◌, ◌≤◌, List, [], ◌∷◌, ◌++◌, length, take, drop, replicate, sym, ap, ◌∙◌, subst, arith, length-append}
+use Rattle.std.proofs.lemmas.List.{append_cancel_right, length-replicate}
 use Rattle.std.proofs.Math.Seq.{take-append_seam, drop-append_seam}
 use Rattle.gc_values.specs.Padding.{IsZeroPadded}
 use Rattle.gc_values.specs.declared.text.Text.TheInside.{Inside}
-use Rattle.gc_values.specs.Text.{IsStringByte, AreStringBytes, quoted, IsString}
-
--- two lists of bytes that are allowed in a string are allowed in it one after the other
-pub AreStringBytes-append : (xs ys : List ℕ) → AreStringBytes xs → AreStringBytes ys → AreStringBytes (xs ++ ys)
-AreStringBytes-append [] ys h k = k
-AreStringBytes-append (x ∷ xs) ys h k = (h.0, AreStringBytes-append xs ys h.1 k)
-
--- the byte at a place of a string's bytes is allowed in a string
-pub string_byte_at : (bytes : List ℕ) (i : ℕ) → i < length bytes → AreStringBytes bytes → IsStringByte (get_or bytes i 0)
-string_byte_at [] i within h = absurd (omega arith)
-string_byte_at (b ∷ bs) zero within h = h.0
-string_byte_at (b ∷ bs) (suc i) within h = string_byte_at bs i (omega arith) h.1
-
--- two texts that are equal with a double quote after each are equal
-end_same : (xs ys : List ℕ) → xs ++ 34 ∷ [] ≡ ys ++ 34 ∷ [] → xs ≡ ys
-end_same [] [] e = refl
-end_same [] (y ∷ []) e = cc
-end_same [] (y ∷ z ∷ ys) e = cc
-end_same (x ∷ []) [] e = cc
-end_same (x ∷ z ∷ xs) [] e = cc
-end_same (x ∷ xs) (y ∷ ys) e = let t : xs ++ 34 ∷ [] ≡ ys ++ 34 ∷ [] = cc in let same = end_same xs ys t in cc
+use Rattle.gc_values.specs.Text.{AreStringBytes, quoted, IsString}
 
 -- two lists of bytes that are equal between double quotes are equal
 pub one_quoted : (xs ys : List ℕ) → quoted xs ≡ quoted ys → xs ≡ ys
-one_quoted xs ys e = let t : xs ++ 34 ∷ [] ≡ ys ++ 34 ∷ [] = cc in end_same xs ys t
+one_quoted xs ys e = let t : xs ++ 34 ∷ [] ≡ ys ++ 34 ∷ [] = cc in append_cancel_right xs ys (34 ∷ []) t
 
 -- an item is a string of at most one list of bytes
 pub one_string : (item xs ys : List ℕ) → IsString item xs → IsString item ys → xs ≡ ys

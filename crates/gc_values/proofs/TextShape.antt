@@ -1,6 +1,7 @@
 -- The written texts of values are parameters, short and without CR and LF. Bare bytes are those of numbers and byte parameters.
-use Rattle.std.proofs.Common.{◌≡◌, ◌≢◌, ℕ, zero, suc, ◌+◌, ◌/◌, ◌%◌, ◌<◌, ◌≤◌, ◌^◌, Bool, true, false, ltb, ℤ, pos, negsuc, unsigned_abs, List, [], ◌∷◌, ◌++◌, length, map, refl, sym, ap, ◌∙◌, inl, inr, arith, lit<, lit≤, length-append}
+use Rattle.std.proofs.Common.{◌≡◌, ◌≢◌, ℕ, ◌+◌, ◌/◌, ◌%◌, ◌<◌, ◌≤◌, ◌^◌, Bool, true, false, ltb, ℤ, pos, negsuc, unsigned_abs, List, [], ◌∷◌, ◌++◌, length, map, refl, sym, ap, ◌∙◌, inl, inr, arith, lit<, lit≤, length-append}
 use Rattle.std.proofs.lemmas.Bool.{ne_eqb, ltb-true, agree_below_at}
+use Rattle.std.proofs.lemmas.List.Elements.{All-from_recursion}
 use Rattle.std.proofs.lemmas.Nat.{div_below}
 use Rattle.std.specs.List.{All, AllByRecursion}
 use Rattle.std.specs.Prelude.{slice_index}
@@ -206,15 +207,9 @@ ends_no_line (value.Byte n) h = bare_plain (byte_text n) (bare_byte n h)
 ends_no_line (value.Bool b) h = bare_plain _ (bare_boolean b)
 ends_no_line (value.Text bytes) h = ((λ e. omega (arith, e), λ e. omega (arith, e)), string_plain bytes h.plain)
 
--- what is true of all elements by recursion over the list is true of the element at each place
-all_from : (P : ℕ → Type 0) (xs : List ℕ) → AllByRecursion P xs → All P xs
-all_from P [] h k d within = absurd (omega arith)
-all_from P (x ∷ xs) h zero d within = h.0
-all_from P (x ∷ xs) h (suc k) d within = all_from P xs h.1 k d (omega arith)
-
 -- the text of a value has no CR and no LF
 pub text_is_plain : (v : Value) → IsValue v → All EndsNoLine (text v)
-text_is_plain v h = all_from EndsNoLine (text v) (ends_no_line v h)
+text_is_plain v h = All-from_recursion EndsNoLine (text v) (ends_no_line v h)
 
 -- a decimal's text has at most 40 bytes
 pub length-written : (m : ℤ) (s : ℕ) → IsInRange m s → s ≤ 24 → length (written m s) ≤ 40

@@ -1,4 +1,4 @@
--- What `units` computes of a number's text: ds are all its digits, w of them before the point and f after it, and its
+-- What `rounded_units` computes of a number's text: ds are all its digits, w of them before the point and f after it, and its
 -- exponent multiplies by ten `up` times and divides by ten `down` times. Up to the last of p (or 24) places it has k digits,
 -- with zeros for those that are missing: k + down = w + up + p. "The value" is the text's number in units of 10^-p.
 use Rattle.std.proofs.Common.{◌≡◌, ℕ, ◌+◌, ◌-◌, ◌*◌, ◌^◌, ◌<◌, ◌≤◌, List, length, min, sym, ap, ◌∙◌, subst, arith, lit≤}
@@ -43,38 +43,49 @@ units_none ds w f up down p digits size places =
     let shape : number ds * 10 ^ (up + p) ≡ number ds * 10 ^ up * 10 ^ p = omega (arith, ap (λ x. number ds * x) (pow-add 10 up p)) in
     rounds_to_zero (number ds * 10 ^ up * 10 ^ p) (10 ^ (f + down)) (ten_pow_pos (f + down)) (omega arith)
 
+-- the text has `size` digits, w of them before the point and f after it, and k digits up to the last of 24 places
+pub record HasPlaces (ds : List ℕ) (w f up down k size : ℕ) : Type 0 where
+  pub digits : AreDigits ds
+  pub is_size : length ds ≡ size
+  pub sum : size ≡ w + f
+  pub places : k + down ≡ w + up + 24
+
 -- the number of the first k digits, with the next one rounded in and at most the cap, is the number in units of 10^-24
-pub capped_few : (ds : List ℕ) (w f up down cap k units : ℕ) → AreDigits ds → length ds ≡ w + f → k + down ≡ w + up + 24 → units ≡ min cap (kept_and_rounded ds k) →
+pub capped_few : (ds : List ℕ) (w f up down cap k size units : ℕ) → HasPlaces ds w f up down k size → units ≡ min cap (kept_and_rounded ds k) →
     IsRoundedWithCap (number ds * 10 ^ up) (f + down) cap units 24
-capped_few ds w f up down cap k units digits size places e = record {
+capped_few ds w f up down cap k size units has e = record {
   m = kept_and_rounded ds k;
-  rounds = subst (λ n. RoundsHalfUp (number ds * 10 ^ up * 10 ^ 24) (10 ^ (f + down)) n) (times_one (kept_and_rounded ds k)) (units_kept ds w f up down 24 k digits size places);
+  rounds = subst (λ n. RoundsHalfUp (number ds * 10 ^ up * 10 ^ 24) (10 ^ (f + down)) n) (times_one (kept_and_rounded ds k))
+      (units_kept ds w f up down 24 k has.digits (has.is_size ∙ has.sum) has.places);
   capped = e;
   places = lit≤ tt;
 }
 
 -- where the last digit is at place p after the point, p at most 24, the number is that of all digits, at most the cap, over
 -- 10^p
-pub capped_zeros : (ds : List ℕ) (w f up down cap k size more units p : ℕ) → AreDigits ds → length ds ≡ size → size ≡ w + f → k + down ≡ w + up + 24
+pub capped_zeros : (ds : List ℕ) (w f up down cap k size more units p : ℕ) → HasPlaces ds w f up down k size
     → size + more ≡ k → more + p ≡ 24 → units ≡ min cap (kept ds size) →
     IsRoundedWithCap (number ds * 10 ^ up) (f + down) cap units p
-capped_zeros ds w f up down cap k size more units p digits is_size sum places behind all e =
+capped_zeros ds w f up down cap k size more units p has behind all e =
+    let is_size : length ds ≡ size = has.is_size in
     let own : k - length ds ≡ 24 - p = omega arith in
     let value : kept_and_rounded ds k ≡ kept ds size * 10 ^ (24 - p) =
     kept_behind ds k (omega arith) ∙ ap (λ n. kept ds n * 10 ^ (k - length ds)) is_size ∙ ap (λ z. kept ds size * 10 ^ z) own in
     record {
       m = kept ds size;
-      rounds = subst (λ n. RoundsHalfUp (number ds * 10 ^ up * 10 ^ 24) (10 ^ (f + down)) n) value (units_kept ds w f up down 24 k digits (omega arith) places);
+      rounds = subst (λ n. RoundsHalfUp (number ds * 10 ^ up * 10 ^ 24) (10 ^ (f + down)) n) value
+          (units_kept ds w f up down 24 k has.digits (is_size ∙ has.sum) has.places);
       capped = e;
       places = omega arith;
     }
 
 -- where the last digit is `more` places before the last one before the point, the number is that of all digits with
 -- `more` zeros after them, at most the cap
-pub capped_many : (ds : List ℕ) (w f up down cap k size more x units : ℕ) → AreDigits ds → length ds ≡ size → size ≡ w + f → k + down ≡ w + up + 24
+pub capped_many : (ds : List ℕ) (w f up down cap k size more x units : ℕ) → HasPlaces ds w f up down k size
     → size + (24 + more) ≡ k → x ≡ min cap (kept ds size) → units ≡ min cap (x * 10 ^ more) →
     IsRoundedWithCap (number ds * 10 ^ up) (f + down) cap units 0
-capped_many ds w f up down cap k size more x units digits is_size sum places behind all e =
+capped_many ds w f up down cap k size more x units has behind all e =
+    let is_size : length ds ≡ size = has.is_size in
     let own : k - length ds ≡ more + 24 = omega arith in
     let power : 10 ^ (more + 24) ≡ 10 ^ more * 10 ^ 24 = pow-add 10 more 24 in
     let value : kept_and_rounded ds k ≡ kept ds size * 10 ^ (more + 24) =
@@ -82,7 +93,8 @@ capped_many ds w f up down cap k size more x units digits is_size sum places beh
     let whole : kept_and_rounded ds k ≡ kept ds size * 10 ^ more * 10 ^ 24 = value ∙ product_regrouped (kept ds size) (10 ^ more) (10 ^ (more + 24)) (10 ^ 24) power in
     record {
       m = kept ds size * 10 ^ more;
-      rounds = subst (λ n. RoundsHalfUp (number ds * 10 ^ up * 10 ^ 24) (10 ^ (f + down)) n) whole (units_kept ds w f up down 24 k digits (omega arith) places);
+      rounds = subst (λ n. RoundsHalfUp (number ds * 10 ^ up * 10 ^ 24) (10 ^ (f + down)) n) whole
+          (units_kept ds w f up down 24 k has.digits (is_size ∙ has.sum) has.places);
       capped = e ∙ ap (λ y. min cap (y * 10 ^ more)) all ∙ min_mul cap (kept ds size) (10 ^ more) (ten_pow_pos more);
       places = lit≤ tt;
     }

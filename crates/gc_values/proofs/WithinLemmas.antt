@@ -126,12 +126,12 @@ within_units a b area =
     (in_units a.digits (10 ^ a.scale) (10 ^ (24 - a.scale)) b.digits (10 ^ b.scale) (10 ^ (24 - b.scale)) (10 ^ 24) (whole_place a.scale a.has_few_places) (whole_place b.scale b.has_few_places))
     (whole_place area.scale area.has_few_places)
 
--- a test that is true holds
+-- `T b` follows from `IsTrue b`: both say that the test b is true
 test_passes : (b : Bool) → IsTrue b → T b
 test_passes true h = tt
 test_passes false h = absurd (cc)
 
--- a test that holds is true
+-- `IsTrue b` follows from `T b`: both say that the test b is true
 passes_test : (b : Bool) → T b → IsTrue b
 passes_test true h = refl
 passes_test false h = absurd h

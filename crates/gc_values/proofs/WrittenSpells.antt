@@ -132,7 +132,7 @@ parts_spell sign m s a m_is canonical places =
       exact_rounds (value parts) 24 m s canonical places same,
     )
 
--- a decimal's written text spells the decimal
+-- the written text of m / 10^s, which needs all its places and has at most 24, spells m / 10^s
 pub written_spells : (m : ℤ) (s : ℕ) → IsCanonical m s → s ≤ 24 → Spells (written m s) m s
 written_spells (pos n) s canonical places = parts_spell Absent (pos n) s n refl canonical places
 written_spells (negsuc n) s canonical places = parts_spell Minus (negsuc n) s (suc n) refl canonical places

@@ -1,4 +1,4 @@
--- No part of a promise: how far the slow reader of parameters is while it is asked for them one by one.
+-- No part of a promise: how far the slow reader of parameters, `Listed`, is while it is asked for them one by one.
 use Rattle.std.specs.Prelude.{◌≡◌, ◌≢◌, ◌+◌, ◌≤◌, ℕ, List, length, drop, Option, Some, None, Result, Ok, Err}
 use Rattle.gc_values.specs.Lists.{AreItems, FirstFault}
 use Rattle.gc_values.specs.declared.fault.ValueFault.{ValueFault}
@@ -14,14 +14,14 @@ pub record AreItemsReadFrom (items : List (List ℕ)) (place : ℕ) (fault : Opt
   pub read : AreItems (drop place items) vs
 
 -- the first fault of all items: the one that was found so far, or, where none was, the first of these items for these kinds
-abbrev pub IsFirstFault : (found : Option ValueFault) (ks : List Kind) (items : List (List ℕ)) → ValueFault → Type 0
-IsFirstFault (Some kept) ks items e = e ≡ kept
-IsFirstFault None ks items e = FirstFault ks items e
+abbrev pub IsFoundOrFirstFault : (found : Option ValueFault) (ks : List Kind) (items : List (List ℕ)) → ValueFault → Type 0
+IsFoundOrFirstFault (Some kept) ks items e = e ≡ kept
+IsFoundOrFirstFault None ks items e = FirstFault ks items e
 
 -- why the items from this place on aren't of these kinds: there are more or fewer, or else the first fault
 pub data IsFaultFrom (items : List (List ℕ)) (place : ℕ) (fault : Option ValueFault) (ks : List Kind) (e : ValueFault) : Type 0 where
   wrong_count : e ≡ Count → length ks + place ≢ length items → IsFaultFrom items place fault ks e
-  first_fault : length ks + place ≡ length items → IsFirstFault fault ks (drop place items) e → IsFaultFrom items place fault ks e
+  first_fault : length ks + place ≡ length items → IsFoundOrFirstFault fault ks (drop place items) e → IsFaultFrom items place fault ks e
 
 -- where the list was split into items, those from this place on read as the values, as `AreItemsReadFrom` has it; a list that was refused
 -- as a whole isn't read as any values

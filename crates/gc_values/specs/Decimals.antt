@@ -1,9 +1,11 @@
--- A decimal's value, its order and its rounding. Which way a tie is rounded is this project's own.
-use Rattle.std.specs.Prelude.{ℕ, IsTrue, ◌*◌, ◌^◌, ◌==◌, ◌&&◌, Bool, ℤ, pos, ◌*ℤ◌, int_le, unsigned_abs}
+-- A decimal's value, its order, its rounding and its texts. Which way a tie is rounded is this project's own.
+use Rattle.std.specs.Prelude.{◌≡◌, ℕ, List, Result, Ok, IsTrue, ◌*◌, ◌^◌, ◌==◌, ◌&&◌, Bool, ℤ, pos, ◌*ℤ◌, int_le, unsigned_abs}
 use Rattle.std.specs.Ordering.{int_cmp, int_eq, on}
 use Rattle.std.specs.declared.cmp.Ordering.{Ordering}
 use Rattle.gc_values.specs.Fraction.{Fraction, is_decimal, signed, is_negative, distance, units_of}
 use Rattle.gc_values.specs.Nearest.{rounded_to}
+use Rattle.gc_values.specs.Spelling.{Spells}
+use Rattle.gc_values.specs.Written.{written}
 use Rattle.gc_values.specs.declared.decimal.Decimal.{Decimal}
 use Rattle.gc_values.specs.RoundedFacts.{decimal_few, decimal_in_range, decimal_canonical, zero_few, zero_in_range, zero_canonical, rounded_few, rounded_in_range, rounded_canonical}
 
@@ -19,7 +21,7 @@ decimal m s h = record { digits = m; scale = s; has_few_places = decimal_few m s
 abbrev pub zero : Decimal
 zero = record { digits = pos 0; scale = 0; has_few_places = zero_few; is_in_range = zero_in_range; is_canonical = zero_canonical }
 
--- the decimal rounded to p places, half away from zero, as the law `rounded_is_the_rounding` says
+-- the decimal rounded to at most p places, half away from zero, as the law `rounded_is_the_rounding` says
 unfoldable pub rounded : Decimal → ℕ → Decimal
 rounded d p = record {
   digits = signed (is_negative d.digits) (rounded_to (unsigned_abs d.digits) d.scale p).digits;
@@ -44,3 +46,11 @@ decimal_cmp = on units int_cmp
 -- whether a and b are at most the distance `area` apart; never, where `area` is below zero
 unfoldable pub is_within : Decimal → Decimal → Decimal → Bool
 is_within a b area = int_le (pos (distance a.digits a.scale b.digits b.scale * 10 ^ area.scale)) (area.digits *ℤ pos (10 ^ a.scale * 10 ^ b.scale))
+
+-- where the text spells a decimal, the result is this decimal
+abbrev pub GivesSpelled : {E : Type 0} → (text : List ℕ) → Result Decimal E → Type 0
+GivesSpelled text result = (d : Decimal) → Spells text d.digits d.scale → result ≡ Ok d
+
+-- where the text is the one that is written of a decimal, the result is this decimal
+abbrev pub GivesWritten : {E : Type 0} → (text : List ℕ) → Result Decimal E → Type 0
+GivesWritten text result = (d : Decimal) → text ≡ written d.digits d.scale → result ≡ Ok d

@@ -1,7 +1,7 @@
 -- Directions of a telescope, and whether one is near another: on the circle, and whichever face it was measured in. That angles are in
 -- radians and which of them face II has are the manual's; the bounds are this project's own. Every number is a whole one, in units of
 -- 10^-24 radians, the last place that a decimal may have: so nothing here is rounded.
-use Rattle.std.specs.Prelude.{◌≡◌, ◌≤◌, ◌&&◌, ◌||◌, Bool, true, if◌then◌else◌, ℤ, pos, negsuc, ◌+ℤ◌, ◌-ℤ◌, ◌*ℤ◌, ◌≤ℤ◌, int_le, unsigned_abs}
+use Rattle.std.specs.Prelude.{◌≡◌, ◌↔◌, ◌≤◌, ◌&&◌, ◌||◌, Bool, true, if◌then◌else◌, ℤ, pos, negsuc, ◌+ℤ◌, ◌-ℤ◌, ◌*ℤ◌, ◌≤ℤ◌, int_le, unsigned_abs}
 use Rattle.gc_values.specs.Decimals.{units}
 use Rattle.gc_values.specs.declared.decimal.Decimal.{Decimal}
 use Rattle.gc_values.specs.declared.direction.Direction.{Direction}
@@ -15,12 +15,12 @@ abbrev pub turn : ℤ
 turn = pos 6283185307179586476925286
 
 -- the vertical angle v in face I: as it comes where it is at most half a turn, and else, because the telescope is in face II, 2P - v
-abbrev pub v_of : Direction → ℤ
-v_of d = if int_le (units d.v) half_turn then units d.v else turn -ℤ units d.v
+abbrev pub v_in_face_one : Direction → ℤ
+v_in_face_one d = if int_le (units d.v) half_turn then units d.v else turn -ℤ units d.v
 
 -- the horizontal direction h in face I: as it comes where v is at most half a turn, and else h - P
-abbrev pub hz_of : Direction → ℤ
-hz_of d = if int_le (units d.v) half_turn then units d.hz else units d.hz -ℤ half_turn
+abbrev pub hz_in_face_one : Direction → ℤ
+hz_in_face_one d = if int_le (units d.v) half_turn then units d.hz else units d.hz -ℤ half_turn
 
 -- whether x and y are at most `most` apart
 abbrev pub is_close : (most x y : ℤ) → Bool
@@ -39,7 +39,7 @@ is_close_on_circle most x y =
 -- whether a direction is near a place: both of its angles, as face I has them, are at most the tolerance away
 unfoldable pub is_near : Direction → Direction → Decimal → Bool
 is_near d place tolerance =
-    is_close (units tolerance) (v_of d) (units place.v) && is_close_on_circle (units tolerance) (hz_of d) (units place.hz)
+    is_close (units tolerance) (v_in_face_one d) (units place.v) && is_close_on_circle (units tolerance) (hz_in_face_one d) (units place.hz)
 
 -- whether x is from 0 to `most`, both included
 abbrev pub is_up_to : (most x : ℤ) → Bool
@@ -58,9 +58,9 @@ is_tolerance t = is_up_to half_turn (units t)
 pub record IsNear (d place : Direction) (tolerance : Decimal) : Type 0 where
   pub turns : ℤ
   pub few : unsigned_abs turns ≤ 2
-  pub v_near : pos (unsigned_abs (v_of d -ℤ units place.v)) ≤ℤ units tolerance
-  pub hz_near : pos (unsigned_abs (hz_of d +ℤ turns *ℤ turn -ℤ units place.hz)) ≤ℤ units tolerance
+  pub v_near : pos (unsigned_abs (v_in_face_one d -ℤ units place.v)) ≤ℤ units tolerance
+  pub hz_near : pos (unsigned_abs (hz_in_face_one d +ℤ turns *ℤ turn -ℤ units place.hz)) ≤ℤ units tolerance
 
 -- the test `is_near` is true exactly where a direction is near a place, as `IsNear` has it
 abbrev pub NearIsWithinTheTolerance : Type 0
-NearIsWithinTheTolerance = (d place : Direction) (tolerance : Decimal) → (is_near d place tolerance ≡ true → IsNear d place tolerance) × (IsNear d place tolerance → is_near d place tolerance ≡ true)
+NearIsWithinTheTolerance = (d place : Direction) (tolerance : Decimal) → (is_near d place tolerance ≡ true) ↔ IsNear d place tolerance

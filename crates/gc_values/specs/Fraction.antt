@@ -41,8 +41,8 @@ is_decimal m s = nat_le s 24 && (nat_le (unsigned_abs m) (10 ^ 13 * 10 ^ s) && (
 abbrev pub distance : (m : ℤ) (s : ℕ) (n : ℤ) (k : ℕ) → ℕ
 distance m s n k = unsigned_abs (m *ℤ pos (10 ^ k) -ℤ n *ℤ pos (10 ^ s))
 
--- m / 10^s is q rounded to p places: it has at most p places, no whole number of 10^-p is nearer to q, and of
--- two that are equally near m / 10^s is the one further from 0
+-- m / 10^s is q rounded to p places: it has no place more than it needs, and at most p; no whole number of 10^-p is nearer to q, and
+-- of two that are equally near m / 10^s is the one further from 0
 pub record IsRounded (q : Fraction) (p : ℕ) (m : ℤ) (s : ℕ) : Type 0 where
   pub canonical : IsCanonical m s
   pub places : s ≤ p

@@ -18,6 +18,7 @@ pub mod Plainly
 pub mod Pieces
 pub mod RoundedFacts
 pub mod Spelling
+pub mod Taken
 pub mod Text
 pub mod ValueFault
 pub mod Whole

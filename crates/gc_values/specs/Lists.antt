@@ -1,9 +1,9 @@
 -- Parameter lists and their values: which lists are read as which values, and why a list isn't one of values of given
 -- kinds. The kinds are the GeoCOM manual's; the order of the faults is this project's own.
-use Rattle.std.specs.Prelude.{◌≡◌, ◌≢◌, ◌⊎◌, ◌<◌, ◌≤◌, ◌%◌, ℕ, List, [], ◌∷◌, length, map}
+use Rattle.std.specs.Prelude.{◌≡◌, ◌≢◌, ◌⊎◌, ◌<◌, ◌≤◌, ℕ, List, [], ◌∷◌, length, map}
 use Rattle.std.specs.List.{AllByRecursion}
 use Rattle.gc_values.specs.Item.{kind_of, IsItem, IsItemFault, IsValue}
-use Rattle.gc_values.specs.Params.{IsParams, quotes}
+use Rattle.gc_values.specs.Params.{IsParams, HasOpenQuote}
 use Rattle.gc_values.specs.declared.fault.ValueFault.{ValueFault}
 use Rattle.gc_values.specs.declared.fault.ValueFault.TheVariants.{OpenQuote, TooMany, Count}
 use Rattle.gc_values.specs.declared.value.Kind.{Kind}
@@ -41,7 +41,7 @@ pub data IsItemsFault (kinds : List Kind) (items : List (List ℕ)) (e : ValueFa
 
 -- why the parameters are no list of values of the kinds: an odd number of double quotes, else a fault of the items
 pub data IsListFault (kinds : List Kind) (params : List ℕ) (e : ValueFault) : Type 0 where
-  open_quote : e ≡ OpenQuote → quotes params % 2 ≡ 1 → IsListFault kinds params e
+  open_quote : e ≡ OpenQuote → HasOpenQuote params → IsListFault kinds params e
   faulty_items : (items : List (List ℕ)) → IsParams params items → IsItemsFault kinds items e → IsListFault kinds params e
 
 -- each value lies in its kind's range

@@ -12,7 +12,7 @@ pub record RoundsHalfUp (a b m : ℕ) : Type 0 where
   pub near : 2 * gap a (m * b) ≤ b
   pub tie : 2 * gap a (m * b) ≡ b → a < m * b
 
--- the number that `RoundsHalfUp` is true of, computed
+-- the whole number nearest to a / b, for b above 0, and of two that are equally near the greater one, as `RoundsHalfUp` has it
 abbrev pub half_up : (a b : ℕ) → ℕ
 half_up a b = (2 * a + b) / (2 * b)
 
@@ -29,6 +29,6 @@ pub record MadeOf (negative : Bool) (magnitude p : ℕ) (m : ℤ) (s : ℕ) : Ty
   pub m_is : m ≡ signed negative n
   pub zeros : WithoutZeros magnitude p n s
 
--- m / 10^s rounded to at most p places, half up, without the zeros at its end
+-- m / 10^s rounded to at most p places, as `half_up` has it, without the zeros at its end
 abbrev pub rounded_to : (m s p : ℕ) → Placed
 rounded_to m s p = stripped (half_up m (10 ^ (s - p))) (min s p)

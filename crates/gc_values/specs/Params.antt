@@ -1,11 +1,15 @@
 -- Parameter lists: parameters between commas, and strings in double quotes, as in the GeoCOM manual's chapter on the ASCII
 -- protocol. That spaces round a parameter don't count is this project's own.
-use Rattle.std.specs.Prelude.{◌≡◌, ℕ, ◌%◌, ◌==◌, List, [], ◌∷◌, ◌++◌, replicate, count_by}
+use Rattle.std.specs.Prelude.{◌≡◌, ℕ, ◌%◌, ◌<◌, ◌≤◌, ◌==◌, List, [], ◌∷◌, ◌++◌, length, replicate, count_by, Result, Ok}
 use Rattle.std.specs.List.{flat_map}
 
 -- how many double quotes are in the bytes
 abbrev pub quotes : List ℕ → ℕ
 quotes bytes = count_by (λ b. b == 34) bytes
+
+-- the bytes have an odd number of double quotes, so that one of them has no partner
+abbrev pub HasOpenQuote : List ℕ → Type 0
+HasOpenQuote bytes = quotes bytes % 2 ≡ 1
 
 -- the bytes are spaces alone, or none
 abbrev pub AreSpaces : List ℕ → Type 0
@@ -48,14 +52,22 @@ abbrev pub joined : List (List ℕ) → List ℕ
 joined [] = []
 joined (t ∷ ts) = t ++ flat_map (λ u. 44 ∷ u) ts
 
--- the bytes are the parameters joined by commas, with any spaces round each, and not spaces alone
+-- the bytes are the parameters joined by commas, with any spaces round each, and have a byte that is no space
 pub record AreJoined (bytes : List ℕ) (items : List (List ℕ)) : Type 0 where
   pub pieces : List (List ℕ)
   pub bytes_are : bytes ≡ joined pieces
   pub pieces_are : ArePieces pieces items
   pub some : AreSpaces bytes → ⊥
 
--- the bytes are a list of these parameters, which are none exactly where the bytes are spaces alone
+-- the bytes are a list of these parameters, which are none exactly where there are no bytes but spaces
 abbrev pub IsParams : List ℕ → List (List ℕ) → Type 0
 IsParams bytes [] = AreSpaces bytes
 IsParams bytes (item ∷ items) = AreJoined bytes (item ∷ items)
+
+-- the bytes are a list of more than 16 parameters. The limit is this project's own
+abbrev pub AreTooMany : List ℕ → Type 0
+AreTooMany bytes = (items : List (List ℕ)) × IsParams bytes items × (16 < length items)
+
+-- where the bytes are a list of at most 16 parameters, the result is these
+abbrev pub GivesFew : {E : Type 0} → (bytes : List ℕ) → Result (List (List ℕ)) E → Type 0
+GivesFew bytes result = (items : List (List ℕ)) → IsParams bytes items → length items ≤ 16 → result ≡ Ok items

@@ -86,7 +86,7 @@ rounded_to_zeros m s p = stripped_is (half_up m (10 ^ (s - p))) (min s p)
 pub rounded_few : (m s p : ℕ) → s ≤ 24 → (rounded_to m s p).places ≤ 24
 rounded_few m s p h = let w = (rounded_to_zeros m s p).fewer in omega (arith, w)
 
--- s less the lesser of s and p is s less p
+-- what is left of s without the lesser of s and p is what is left of it without p: 0 where p is the greater
 min_off : (s p : ℕ) → s - min s p ≡ s - p
 min_off s p = omega arith
 

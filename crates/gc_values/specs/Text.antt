@@ -11,6 +11,10 @@ IsStringByte b = (b ≢ 34) × (b ≢ 13) × (b ≢ 10)
 abbrev pub AreStringBytes : List ℕ → Type 0
 AreStringBytes bytes = AllByRecursion IsStringByte bytes
 
+-- bytes that are all allowed in a string, more than the 64 that it may have
+abbrev pub AreTooLong : List ℕ → Type 0
+AreTooLong bytes = AreStringBytes bytes × (64 < length bytes)
+
 -- the bytes may be those of a string parameter: at most 64, each of which is allowed in a string
 pub record IsText (bytes : List ℕ) : Type 0 where
   pub few : length bytes ≤ 64

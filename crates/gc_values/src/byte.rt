@@ -10,7 +10,7 @@ use crate::fault::ValueFault;
 use arrayvec::ArrayVec;
 use hex::{decode_to_slice, encode_to_slice};
 
-/// The byte that two hexadecimal digits write. `None`: the bytes aren't two such digits.
+/// The byte that two hexadecimal digits, of either case, write. `None`: the bytes aren't two such digits.
 fn hex_byte(digits: &[u8]) -> Option<u8>
     ensures { MatchResult (decode_sized digits.now 1)
         (λ bytes. IsSomeAnd result (λ b. bytes ≡ b ∷ []))
@@ -24,7 +24,7 @@ fn hex_byte(digits: &[u8]) -> Option<u8>
 }
 
 /// The two bytes that are between single quotes. `None`: the item isn't two bytes between two single quotes.
-fn between_quotes(item: &[u8]) -> Option<(u8, u8)>
+fn pair_between_quotes(item: &[u8]) -> Option<(u8, u8)>
     ensures found { IfSome result (λ d. item.now ≡ 39 ∷ d.0 ∷ d.1 ∷ 39 ∷ []) }
     ensures none { IfNone result ((a b : ℕ) → item.now ≡ 39 ∷ a ∷ b ∷ 39 ∷ [] → ⊥) }
 {
@@ -41,7 +41,7 @@ pub fn read_byte(item: &[u8]) -> Result<u8, ValueFault>
     ensures only { (n : ℕ) → IsByte item.now n → result ≡ Ok n }
     ensures fault { IfErr result (λ e. (e ≡ ValueFault.Spelling) × IsNoByte item.now) }
 {
-    let Some((a, b)) = between_quotes(item) else {
+    let Some((a, b)) = pair_between_quotes(item) else {
         return Err(ValueFault::Spelling);
     };
     match hex_byte(&[a, b]) {

@@ -40,8 +40,8 @@ fn cut_mark(text: &[u8]) -> Option<&[u8]>
     }
 }
 
-/// The number that one to three digits write. `None`: the text is something else.
-fn short_number(text: &[u8]) -> Option<u16>
+/// The number that an exponent's digits write, of which there are one to three. `None`: the text is something else.
+fn exponent_number(text: &[u8]) -> Option<u16>
     ensures found { IfSome result (λ n. IsExponentDigits text.now × (n ≡ number text.now) × (n < 1000)) }
     ensures none { IfNone result (IsExponentDigits text.now → ⊥) }
 {
@@ -58,7 +58,7 @@ fn short_number(text: &[u8]) -> Option<u16>
     Some(value)
 }
 
-/// Reads an exponent: how many times it multiplies by ten, and how many times it divides by ten. An empty text, which is no
+/// How many times the exponent that a text writes multiplies by ten, and how many times it divides by ten. An empty text, which is no
 /// exponent, is (0, 0). `None`: the text is something else.
 pub fn exponent(text: &[u8]) -> Option<(u16, u16)>
     ensures found { IfSome result (λ r. ReadsExponent text.now r.0 r.1) }
@@ -71,7 +71,7 @@ pub fn exponent(text: &[u8]) -> Option<(u16, u16)>
     }
     let rest = cut_mark(text)?;
     let (negative, digits) = cut_sign(rest);
-    let value = short_number(digits)?;
+    let value = exponent_number(digits)?;
     Some(if negative { (0, value) } else { (value, 0) })
 }
 

@@ -3,13 +3,14 @@
 //! Both limits, and which way a tie is rounded, are this project's own. Nothing here is a floating point
 //! number, so that 1.99975 at three places is 2.0 for everybody.
 
-ghost use Rattle.std.specs.Prelude.{◌≡◌, ◌≢◌, ◌+◌, ◌*◌, ◌/◌, ◌%◌, ◌^◌, ◌<◌, ◌≤◌, ◌++◌, ◌↔◌, IsOk, IfOk, IfErr, MatchResult, IsTrue, ◌⊎◌, ◌∷◌, [], length, if◌then◌else◌, ℕ, unsigned_abs};
+ghost use Rattle.std.specs.Prelude.{◌≡◌, ◌≢◌, ◌+◌, ◌*◌, ◌/◌, ◌%◌, ◌^◌, ◌<◌, ◌≤◌, ◌++◌, ◌↔◌, IsOk, IfOk, IfErr, MatchResult, IsTrue, ◌∷◌, [], length, if◌then◌else◌, ℕ, unsigned_abs};
 ghost use Rattle.std.proofs.Common.{rules};
 ghost use Rattle.std.specs.Cmp.Rules.{comparing};
 ghost use Rattle.std.specs.Ordering.{as_partial_cmp};
 ghost use Rattle.gc_values.specs.Fraction.{signed, SameValue, IsCanonical, IsInRange};
 ghost use Rattle.gc_values.specs.Nearest.{MadeOf, RoundsHalfUp};
 ghost use Rattle.gc_values.specs.Spelling.{Spells, SpellsBeyond, SpellsNothing};
+ghost use Rattle.gc_values.specs.ValueFault.{IsEither};
 ghost use Rattle.gc_values.specs.Written.{written, behind_text};
 ghost use Rattle.gc_values.specs.Zeros.{WithoutZeros};
 ghost use Rattle.arrayvec.specs.ArrayVec.{array_vec_len};
@@ -19,7 +20,7 @@ use crate::limits::{BOUND, PLACES};
 use crate::numeral::cut_numeral;
 use crate::power::power_of_ten;
 use crate::tail::Tail;
-use crate::units::units;
+use crate::units::rounded_units;
 use arrayvec::ArrayVec;
 use std::cmp::Ordering;
 use std::{fmt, str};
@@ -50,8 +51,8 @@ fn without_short_zeros(mut digits: u64, mut scale: u8) -> (u64, u8)
     (digits, scale)
 }
 
-/// `magnitude / 10^scale` without the zeros at its end, as its magnitude and its scale. It is computed in 64 bits where the
-/// magnitude fits, because a division of 128 bits is slow.
+/// `magnitude / 10^scale` without the zeros at the end of its places, as its magnitude and its scale. It is computed in 64 bits where
+/// the magnitude fits, because a division of 128 bits is slow.
 fn without_zeros(mut magnitude: u128, mut scale: u8) -> (u128, u8)
     ensures { WithoutZeros magnitude scale result.0 result.1 }
 {
@@ -88,8 +89,8 @@ fn nearest(a: u128, b: u128) -> u128
     if rest >= b - rest { below + 1 } else { below }
 }
 
-/// Writes the digits after the point of `magnitude / 10^scale` into an empty `tail`, at least one, and returns the integer
-/// part.
+/// Writes the digits after the point of `magnitude / 10^scale` into an empty `tail`: as many as the scale is, or a lone zero where it
+/// is 0. Returns the integer part.
 fn put_places(tail: &mut Tail, magnitude: u128, scale: u8) -> u64
     requires empty { tail.old ≡ [] }
     requires places { scale ≤ 24 }
@@ -111,7 +112,7 @@ fn put_places(tail: &mut Tail, magnitude: u128, scale: u8) -> u64
     whole as u64
 }
 
-/// The number with this sign and magnitude.
+/// The number of this magnitude, with a minus where `negative`.
 fn with_sign(negative: bool, magnitude: u128) -> i128
     requires { magnitude < 2 ^ 127 }
     ensures { result ≡ signed negative magnitude }
@@ -120,7 +121,7 @@ fn with_sign(negative: bool, magnitude: u128) -> i128
     if negative { -digits } else { digits }
 }
 
-/// Appends a decimal's written form, which has at most 40 bytes.
+/// Appends a decimal's one written form, as [`Decimal::write`] returns it, which has at most 40 bytes.
 pub fn push_decimal<const N: usize>(out: &mut ArrayVec<u8, N>, d: &Decimal)
     requires room { array_vec_len out.old + 40 ≤ N }
     ensures items { out.new.items ≡ out.old.items ++ written d.now.digits d.now.scale }
@@ -135,7 +136,7 @@ pub fn push_decimal<const N: usize>(out: &mut ArrayVec<u8, N>, d: &Decimal)
 impl Decimal {
     ghost use Rattle.gc_values.specs.declared.decimal.Decimal.{Decimal};
     ghost use Rattle.gc_values.specs.Fraction.{is_decimal, IsRounded, IsWithin, units_of};
-    ghost use Rattle.gc_values.specs.Decimals.{decimal, fraction, is_within, rounded, zero};
+    ghost use Rattle.gc_values.specs.Decimals.{GivesSpelled, GivesWritten, decimal, fraction, is_within, rounded, zero};
     ghost use Rattle.gc_values.specs.Written.{minus_text};
 
     /// The decimal 0.0.
@@ -148,7 +149,8 @@ impl Decimal {
         }
     }
 
-    /// The decimal `digits / 10^scale`, of which the caller has shown that it is one: `Decimal::literal(15, 1)` is 1.5.
+    /// The decimal `digits / 10^scale`, as it is: `Decimal::literal(15, 1)` is 1.5. The caller has shown that it is at most 10^13 from
+    /// zero, and has at most 24 places and none that it doesn't need.
     pub fn literal(digits: i128, scale: u8) -> Decimal
         requires { IsTrue (is_decimal digits scale) }
         ensures { (h : IsTrue (is_decimal digits scale)) → result ≡ decimal digits scale h }
@@ -167,12 +169,12 @@ impl Decimal {
         if scale > PLACES {
             return Err(ValueFault::Range);
         }
-        Decimal::in_range(digits < 0, digits.unsigned_abs(), scale)
+        Decimal::try_from_parts(digits < 0, digits.unsigned_abs(), scale)
     }
 
-    /// The decimal of `magnitude / 10^scale` with this sign. It is refused as `Range` exactly where `magnitude / 10^scale` is above
-    /// 10^13.
-    fn in_range(negative: bool, magnitude: u128, scale: u8) -> Result<Decimal, ValueFault>
+    /// The decimal of the value `magnitude / 10^scale`, with a minus where `negative`. It is refused as `Range` exactly where
+    /// `magnitude / 10^scale` is above 10^13.
+    fn try_from_parts(negative: bool, magnitude: u128, scale: u8) -> Result<Decimal, ValueFault>
         requires { scale ≤ 24 }
         ensures made { IfOk result (λ d. MadeOf negative magnitude scale d.digits d.scale) }
         ensures exact { MatchResult result (λ _. magnitude ≤ 10 ^ 13 * 10 ^ scale)
@@ -184,7 +186,7 @@ impl Decimal {
         Ok(Decimal::from_parts(negative, magnitude, scale))
     }
 
-    /// The decimal of `magnitude / 10^scale` with this sign.
+    /// The decimal of the value `magnitude / 10^scale`, which is at most 10^13, with a minus where `negative`.
     pub(crate) fn from_parts(negative: bool, magnitude: u128, scale: u8) -> Decimal
         requires places { scale ≤ 24 }
         requires range { magnitude ≤ 10 ^ 13 * 10 ^ scale }
@@ -204,17 +206,17 @@ impl Decimal {
     /// than 10^13 from zero as `Range`.
     pub fn read(text: &[u8]) -> Result<Decimal, ValueFault>
         ensures value { IfOk result (λ d. Spells text.now d.digits d.scale) }
-        ensures only { (d : Decimal) → Spells text.now d.digits d.scale → result ≡ Ok d }
-        ensures again { (d : Decimal) → text.now ≡ written d.digits d.scale → result ≡ Ok d }
+        ensures only { GivesSpelled text.now result }
+        ensures again { GivesWritten text.now result }
         ensures range { (result ≡ Err ValueFault.Range) ↔ SpellsBeyond text.now }
         ensures spelling { (result ≡ Err ValueFault.Spelling) ↔ SpellsNothing text.now }
-        ensures faults { IfErr result (λ e. (e ≡ ValueFault.Range) ⊎ (e ≡ ValueFault.Spelling)) }
+        ensures faults { IfErr result (λ e. IsEither ValueFault.Range ValueFault.Spelling e) }
     {
         let Some(parts) = cut_numeral(text) else {
             return Err(ValueFault::Spelling);
         };
-        let (magnitude, scale) = units(parts.whole, parts.fraction, parts.up, parts.down);
-        Decimal::in_range(parts.negative, magnitude, scale)
+        let (magnitude, scale) = rounded_units(parts.whole, parts.fraction, parts.up, parts.down);
+        Decimal::try_from_parts(parts.negative, magnitude, scale)
     }
 
     /// The value rounded to at most this many places, half away from zero.

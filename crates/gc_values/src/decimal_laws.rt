@@ -60,13 +60,13 @@ pub fn equal_values_are_equal_decimals()
     ensures { (d e : Decimal) → SameValue d.digits d.scale e.digits e.scale ↔ (d ≡ e) }
 {}
 
-/// A fraction rounds to one decimal at most.
+/// A fraction rounds to one decimal at most for each number of places.
 pub fn rounding_is_unique()
     ensures { (q : Fraction) (p : ℕ) (d e : Decimal) → IsRounded q p d.digits d.scale
         → IsRounded q p e.digits e.scale → d ≡ e }
 {}
 
-/// The decimal that `rounded` computes is the rounding of the value.
+/// The decimal that `rounded` computes is the value rounded to the given number of places.
 pub fn rounded_is_the_rounding()
     ensures { (d : Decimal) (p : ℕ)
         → IsRounded (fraction d) p (rounded d p).digits (rounded d p).scale }
@@ -79,7 +79,7 @@ pub fn order_is_that_of_the_values()
 {}
 
 /// `is_within` says exactly whether two values are at most `area` apart.
-pub fn area_test_is_the_distance()
+pub fn is_within_is_the_distance()
     ensures { (a b area : Decimal)
         → IsTrue (is_within a b area) ↔ IsWithin (fraction a) (fraction b) (fraction area) }
 {}

@@ -2,7 +2,7 @@
 //! radians. A decimal has at most 10^37 of these, so that the sums here fit in 128 bits.
 
 ghost use Rattle.std.specs.Prelude.{◌≡◌, ◌≤◌, ◌*◌, ◌^◌, unsigned_abs};
-ghost use Rattle.gc_values.specs.Directions.{v_of, hz_of, is_close, is_close_turned, is_close_on_circle, is_near, is_up_to, is_place, is_tolerance};
+ghost use Rattle.gc_values.specs.Directions.{v_in_face_one, hz_in_face_one, is_close, is_close_turned, is_close_on_circle, is_near, is_up_to, is_place, is_tolerance};
 
 use crate::decimal::Decimal;
 
@@ -40,7 +40,8 @@ fn is_close_turned(most: i128, turns: i128, x: i128, y: i128) -> bool
     is_close(most, x + turns * TURN, y)
 }
 
-// Whether x and y are at most `most` apart on the circle: for some number of turns from -2 to 2, which are enough.
+// Whether x and y are at most `most` apart on the circle: for some number of turns from -2 to 2, which are enough where neither is more
+// than a turn from 0.
 fn is_close_on_circle(most: i128, x: i128, y: i128) -> bool
     requires first { unsigned_abs x ≤ 2 * 10 ^ 37 }
     requires second { unsigned_abs y ≤ 10 ^ 37 }
@@ -60,7 +61,7 @@ fn is_up_to(most: i128, x: i128) -> bool
     0 <= x && x <= most
 }
 
-/// Whether a number is a tolerance: from 0 to half a turn.
+/// Whether a number, in radians, is a tolerance: from 0 to half a turn, both included.
 #[tactic(auto, unfolding(crate::specs::Directions::is_tolerance))]
 pub fn is_tolerance(tolerance: &Decimal) -> bool
     ensures { result ≡ is_tolerance tolerance.now }
@@ -69,18 +70,19 @@ pub fn is_tolerance(tolerance: &Decimal) -> bool
 }
 
 impl Direction {
-    // The vertical angle as face I has it, in units of 10^-24 radians.
+    // The vertical angle as face I has it, in units of 10^-24 radians: where it is above half a turn, a whole turn minus it.
     fn v_in_face_one(&self) -> i128
-        ensures is { result ≡ v_of self.now }
+        ensures is { result ≡ v_in_face_one self.now }
         ensures bound { unsigned_abs result ≤ 2 * 10 ^ 37 }
     {
         let v = self.v.units();
         if v <= HALF_TURN { v } else { TURN - v }
     }
 
-    // The horizontal direction as face I has it, in units of 10^-24 radians.
+    // The horizontal direction as face I has it, in units of 10^-24 radians: where the vertical angle is above half a turn, the direction
+    // minus half a turn.
     fn hz_in_face_one(&self) -> i128
-        ensures is { result ≡ hz_of self.now }
+        ensures is { result ≡ hz_in_face_one self.now }
         ensures bound { unsigned_abs result ≤ 2 * 10 ^ 37 }
     {
         let hz = self.hz.units();
@@ -91,8 +93,9 @@ impl Direction {
         }
     }
 
-    /// Whether the direction is near a place, whichever face it was measured in: both of its angles are at most the tolerance away, the
-    /// horizontal one on the circle.
+    /// Whether the direction is near a place, whichever face it was measured in: both of its angles, as face I has them, are at most the
+    /// tolerance, in radians, from the place's angles as they are, the horizontal one after at most two whole turns either way. Where the
+    /// tolerance is below zero, nothing is near.
     pub fn is_near(&self, place: &Direction, tolerance: &Decimal) -> bool
         ensures { result ≡ is_near self.now place.now tolerance.now }
     {
@@ -102,7 +105,8 @@ impl Direction {
         v_is_near && hz_is_near
     }
 
-    /// Whether this is a place as face I has it: the horizontal direction from 0 to a turn, and the vertical angle from 0 to half a turn.
+    /// Whether this is a place as face I has it: the horizontal direction from 0 to a turn, and the vertical angle from 0 to half a turn,
+    /// all included.
     #[tactic(auto, unfolding(crate::specs::Directions::is_place))]
     pub fn is_place(&self) -> bool
         ensures { result ≡ is_place self.now }

@@ -8,7 +8,7 @@ use std::fmt;
 
 /// Why a value or a list of parameters is refused. The kinds and their numbers are this project's own.
 ///
-/// A refusal changes nothing: the bytes that were read are unchanged.
+/// No refusal changes the bytes that were read.
 #[derive(Clone, Copy, Debug, PartialEq, Eq)]
 pub enum ValueFault {
     /// The bytes haven't the form of their kind.
@@ -38,6 +38,7 @@ impl ValueFault {
     }
 }
 
+/// Why the value or the list is refused, in words.
 impl fmt::Display for ValueFault {
     ghost use Rattle.std.specs.Prelude.{Some};
     ghost use Rattle.gc_values.specs.ValueFault.{fault_text};

@@ -1,5 +1,5 @@
-//! A number at the front of a list of parameters in the common spelling, read in one pass through its comma: few
-//! digits, and where it is a decimal a point and digits. Every other number is left to other readers.
+//! Reads a number at the front of a list of parameters, and its comma, in one pass. Only the common spelling is read: at most 18
+//! digits without a sign, and for a decimal a point among or after them. Every other spelling is left to other readers.
 
 ghost use Rattle.std.specs.Prelude.{◌≡◌, ◌+◌, ◌*◌, ◌^◌, ◌≤◌, [], IfSome};
 ghost use Rattle.std.specs.Option.{option_copied};
@@ -11,8 +11,8 @@ use crate::limits::SHORT;
 /// Any number with this many digits before the point is in a decimal's range.
 const WHOLE: usize = 13;
 
-/// Reads the digits at the front of `text`, at most `most` of them. It returns the number that the digits of `front` and then
-/// those read write, and how many digits it read.
+/// Reads the digits at the front of `text`, at most `most` of them, and returns two numbers: `front * 10^count` plus the number
+/// that these digits write, and `count`, how many they are.
 #[inline]
 fn front_digits(front: u64, text: &[u8], most: usize) -> (u64, usize)
     requires { (front + 1) * 10 ^ most ≤ 10 ^ 18 }

@@ -2,19 +2,20 @@
 //! Commas between parameters and strings in double quotes are the GeoCOM manual's; the spaces round
 //! an item and the limit are this project's own.
 
-ghost use Rattle.std.specs.Prelude.{◌≡◌, ◌↔◌, ◌⊎◌, ◌<◌, ◌≤◌, ◌%◌, ◌++◌, ◌∷◌, [], List, ℕ, map, length, slice_index_or, IsTrue, IfOk, IfErr};
+ghost use Rattle.std.specs.Prelude.{◌≡◌, ◌↔◌, ◌<◌, ◌≤◌, [], List, ℕ, length, slice_index_or, IsTrue, IfOk, IfErr};
 ghost use Rattle.std.specs.Option.{option_copied};
-ghost use Rattle.gc_values.specs.Params.{quotes, IsParams};
+ghost use Rattle.gc_values.specs.Params.{AreTooMany, GivesFew, HasOpenQuote, IsParams};
 ghost use Rattle.gc_values.specs.Pieces.{CutsPiece, IsTrimmed, TrimsFront, TrimsBack};
+ghost use Rattle.gc_values.specs.ValueFault.{IsEither};
 
 use crate::fault::ValueFault;
 use arrayvec::ArrayVec;
 use std::marker::Model;
 
-/// The greatest number of parameters of a line.
+/// The greatest number of parameters of a list.
 pub const MOST_ITEMS: usize = 16;
 
-/// The items of a parameter list: at most 16 slices of the line, without the spaces round them.
+/// The items of a parameter list: at most 16 slices of the list, without the spaces round them.
 #[derive(Drop)]
 pub struct Items<'a> {
     slices: ArrayVec<&'a [u8], MOST_ITEMS>,
@@ -48,7 +49,7 @@ impl<'a> Items<'a> {
 
 /// Whether the number of double quotes is odd, so that one of them has no partner.
 fn has_open_quote(text: &[u8]) -> bool
-    ensures { IsTrue result ↔ (quotes text.now % 2 ≡ 1) }
+    ensures { IsTrue result ↔ HasOpenQuote text.now }
 {
     text.iter().filter(|byte| **byte == b'"').count() % 2 == 1
 }
@@ -108,12 +109,10 @@ fn trim(text: &[u8]) -> &[u8]
 /// `TooMany`.
 pub fn split(params: &[u8]) -> Result<Items<'_>, ValueFault>
     ensures found { IfOk result (λ items. IsParams params.now items × (length items ≤ 16)) }
-    ensures only { (items : List (List ℕ)) → IsParams params.now items → length items ≤ 16
-        → result ≡ Ok items }
-    ensures open_quote { (result ≡ Err ValueFault.OpenQuote) ↔ (quotes params.now % 2 ≡ 1) }
-    ensures too_many { (result ≡ Err ValueFault.TooMany)
-        ↔ ((items : List (List ℕ)) × IsParams params.now items × (16 < length items)) }
-    ensures faults { IfErr result (λ e. (e ≡ ValueFault.OpenQuote) ⊎ (e ≡ ValueFault.TooMany)) }
+    ensures only { GivesFew params.now result }
+    ensures open_quote { (result ≡ Err ValueFault.OpenQuote) ↔ HasOpenQuote params.now }
+    ensures too_many { (result ≡ Err ValueFault.TooMany) ↔ AreTooMany params.now }
+    ensures faults { IfErr result (λ e. IsEither ValueFault.OpenQuote ValueFault.TooMany e) }
 {
     if has_open_quote(params) {
         return Err(ValueFault::OpenQuote);

@@ -12,14 +12,14 @@ ghost use Rattle.gc_values.specs.declared.fault.ValueFault.{ValueFault};
 ghost use Rattle.gc_values.specs.declared.value.Kind.{Kind};
 ghost use Rattle.gc_values.specs.declared.value.Value.{Value};
 
-/// A value's written text reads as that value.
+/// The written text of a value in its kind's range reads as that value.
 pub fn written_is_read()
     ensures { (v : Value) → IsValue v → IsItem (text v) v }
 {}
 
 /// A whole number's written text is the one text that names it and has the form: an optional minus and no
 /// plus, no leading zero, and no minus on zero.
-pub fn one_text_has_the_form()
+pub fn one_whole_text_has_the_form()
     ensures { (z : ℤ) (text : List ℕ) → (text ≡ signed_text z)
         ↔ (HasWholeForm text × NamesWhole text z) }
 {}
@@ -36,7 +36,7 @@ pub fn one_fault()
         → IsItemFault k item e → IsItemFault k item f → e ≡ f }
 {}
 
-/// An item of a value has no fault for the value's kind.
+/// An item that is read as a value has no fault for the value's kind.
 pub fn item_has_no_fault()
     ensures { (v : Value) (item : List ℕ) (e : ValueFault)
         → IsItem item v → IsItemFault (kind_of v) item e → ⊥ }
@@ -48,18 +48,18 @@ pub fn one_list()
         → IsParams bytes xs → IsParams bytes ys → xs ≡ ys }
 {}
 
-/// The texts of values, joined by commas, split back into these texts.
+/// The written texts of values in their kinds' ranges, joined by commas, split back into these texts.
 pub fn joined_splits()
     ensures { (vs : List Value) → AllByRecursion IsValue vs
         → IsParams (joined (map text vs)) (map text vs) }
 {}
 
-/// The text of a value has no CR and no LF.
+/// The written text of a value in its kind's range has no CR and no LF.
 pub fn text_is_plain()
     ensures { (v : Value) → IsValue v → All (λ b. (b ≢ 10) × (b ≢ 13)) (text v) }
 {}
 
-/// The text of a value has 1 to 66 bytes.
+/// The written text of a value in its kind's range has 1 to 66 bytes.
 pub fn text_is_short()
     ensures some { (v : Value) → 0 < length (text v) }
     ensures few { (v : Value) → IsValue v → length (text v) ≤ 66 }

@@ -11,17 +11,17 @@ use crate::cutting::{cut_digits, cut_fraction, cut_sign, exponent};
 pub struct Numeral<'a> {
     /// Whether the sign is a minus.
     pub negative: bool,
-    /// The digits before the point.
+    /// The digits before the point, or all of them without a point. They may be none, where some follow the point.
     pub whole: &'a [u8],
-    /// The digits after the point.
+    /// The digits after the point; none without a point.
     pub fraction: &'a [u8],
-    /// How many times the exponent multiplies by ten.
+    /// How many times the exponent multiplies by ten; 0 without one, or where it has a minus.
     pub up: u16,
-    /// How many times the exponent divides by ten.
+    /// How many times the exponent divides by ten; 0 without one, or where it has no minus.
     pub down: u16,
 }
 
-/// Cuts a number's text into its parts. `None`: the text is no number.
+/// Cuts a number's text into its parts. `None`: the text hasn't the form that [`Decimal::read`](crate::Decimal::read) takes.
 pub fn cut_numeral(text: &[u8]) -> Option<Numeral<'_>>
     ensures found { IfSome result
         (λ n. ReadsNumeral text.now n.negative n.whole.now n.fraction.now n.up n.down) }

@@ -2,11 +2,11 @@
 //! takes, and learns at the end whether the list had just these kinds. That a list is refused for its quotes, its
 //! length, its count and its first faulty item, in this order, is this project's own.
 
-ghost use Rattle.std.specs.Prelude.{◌≡◌, ◌∷◌, [], ℕ, List, Some, IfErr, OnOk, MatchOption};
+ghost use Rattle.std.specs.Prelude.{◌≡◌, ◌∷◌, [], ℕ, List, Some, IfErr, OnOk};
 ghost use Rattle.gc_values.specs.Asked.{FailsFrom, ReadsFrom};
 ghost use Rattle.gc_values.specs.declared.decimal.Decimal.{Decimal};
-ghost use Rattle.gc_values.specs.Item.{kind_of};
 ghost use Rattle.gc_values.specs.Lists.{AreParams, IsListFault};
+ghost use Rattle.gc_values.specs.Taken.{TakesKind, TakesValue};
 ghost use Rattle.gc_values.specs.declared.fault.ValueFault.{ValueFault};
 ghost use Rattle.gc_values.specs.declared.value.Kind.{Kind};
 ghost use Rattle.gc_values.specs.declared.value.Value.{Value};
@@ -64,16 +64,16 @@ pub trait Parameters {
 /// The parameters of any list. Where they aren't what was asked for, [`Listed::finish`] names the list's fault.
 #[derive(Drop)]
 pub struct Listed<'a> {
-    // The items, or why there are none.
+    // The items, or why the list was refused as a whole.
     items: Result<Items<'a>, ValueFault>,
-    // How many items were asked for; at most one more than there are.
+    // How many items were asked for; at most one more than there are, and 0 where the list was refused.
     place: usize,
     // The fault of the first item that couldn't be read.
     fault: Option<ValueFault>,
 }
 
 impl<'a> Listed<'a> {
-    /// The parameters of a list, none of them asked for.
+    /// The parameters of a list, none of them asked for yet.
     pub fn new(params: &'a [u8]) -> Listed<'a>
         ensures reads { (vs : List Value) → ⟦<Listed<'a> as Parameters>⟧.reads result vs → AreParams params.now vs }
         ensures fails { (ks : List Kind) (e : ValueFault) → ⟦<Listed<'a> as Parameters>⟧.fails result ks e → IsListFault ks params.now e }
@@ -108,12 +108,11 @@ impl<'a> Listed<'a> {
         }
     }
 
-    /// The next item as a value of the kind. `None`: there is no next item, or it can't be read, and its fault is noted if it is the first.
+    /// Takes the next item as a value of the kind. `None`: the list was refused, or there is no next item, or it can't be read. An item
+    /// that can't be read is taken all the same, and its fault is kept if it is the list's first.
     fn take(&mut self, kind: Kind) -> Option<Value>
-        ensures reads { (vs : List Value) → ReadsFrom self.new.items self.new.place self.new.fault vs
-            → MatchOption result ⊥ (λ v. (kind_of v ≡ kind) × ReadsFrom self.old.items self.old.place self.old.fault (v ∷ vs)) }
-        ensures fails { (ks : List Kind) (e : ValueFault) → FailsFrom self.new.items self.new.place self.new.fault ks e
-            → FailsFrom self.old.items self.old.place self.old.fault (kind ∷ ks) e }
+        ensures reads { TakesValue kind self.old self.new result }
+        ensures fails { TakesKind kind self.old self.new }
     {
         let Ok(items) = &self.items else {
             return None;

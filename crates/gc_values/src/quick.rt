@@ -1,12 +1,13 @@
-//! Parameters in the common spelling, read in one pass and without a list of items: no spaces, no strings, no
-//! plus. Anything else is left to `Listed`. A list is called good while each parameter that was asked for was there in the common
-//! spelling.
+//! Parameters in the common spelling, read in one pass and without a list of items. An item in the common spelling isn't empty and has
+//! no byte below `-` but single quotes: no spaces, no double quotes, no plus. Anything else is left to `Listed`. A list is called good
+//! while each parameter that was asked for was there in the common spelling.
 
 ghost use Rattle.std.specs.Prelude.{◌≡◌, ◌∷◌, [], ℕ, pos, List, IfSome, IfNone, IsTrue, true};
 ghost use Rattle.std.specs.Option.{option_copied};
 ghost use Rattle.gc_values.specs.Item.{IsItem};
 ghost use Rattle.gc_values.specs.Lists.{AreParams};
 ghost use Rattle.gc_values.specs.Plainly.{CutsPlain, ReadsPlainly};
+ghost use Rattle.gc_values.specs.Taken.{TakesPlainly};
 ghost use Rattle.gc_values.specs.Whole.{NamesWhole};
 ghost use Rattle.gc_values.specs.declared.value.Value.{Value};
 
@@ -29,7 +30,7 @@ pub struct Quick<'a> {
 }
 
 impl<'a> Quick<'a> {
-    /// The parameters of a list, none of them asked for.
+    /// The parameters of a list, none of them asked for yet.
     #[inline]
     pub fn new(params: &'a [u8]) -> Quick<'a>
         ensures { (vs : List Value) → ⟦<Quick<'a> as Parameters>⟧.reads result vs → AreParams params.now vs }
@@ -55,7 +56,7 @@ impl<'a> Quick<'a> {
         self.good && self.rest.is_none()
     }
 
-    // The next item. Where none in the common spelling follows, the result is empty, and the list isn't good any more.
+    // Takes the next item. Where none in the common spelling follows, the result is empty, and the list isn't good any more.
     #[inline]
     fn item(&mut self) -> &'a [u8]
         ensures { (v : Value) (vs : List Value) → ReadsPlainly self.new.good (option_copied self.new.rest) vs → IsItem result.now v
@@ -71,7 +72,7 @@ impl<'a> Quick<'a> {
         &[]
     }
 
-    // The next whole number, if it has 1 to 18 digits and no sign. `None`: it hasn't, and nothing was taken.
+    // Takes the next parameter, if it is a whole number of 1 to 18 digits without a sign. `None`: it isn't, and nothing was taken.
     #[inline]
     fn number(&mut self) -> Option<u64>
         ensures reads { IfSome result (λ n. (v : Value) (vs : List Value) → ((item : List ℕ) → NamesWhole item (pos n) → IsItem item v)
@@ -87,11 +88,11 @@ impl<'a> Quick<'a> {
         None
     }
 
-    // The next decimal, also one with a minus, an exponent or many digits. Where none follows: zero, and the list isn't good any more.
+    // Takes the next item as a decimal, also one with a minus, an exponent or many digits. Where it is none: zero, and the list isn't
+    // good any more.
     #[inline(never)]
-    fn longer_double(&mut self) -> Decimal
-        ensures { (vs : List Value) → ReadsPlainly self.new.good (option_copied self.new.rest) vs
-            → ReadsPlainly self.old.good (option_copied self.old.rest) (Value.Double result ∷ vs) }
+    fn take_as_double(&mut self) -> Decimal
+        ensures { TakesPlainly (Value.Double result) self.old self.new }
     {
         match Decimal::read(self.item()) {
             Ok(d) => d,
@@ -102,11 +103,11 @@ impl<'a> Quick<'a> {
         }
     }
 
-    // The next whole number of 32 bits, also one with a minus or many digits. Where none follows: 0, and the list isn't good any more.
+    // Takes the next item as a whole number of 32 bits, also one with a minus or many digits. Where it is none: 0, and the list isn't
+    // good any more.
     #[inline(never)]
-    fn longer_long(&mut self) -> i32
-        ensures { (vs : List Value) → ReadsPlainly self.new.good (option_copied self.new.rest) vs
-            → ReadsPlainly self.old.good (option_copied self.old.rest) (Value.Long result ∷ vs) }
+    fn take_as_long(&mut self) -> i32
+        ensures { TakesPlainly (Value.Long result) self.old self.new }
     {
         match read_long(self.item()) {
             Ok(n) => n,
@@ -117,11 +118,11 @@ impl<'a> Quick<'a> {
         }
     }
 
-    // The next whole number of 16 bits, also one with a minus or many digits. Where none follows: 0, and the list isn't good any more.
+    // Takes the next item as a whole number of 16 bits, also one with a minus or many digits. Where it is none: 0, and the list isn't
+    // good any more.
     #[inline(never)]
-    fn longer_short(&mut self) -> i16
-        ensures { (vs : List Value) → ReadsPlainly self.new.good (option_copied self.new.rest) vs
-            → ReadsPlainly self.old.good (option_copied self.old.rest) (Value.Short result ∷ vs) }
+    fn take_as_short(&mut self) -> i16
+        ensures { TakesPlainly (Value.Short result) self.old self.new }
     {
         match read_short(self.item()) {
             Ok(n) => n,
@@ -132,11 +133,10 @@ impl<'a> Quick<'a> {
         }
     }
 
-    // The next Boolean, also one with a minus or many digits. Where none follows: false, and the list isn't good any more.
+    // Takes the next item as a Boolean, also one with a minus or many digits. Where it is none: false, and the list isn't good any more.
     #[inline(never)]
-    fn longer_boolean(&mut self) -> bool
-        ensures { (vs : List Value) → ReadsPlainly self.new.good (option_copied self.new.rest) vs
-            → ReadsPlainly self.old.good (option_copied self.old.rest) (Value.Bool result ∷ vs) }
+    fn take_as_boolean(&mut self) -> bool
+        ensures { TakesPlainly (Value.Bool result) self.old self.new }
     {
         match read_bool(self.item()) {
             Ok(n) => n,
@@ -148,8 +148,8 @@ impl<'a> Quick<'a> {
     }
 }
 
-// Each call first tries the shortest form of its kind. Where the next parameter isn't what was asked for, the call gives a zero,
-// and the list isn't good any more.
+// A call for a decimal, a whole number or a Boolean first tries the shortest form: few digits without a sign. Where the next parameter
+// isn't what was asked for, the call gives a zero (false, or an empty string), and the list isn't good any more.
 impl<'a> Parameters for Quick<'a> {
     ghost reads = { λ c vs. ReadsPlainly c.good (option_copied c.rest) vs };
 
@@ -163,13 +163,13 @@ impl<'a> Parameters for Quick<'a> {
                 return decimal;
             }
         }
-        self.longer_double()
+        self.take_as_double()
     }
 
     #[inline]
     fn long(&mut self) -> i32 {
         let Some(number) = self.number() else {
-            return self.longer_long();
+            return self.take_as_long();
         };
         match i32::try_from(number) {
             Ok(n) => n,
@@ -183,7 +183,7 @@ impl<'a> Parameters for Quick<'a> {
     #[inline]
     fn short(&mut self) -> i16 {
         let Some(number) = self.number() else {
-            return self.longer_short();
+            return self.take_as_short();
         };
         match i16::try_from(number) {
             Ok(n) => n,
@@ -208,7 +208,7 @@ impl<'a> Parameters for Quick<'a> {
     #[inline]
     fn boolean(&mut self) -> bool {
         let Some(number) = self.number() else {
-            return self.longer_boolean();
+            return self.take_as_boolean();
         };
         match number {
             0 => false,
@@ -220,7 +220,7 @@ impl<'a> Parameters for Quick<'a> {
         }
     }
 
-    // A string is never in the common spelling.
+    // A string has double quotes, and so is never in the common spelling.
     #[inline]
     fn text(&mut self) -> Text {
         self.good = false;

@@ -6,7 +6,7 @@ ghost use Rattle.gc_values.specs.Written.{whole_text, last_digits};
 
 use std::marker::Model;
 
-/// The most bytes that a written number has: a minus, 14 digits, a point and 24 digits.
+/// Room for each written number: a minus, at most 14 digits before the point, a point, and at most 24 digits after it.
 const ROOM: usize = 40;
 
 /// The end of a text of at most 40 bytes: it is at the end of `bytes`, from `start` on.
@@ -27,7 +27,7 @@ impl Model for Tail {
 }
 
 impl Tail {
-    /// The end of a text without any bytes.
+    /// A tail without any bytes.
     #[inline]
     pub fn new() -> Tail
         ensures { result ≡ [] }
@@ -48,7 +48,7 @@ impl Tail {
         self.bytes[self.start] = byte;
     }
 
-    /// Puts the last `count` digits of a number in front, with leading zeros, and returns the number without them.
+    /// Puts the last `count` digits of a number in front, zeros first where it has fewer, and returns `n / 10^count`, rounded down.
     #[inline]
     pub fn put_last(&mut self, n: u64, count: u8) -> u64
         requires { length self.old + count ≤ 40 }
@@ -65,7 +65,7 @@ impl Tail {
         rest
     }
 
-    /// Puts a whole number of at most 14 digits in front, without leading zeros.
+    /// Puts a whole number of at most 14 digits in front, without leading zeros; 0 is one zero.
     #[inline]
     pub fn put_whole(&mut self, n: u64)
         requires room { length self.old + 14 ≤ 40 }
@@ -83,7 +83,7 @@ impl Tail {
         }
     }
 
-    /// Puts a number of at most `count` digits in front, with leading zeros. The number may have more than 64 bits.
+    /// Puts a number of at most `count` digits in front as `count` digits, zeros first. The number may have more than 64 bits.
     pub fn put_fraction(&mut self, n: u128, count: u8)
         requires room { length self.old + count ≤ 40 }
         requires few { count ≤ 24 }

@@ -1,9 +1,10 @@
 //! Strings of at most 64 bytes: what may come between the double quotes, and how an item is read as one. The form is the
 //! GeoCOM manual's; the limit, and that a backslash is a plain byte, are this project's own.
 
-ghost use Rattle.std.specs.Prelude.{◌≡◌, ◌↔◌, ◌⊎◌, ◌+◌, ◌<◌, ◌≤◌, ◌-◌, ◌++◌, ◌∷◌, length, take, replicate, List, [], ℕ, IsOk, IfOk, IfErr, IfSome, IfNone, IsTrue};
+ghost use Rattle.std.specs.Prelude.{◌≡◌, ◌↔◌, ◌+◌, ◌≤◌, ◌-◌, ◌++◌, length, replicate, List, [], ℕ, IfOk, IfErr, IfSome, IfNone, IsTrue};
 ghost use Rattle.arrayvec.specs.ArrayVec.{array_vec_len};
-ghost use Rattle.gc_values.specs.Text.{IsStringByte, AreStringBytes, IsText, quoted, IsString, IsTextItem, IsNoString, IsLongString};
+ghost use Rattle.gc_values.specs.Text.{IsStringByte, AreStringBytes, AreTooLong, IsText, quoted, IsTextItem, IsNoString, IsLongString};
+ghost use Rattle.gc_values.specs.ValueFault.{IsEither};
 
 use crate::fault::ValueFault;
 use arrayvec::ArrayVec;
@@ -37,7 +38,7 @@ impl Model for Text {
     ghost inverse_ok = { padded_back };
 }
 
-/// Whether a byte is allowed in a string.
+/// Whether a byte is allowed in a string: neither a double quote nor CR nor LF.
 fn is_string_byte(byte: u8) -> bool
     ensures { IsTrue result ↔ IsStringByte byte }
 {
@@ -83,9 +84,8 @@ impl Text {
         ensures value { IfOk result (λ t. (t ≡ bytes.now) × IsText t) }
         ensures only { IsText bytes.now → result ≡ Ok bytes.now }
         ensures spelling { (result ≡ Err ValueFault.Spelling) ↔ (AreStringBytes bytes.now → ⊥) }
-        ensures range { (result ≡ Err ValueFault.Range)
-            ↔ (AreStringBytes bytes.now × (64 < length bytes.now)) }
-        ensures faults { IfErr result (λ e. (e ≡ ValueFault.Spelling) ⊎ (e ≡ ValueFault.Range)) }
+        ensures range { (result ≡ Err ValueFault.Range) ↔ AreTooLong bytes.now }
+        ensures faults { IfErr result (λ e. IsEither ValueFault.Spelling ValueFault.Range e) }
     {
         if !are_string_bytes(bytes) {
             return Err(ValueFault::Spelling);
@@ -126,7 +126,7 @@ pub fn read_text(item: &[u8]) -> Result<Text, ValueFault>
     ensures only { (bytes : List ℕ) → IsTextItem item.now bytes → result ≡ Ok bytes }
     ensures spelling { (result ≡ Err ValueFault.Spelling) ↔ IsNoString item.now }
     ensures range { (result ≡ Err ValueFault.Range) ↔ IsLongString item.now }
-    ensures faults { IfErr result (λ e. (e ≡ ValueFault.Spelling) ⊎ (e ≡ ValueFault.Range)) }
+    ensures faults { IfErr result (λ e. IsEither ValueFault.Spelling ValueFault.Range e) }
 {
     match between_quotes(item) {
         Some(bytes) => Text::new(bytes),

@@ -12,8 +12,8 @@ use crate::limits::{PLACES, SHORT};
 /// One more than a decimal's greatest number of units of the last place. Every greater number is taken for this one.
 const CAP: u128 = 10_000_000_000_000_000_000_000_000_000_000_000_001;
 
-/// The digit at a place of both runs of digits in a row, and 0 after the last one.
-#[tactic(auto, using(crate::proofs::Kept::at_first, crate::proofs::Kept::at_second, crate::proofs::Kept::at_neither, crate::proofs::Kept::is_digit))]
+/// The digit at a place, counted from 0, of both runs of digits in a row, and 0 after the last one.
+#[tactic(auto, using(crate::proofs::Kept::at_first, crate::proofs::Kept::at_second, crate::proofs::Kept::at_neither, crate::proofs::Kept::digit_at_least_48))]
 fn digit_at(whole: &[u8], fraction: &[u8], place: usize) -> u8
     requires whole { AreDigits whole.now }
     requires fraction { AreDigits fraction.now }
@@ -44,9 +44,9 @@ fn kept_digits(whole: &[u8], fraction: &[u8], count: usize) -> u128
     kept
 }
 
-/// The number of the first `count` digits, as `kept_digits` returns it, and 1 more where the digit after them is 5 or above. At
-/// most the cap.
-fn rounded(whole: &[u8], fraction: &[u8], count: usize) -> u128
+/// The number of the first `count` digits of both runs in a row, as `kept_digits` returns it, and 1 more where the digit after them
+/// is 5 or above; at most the cap.
+fn kept_and_rounded(whole: &[u8], fraction: &[u8], count: usize) -> u128
     requires whole { AreDigits whole.now }
     requires fraction { AreDigits fraction.now }
     ensures { result ≡ min CAP (kept_and_rounded (whole.now ++ fraction.now) count) }
@@ -68,7 +68,7 @@ fn with_zeros(kept: u128, zeros: usize) -> u128
     kept.saturating_mul(power).min(CAP)
 }
 
-/// The number that is written by the digits of `front` and then `digits`. It is computed in 64 bits.
+/// `front * 10^n` plus the number that these `n` digits write, in 64 bits.
 fn followed_by(front: u64, digits: &[u8]) -> u64
     requires digits { AreDigits digits.now }
     requires small { (front + 1) * 10 ^ length digits.now ≤ 10 ^ 18 }
@@ -91,11 +91,11 @@ fn short_number(whole: &[u8], fraction: &[u8]) -> u64
     followed_by(followed_by(0, whole), fraction)
 }
 
-/// The value of a number's text, rounded to 24 places: `(n, p)` stands for `n / 10^p`, where `n` is at most the cap. The value is
-/// that of the digits with a point between both runs, times 10^`up`, divided by 10^`down`.
+/// The value of a number's text, rounded to 24 places: `(n, p)` stands for `n / 10^p`. In place of an `n` above the cap the cap is
+/// returned. The value is that of the digits with a point between both runs, times 10^`up`, divided by 10^`down`.
 ///
-/// No zero is appended that the value doesn't need, so this takes as many steps as there are digits, whatever the exponent is.
-pub fn units(whole: &[u8], fraction: &[u8], up: u16, down: u16) -> (u128, u8)
+/// No zero is appended that the value doesn't need, so this takes at most as many steps as there are digits, whatever the exponent is.
+pub fn rounded_units(whole: &[u8], fraction: &[u8], up: u16, down: u16) -> (u128, u8)
     requires whole { AreDigits whole.now }
     requires fraction { AreDigits fraction.now }
     ensures { IsRoundedWithCap (number (whole.now ++ fraction.now) * 10 ^ up)
@@ -111,13 +111,13 @@ pub fn units(whole: &[u8], fraction: &[u8], up: u16, down: u16) -> (u128, u8)
     }
     // How many digits there are up to the last of 24 places, with zeros for those that are missing.
     let last = whole.len() + usize::from(up) + usize::from(PLACES);
-    // The exponent moves every digit after these places.
+    // The exponent moves every digit at least two places past the last of the 24, so the value rounds to 0.
     let Some(count) = last.checked_sub(usize::from(down)) else {
         return (0, PLACES);
     };
     // Digits are left over: the number is rounded there.
     if count < length {
-        return (rounded(whole, fraction, count), PLACES);
+        return (kept_and_rounded(whole, fraction, count), PLACES);
     }
     // All digits count. Only zeros that are before the point are appended.
     let kept = kept_digits(whole, fraction, length);

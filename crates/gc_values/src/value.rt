@@ -1,6 +1,6 @@
 //! The table of kinds: which values a parameter of each kind has, and how each is read and written.
-//! The kinds and their forms are those of the GeoCOM manual's ASCII protocol; what is read
-//! leniently, the ranges and the one written form are this project's own.
+//! The kinds, their forms and the ranges of whole numbers are those of the GeoCOM manual's ASCII protocol; what is read leniently, the
+//! ranges of decimals and strings, and the one written form are this project's own.
 
 ghost use Rattle.std.specs.Prelude.{◌≡◌, IfOk, IfErr};
 
@@ -14,7 +14,7 @@ use arrayvec::ArrayVec;
 /// The kind of a parameter.
 #[derive(Clone, Copy, Debug, PartialEq, Eq)]
 pub enum Kind {
-    /// A decimal: an angle in radians, a length in metres, a temperature.
+    /// A decimal: an angle in radians, a length in metres, a temperature in degrees Celsius.
     Double,
     /// A whole number of 32 bits.
     Long,
@@ -53,7 +53,7 @@ impl Default for Value {
 
 impl Value {
     ghost use Rattle.gc_values.specs.declared.value.Value.{Value};
-    ghost use Rattle.gc_values.specs.declared.decimal.Decimal.{Decimal};
+    ghost use Rattle.gc_values.specs.Decimals.{GivesSpelled};
     ghost use Rattle.gc_values.specs.Spelling.{Spells};
     ghost use Rattle.gc_values.specs.Item.{kind_of, IsItem, IsItemFault, IsValue, text};
 
@@ -75,14 +75,14 @@ impl Value {
     /// out of a decimal's range.
     fn read_double(item: &[u8]) -> Result<Decimal, ValueFault>
         ensures value { IfOk result (λ d. Spells item.now d.digits d.scale) }
-        ensures only { (d : Decimal) → Spells item.now d.digits d.scale → result ≡ Ok d }
+        ensures only { GivesSpelled item.now result }
         ensures fault { IfErr result (λ e. IsItemFault Kind.Double item.now e) }
     {
         Decimal::read(item)
     }
 
-    /// Reads an item as a value of the kind. It is refused as `Spelling` where it hasn't the form
-    /// of the kind, and else as `Range` where the value isn't in the kind's range.
+    /// Reads an item, without spaces round it, as a value of the kind. It is refused as `Spelling` where it hasn't the form of the kind,
+    /// and else as `Range` where its value is out of the kind's range, or it is a string of more than 64 bytes.
     pub fn read(kind: Kind, item: &[u8]) -> Result<Value, ValueFault>
         ensures value { IfOk result (λ v. (kind_of v ≡ kind) × IsItem item.now v) }
         ensures only { (v : Value) → kind_of v ≡ kind → IsItem item.now v → result ≡ Ok v }

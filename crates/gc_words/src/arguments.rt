@@ -52,10 +52,7 @@ pub const PLACE: Argument<'static> = Argument {
 
 /// The place that the argument WHERE names. `None`: there is no such argument, or it names no place.
 pub fn named_place<'a>(words: &ArgMatches<'a>) -> Option<Place<'a>> {
-    match words.get_str("where") {
-        Some(word) => place_of(word),
-        None => None,
-    }
+    place_of(words.get_str("where")?)
 }
 
 /// The option that names the file of a scene.
@@ -67,7 +64,8 @@ pub const SCENE: Argument<'static> = Argument {
     ..FLAG
 };
 
-/// A subcommand for clap with this name, help and arguments.
+/// A subcommand for clap with this name, the line that says what it does (`about`), what its help ends with, and the arguments of this
+/// table. It fails if memory is refused.
 // The arguments are made first: the proof of a `Command` that is alive across a `?` costs much.
 pub fn command_of<'a>(
     alloc: Global,
@@ -92,7 +90,8 @@ fn args_of<'a>(alloc: Global, table: &[Argument<'a>]) -> Result<Vec<Arg<'a>>, Al
     Ok(args)
 }
 
-// clap's argument for a row: a positional one, or an option.
+// clap's argument for a row: a positional one, or an option. Of the row of a positional one clap gets the name, the value's name and the
+// help alone.
 fn arg_of<'a>(alloc: Global, row: &Argument<'a>) -> Result<Arg<'a>, AllocError> {
     match row.takes {
         Takes::Positional => Ok(positional_of(alloc, row)),

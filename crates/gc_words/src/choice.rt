@@ -12,8 +12,8 @@ use std::alloc::{AllocError, Global};
 // A second, in milliseconds: the options `--every` and `--stale` are in seconds.
 const SECOND: u64 = 1_000;
 
-// The arguments of `station`: the place, and then the options. A default is in its row alone: clap fills it in.
-pub(crate) const OPTIONS: &[Argument<'static>] = &[
+// The arguments of `station`: the place, and then the options.
+pub(crate) const STATION_ARGUMENTS: &[Argument<'static>] = &[
     PLACE,
     Argument {
         name: "width",
@@ -132,14 +132,14 @@ pub(crate) const OPTIONS: &[Argument<'static>] = &[
     LOG_BYTES,
 ];
 
-/// The subcommand `station` for clap: its help and its arguments.
+/// The subcommand `station` for clap: its help and its arguments. It fails if memory is refused.
 pub fn station_command<'a>(alloc: Global, name: &'a str) -> Result<Command<'a>, AllocError> {
     command_of(
         alloc,
         name,
         "Measures: sends the commands of standard input to an instrument, cycle after cycle, with deadlines",
         STATION,
-        OPTIONS,
+        STATION_ARGUMENTS,
     )
 }
 
@@ -181,14 +181,15 @@ pub struct Choice {
 }
 
 impl Choice {
-    /// Whether the run would end for want of an answer before its second cycle is due: `stale` is a bound, and below `every`.
+    /// Whether the run would end for want of an answer before its second cycle is due: `stale` isn't 0, and is below `every`.
     pub fn is_stale_too_soon(self) -> bool {
         self.stale > 0 && self.stale < self.every
     }
 }
 
-/// The settings of a station that the options ask for, without the paths of files. `None`: a number is missing, though it has a
-/// default; clap fills it in, but no clause of clap's says so.
+/// The settings of a station that the options ask for, without the paths of files, and for a run that hasn't begun. A flag or a text
+/// that the subcommand doesn't have counts as not given. `None`: a number is missing, though it has a default; clap fills it in, but no
+/// clause of clap's says so.
 pub fn station_of(matches: &ArgMatches) -> Option<Settings> {
     Some(Settings {
         layout: Layout {
@@ -215,7 +216,7 @@ pub fn station_of(matches: &ArgMatches) -> Option<Settings> {
     })
 }
 
-// The form of records that the options ask for; without one, lines.
+// The form of records that the options ask for; lines without such an option. `columns` includes what `csv` asks for.
 fn form_of(matches: &ArgMatches) -> Form {
     if matches.get_flag("json") {
         Form::Json

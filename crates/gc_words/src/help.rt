@@ -103,7 +103,7 @@ writes
   0 1 answered %R1P,0,0:0,123456";
 
 /// What the help of `serve` ends with.
-pub const KEPT: &str =
+pub const CONNECTIONS: &str =
     "Each connection gets a restarted instrument. Without --keep the first fault of a connection ends the program, and a silent
 client is waited for.
 

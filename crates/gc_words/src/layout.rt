@@ -5,7 +5,7 @@ use gc_rows::Form;
 /// How records are laid out.
 #[derive(Clone, Copy, Debug, PartialEq, Eq)]
 pub struct Layout {
-    /// How each is written.
+    /// In which form each is written.
     pub form: Form,
     /// Whether no header is to be written, as in a file that has one already.
     pub headed: bool,

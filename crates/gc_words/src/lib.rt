@@ -1,4 +1,4 @@
-//! The words of the command line: arguments as tables, with their help, and what those of `station` say.
+//! The words of the command line: arguments as tables, with their help, and what those of `station` and `rehearse` say.
 #![tactic(auto)]
 
 mod arguments;

@@ -1,7 +1,8 @@
-//! A rehearsal: what the words of `rehearse` say. Its options of a station are those of `station`.
+//! A rehearsal: what the words of `rehearse` say. Its options of a station are rows of `station`, but for `every` and `cycles`, which have
+//! other bounds and defaults.
 
 use crate::arguments::{Argument, FLAG, SCENE, Takes, command_of};
-use crate::choice::{OPTIONS, station_of};
+use crate::choice::{STATION_ARGUMENTS, station_of};
 use crate::help::REHEARSAL;
 use crate::settings::Settings;
 use clap::{ArgMatches, Command};
@@ -10,7 +11,7 @@ use std::alloc::{AllocError, Global};
 /// A day, in milliseconds: a night begins so long after the one before.
 pub const DAY: u64 = 86_400_000;
 
-// The options of `rehearse` alone.
+// The options of `rehearse` that aren't rows of `station`.
 const OWN: &[Argument<'static>] = &[
     Argument {
         name: "nights",
@@ -54,7 +55,7 @@ const OWN: &[Argument<'static>] = &[
     },
 ];
 
-// The options of `station` that `rehearse` has, too.
+// The names of the options of `station` whose rows are those of `rehearse`, too.
 const SHARED: &[&str] = &[
     "width",
     "deadline",
@@ -67,7 +68,7 @@ const SHARED: &[&str] = &[
     "unchained",
 ];
 
-/// The subcommand `rehearse` for clap: its help and its arguments.
+/// The subcommand `rehearse` for clap: its help and its arguments. It fails if memory is refused.
 pub fn rehearse_command<'a>(alloc: Global, name: &'a str) -> Result<Command<'a>, AllocError> {
     let table = table_of(alloc)?;
     command_of(
@@ -79,13 +80,13 @@ pub fn rehearse_command<'a>(alloc: Global, name: &'a str) -> Result<Command<'a>,
     )
 }
 
-// The arguments of `rehearse`: its own, and then those of `station` that it shares.
+// The arguments of `rehearse`: its own, and then those of `station` that it shares. It fails if memory is refused.
 fn table_of(alloc: Global) -> Result<Vec<Argument<'static>>, AllocError> {
     let mut table = Vec::new(alloc);
     for row in OWN {
         table.push(*row)?;
     }
-    for row in OPTIONS {
+    for row in STATION_ARGUMENTS {
         if is_shared(row.name) {
             table.push(*row)?;
         }
@@ -93,13 +94,13 @@ fn table_of(alloc: Global) -> Result<Vec<Argument<'static>>, AllocError> {
     Ok(table)
 }
 
-// Whether an option of `station` is one of `rehearse`, too.
+// Whether the row of `station` with this name is one of `rehearse`, too.
 fn is_shared(name: &str) -> bool {
     SHARED.iter().any(|shared| *shared == name)
 }
 
-/// What is to be rehearsed: the files of the scene and of the line, where they are named, how many nights, with which seed, and the
-/// settings of the station.
+/// What is to be rehearsed: the paths of the files of the scene and of the line, where they are named, how many nights, with which seed,
+/// and the settings of the station.
 #[derive(Clone, Copy)]
 pub struct Rehearsal<'a> {
     pub scene: Option<&'a str>,
@@ -110,10 +111,10 @@ pub struct Rehearsal<'a> {
 }
 
 impl<'a> Rehearsal<'a> {
-    /// How many cycles a night has: as many as were asked for, or else as many as are due in a day.
+    /// How many cycles a night has: as many as were asked for, or else as many as `every` goes into a day, cut off; 0 if `every` is 0.
     pub fn cycles(&self) -> u64 {
         let choice = self.station.choice;
-        // `station_of` gives this number for 0, which asks for as many cycles as are due.
+        // `station_of` gives the greatest `u64` for 0, which asks for a day's cycles.
         if choice.cycles != u64::MAX {
             return choice.cycles;
         }
@@ -125,8 +126,7 @@ impl<'a> Rehearsal<'a> {
     }
 }
 
-/// What the words of `rehearse` say. `None`: a number is missing, though it has a default; clap fills it in, but no clause of clap's says
-/// so.
+/// What the words of `rehearse` say. `None`: a number is missing that has a default, as for `station_of`.
 pub fn rehearsal_of<'a>(words: &ArgMatches<'a>) -> Option<Rehearsal<'a>> {
     Some(Rehearsal {
         scene: words.get_str("scene"),

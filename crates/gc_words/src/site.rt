@@ -23,38 +23,34 @@ pub(crate) const LOG_BYTES: Argument<'static> = Argument {
     ..FLAG
 };
 
-/// Where what was on the link is logged, and the most bytes that the file may have.
+/// The path of the file in which what was on the link is logged, and the most bytes that the file may have; the greatest `u64`: any number.
 #[derive(Clone, Copy)]
 pub struct LogPlace<'a> {
     pub path: &'a str,
     pub most: u64,
 }
 
-/// The log that the words of `station` ask for, if they ask for one. Without `--log-bytes` it has no bound.
+/// The log that the words of `station` ask for. `None`: they ask for none. Without `--log-bytes` it has no bound.
 pub fn log_of<'a>(words: &ArgMatches<'a>) -> Option<LogPlace<'a>> {
-    match words.get_str("log") {
-        Some(path) => Some(LogPlace {
-            path,
-            most: words.get_one::<u64>("log-bytes").unwrap_or(u64::MAX),
-        }),
-        None => None,
-    }
+    let path = words.get_str("log")?;
+    Some(LogPlace {
+        path,
+        most: words.get_one::<u64>("log-bytes").unwrap_or(u64::MAX),
+    })
 }
 
-/// Where records are appended, and whether each is to be on the disk before the next command is sent.
+/// The path of the file to which records are appended, and whether each is to be on the disk before the next command is sent.
 #[derive(Clone, Copy)]
 pub struct Recording<'a> {
     pub path: &'a str,
     pub sync: bool,
 }
 
-/// The file of records that the words of `station` ask for, if they ask for one.
+/// The file of records that the words of `station` ask for. `None`: they ask for none.
 pub fn recording_of<'a>(words: &ArgMatches<'a>) -> Option<Recording<'a>> {
-    match words.get_str("append") {
-        Some(path) => Some(Recording {
-            path,
-            sync: words.get_flag("sync"),
-        }),
-        None => None,
-    }
+    let path = words.get_str("append")?;
+    Some(Recording {
+        path,
+        sync: words.get_flag("sync"),
+    })
 }

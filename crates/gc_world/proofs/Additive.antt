@@ -1,14 +1,15 @@
 -- Delivering bytes in one event leaves the same streams as delivering them in two, in either direction. The cut of lines at n
 -- bytes (`cut`) says how many lines these bytes complete, and how many bytes of the next line they reach.
-use Rattle.std.proofs.Common.{◌≡◌, ℕ, zero, suc, ◌+◌, ◌-◌, ◌<◌, ◌≤◌, Bool, true, false, cond, List, [], ◌∷◌, ◌++◌, length, map, drop, refl, sym, ◌∙◌, ap, subst, arith, ltb}
+use Rattle.std.proofs.Common.{◌≡◌, ℕ, zero, suc, ◌+◌, ◌-◌, ◌<◌, ◌≤◌, Bool, true, false, cond, List, [], ◌∷◌, length, map, drop, refl, sym, ◌∙◌, ap, subst, arith, ltb}
 use mathlib.Core.Path.{ap₂}
 use Rattle.std.specs.Prelude.{replicate}
 use Rattle.std.proofs.lemmas.Bool.{ltb-false}
+use Rattle.std.proofs.lemmas.List.{drop-drop, drop-map, replicate-append-replicate}
 use Rattle.gc_lines.specs.Lines.{with_end}
 use Rattle.gc_world.specs.declared.direction.Direction.{Direction}
 use Rattle.gc_world.specs.Directions.{deliver, bytes, texts, lines, gone, reaches}
 use Rattle.gc_world.specs.Streams.{Streams, Cut, one_more, cut, flows}
-use Rattle.gc_world.specs.World.{Ends, Rule, Step, World, idle, happens, run}
+use Rattle.gc_world.specs.World.{Ends, Rule, World, idle, happens, run}
 use Rattle.gc_world.proofs.Directions.{gone_reached, reaches_again, passing, bytes_pass, after_cut, one_less, idle_leaves}
 use Rattle.gc_world.proofs.Flow.{run_append}
 use Rattle.gc_world.proofs.Handed.{cut_long}
@@ -62,27 +63,9 @@ cut_end lines m n e =
     let same : c.lines + 0 ≡ c.lines = omega arith in
     cut_add lines m n ∙ ap (λ q. with_more_lines c.lines (cut q (c.gone + n))) e ∙ ap₂ (λ k g. record { lines = k; gone = g }) same (sym (cut_all lines m e))
 
--- a step k + l times is the step k times, and then l times
-replicate_add : (k l : ℕ) (step : Step) → replicate (k + l) step ≡ replicate k step ++ replicate l step
-replicate_add zero l step = let e : 0 + l ≡ l = omega arith in ap (λ n. replicate n step) e
-replicate_add (suc k) l step = let e : suc k + l ≡ suc (k + l) = omega arith in ap (λ n. replicate n step) e ∙ ap (λ s. step ∷ s) (replicate_add k l step)
-
--- dropping elements of the empty list leaves the empty list
-drop_none : {A : Type 0} (k : ℕ) (xs : List A) → xs ≡ [] → drop k xs ≡ []
-drop_none zero xs e = e
-drop_none (suc k) [] e = refl
-drop_none (suc k) (x ∷ xs) e = cc
-
 -- dropping one element, and then k more, is dropping k + 1
 drop_one : {A : Type 0} (k : ℕ) (xs : List A) → drop k (drop 1 xs) ≡ drop (suc k) xs
-drop_one k [] = drop_none k [] refl
-drop_one k (x ∷ xs) = refl
-
--- mapping a function and dropping k elements may be done in either order
-drop_map : {A B : Type 0} (f : A → B) (k : ℕ) (xs : List A) → map f (drop k xs) ≡ drop k (map f xs)
-drop_map f zero xs = refl
-drop_map f (suc k) [] = refl
-drop_map f (suc k) (x ∷ xs) = drop_map f k xs
+drop_one k xs = let e : 1 + k ≡ suc k = omega arith in drop-drop k 1 xs ∙ ap (λ n. drop n xs) e
 
 module _ {Client State : Type 0} (ends : Ends State) (rule : Rule Client) (d : Direction) where
   -- delivering k lines of a direction leaves the texts after them
@@ -92,7 +75,7 @@ module _ {Client State : Type 0} (ends : Ends State) (rule : Rule Client) (d : D
 
   -- delivering k lines of a direction leaves the lines after them
   lines_left : (k : ℕ) (w : World Client State) → lines d (run ends rule (replicate k (deliver d)) w).wire ≡ drop k (lines d w.wire)
-  lines_left k w = ap (map with_end) (texts_left k w) ∙ drop_map with_end k (texts d w.wire)
+  lines_left k w = ap (map with_end) (texts_left k w) ∙ sym (drop-map with_end k (texts d w.wire))
 
   -- where a line is in flight, n + 1 bytes lead to the cut of the lines at these bytes
   some_pass : (v : Streams Client State) (n : ℕ) (q : List (List ℕ)) → 0 < length q → passing ends rule d v q (n + 1) ≡ after_cut ends rule d v (cut q (gone d v + (n + 1)))
@@ -110,7 +93,7 @@ module _ {Client State : Type 0} (ends : Ends State) (rule : Rule Client) (d : D
   to_behind : (v : Streams Client State) (b : Cut) (c : Cut) → after_cut ends rule d v (with_more_lines b.lines c) ≡ after_cut ends rule d (after_cut ends rule d v b) c
   to_behind v b c =
       let w = run ends rule (replicate b.lines (deliver d)) v.world in
-      ap (λ x. reaches d v x c.gone) (ap (λ s. run ends rule s v.world) (replicate_add b.lines c.lines (deliver d))
+      ap (λ x. reaches d v x c.gone) (ap (λ s. run ends rule s v.world) (sym (replicate-append-replicate b.lines c.lines (deliver d)))
       ∙ run_append ends rule (replicate b.lines (deliver d)) (replicate c.lines (deliver d)) v.world)
       ∙ sym (reaches_again d v w b.gone (run ends rule (replicate c.lines (deliver d)) w) c.gone)
 

@@ -70,8 +70,9 @@ module _ {Q State : Type 0} (width : ℕ) (narrow : width ≤ 7) (ends : Ends Q 
     pub client : AreAlike a.client b.client
 
   -- a reply in flight settles the same for both clients, whether its request is settled already (`old`) or not
-  same_reply : (a : ById Q) (b : ByNumber Q) (x : Numbered (List ℕ)) (old : Bool) → ltb x.number b.count ≡ old → b.since ≤ b.count → b.count ≤ length b.requests
-      → length b.requests ≤ b.count + width → b.count ≤ x.number + 1 → IsComing width ends Good b.since (length b.requests) x → AreAlike a b
+  same_reply : (a : ById Q) (b : ByNumber Q) (x : Numbered (List ℕ)) (old : Bool) (is_old : ltb x.number b.count ≡ old) (begun : b.since ≤ b.count)
+      (within : b.count ≤ length b.requests) (few : length b.requests ≤ b.count + width) (rising : b.count ≤ x.number + 1)
+      (coming : IsComing width ends Good b.since (length b.requests) x) (alike : AreAlike a b)
       → SameSettled (hears a x.line (Some ((x.number - b.since) % 8))) (number_reply b x old)
   same_reply a b x true t h1 h2 h3 h4 coming h =
       let lt : x.number < b.count = ltb-true _ _ t in

@@ -1,17 +1,13 @@
 -- An entry that is appended blank, and then written in its place in the list: the list is the old one with that entry appended.
-use Rattle.std.proofs.Common.{◌≡◌, ℕ, List, [], ◌∷◌, ◌++◌, length, get_or, refl, ◌∙◌, ap}
+use Rattle.std.proofs.Common.{◌≡◌, ℕ, List, [], ◌∷◌, ◌++◌, length, get_or, sym, ◌∙◌, ap}
 use Rattle.std.specs.Prelude.{slice_set}
+use Rattle.std.proofs.lemmas.List.{get_or_push}
 use Rattle.std.proofs.Math.Seq.{set-append_seam}
 use Rattle.arrayvec.specs.ArrayVec.{ArrayVec}
 
--- the last element of a list with one appended is that one
-last_of : {A : Type 0} (xs : List A) (x d : A) → get_or (xs ++ x ∷ []) (length xs) d ≡ x
-last_of [] x d = refl
-last_of (y ∷ xs) x d = last_of xs x d
-
 -- where a blank was appended at place n, the element at place n is the blank
 pub at_last : {A : Type 0} (xs items : List A) (n : ℕ) (blank now : A) → items ≡ xs ++ blank ∷ [] → n ≡ length xs → now ≡ get_or items n now → now ≡ blank
-at_last xs items n blank now are at is = is ∙ ap (λ l. get_or l n now) are ∙ ap (λ k. get_or (xs ++ blank ∷ []) k now) at ∙ last_of xs blank now
+at_last xs items n blank now are at is = is ∙ ap (λ l. get_or l n now) are ∙ get_or_push xs blank now n (sym at)
 
 -- where a blank was appended to xs at place n, and place n was then overwritten by `new`, the list is xs with that entry appended
 pub set_last : {A : Type 0} (xs items : List A) (n : ℕ) (blank new entry : A) → items ≡ xs ++ blank ∷ [] → n ≡ length xs → new ≡ entry → slice_set items n new ≡ xs ++ entry ∷ []

@@ -3,6 +3,7 @@
 use Rattle.std.proofs.Common.{◌≡◌, ℕ, zero, suc, ◌+◌, ◌-◌, ◌≤◌, inl, inr, Bool, true, false, List, [], ◌∷◌, ◌++◌, length, map, drop, Some, refl, sym, ap, subst, arith, ltb, ◌⊎◌}
 use Rattle.std.specs.Prelude.{slice_get}
 use Rattle.std.proofs.lemmas.Bool.{ltb-false}
+use Rattle.std.proofs.lemmas.Option.{none-some, same_Some}
 use Rattle.gc_client.specs.declared.pending.Pending.{Pending}
 use Rattle.gc_client.specs.Rule.{Outcome, Answered, Late, Lost, Settlement, lost, settled_by_line, settle}
 use Rattle.gc_instrument.specs.Replying.{Handed}
@@ -47,6 +48,25 @@ IsMade made n Lost = Unit {0}
 abbrev pub AllMade : {Q : Type 0} → List (Numbered (List ℕ)) → ℕ → List (Settlement Q) → Type 0
 AllMade made n [] = Unit {0}
 AllMade made n (s ∷ ss) = IsMade made n s.outcome × AllMade made (n + 1) ss
+
+-- where each answer of settlements, of which the first is number n, was made for its request, the one at place m among them was
+-- made for request n + m
+pub made_at : {Q : Type 0} (made : List (Numbered (List ℕ))) (n : ℕ) (settled : List (Settlement Q)) (m : ℕ) (s : Settlement Q) → AllMade made n settled → slice_get settled m ≡ Some s
+    → IsMade made (n + m) s.outcome
+made_at {Q} made n [] m s h e = absurd (none-some s e)
+made_at {Q} made n (x ∷ xs) zero s h e =
+    let same : n ≡ n + 0 = omega arith in
+    subst (λ k. IsMade made k s.outcome) same (subst (λ (y : Settlement Q). IsMade made n y.outcome) (same_Some x s e) h.0)
+made_at {Q} made n (x ∷ xs) (suc m) s h e =
+    let same : n + 1 + m ≡ n + suc m = omega arith in
+    subst (λ k. IsMade made k s.outcome) same (made_at made (n + 1) xs m s h.1 e)
+
+-- where settlement m is an answer, its line was made for request m
+pub answer_made : {Q : Type 0} (made : List (Numbered (List ℕ))) (settled : List (Settlement Q)) (m : ℕ) (s : Settlement Q) (line : List ℕ) → AllMade made 0 settled
+    → slice_get settled m ≡ Some s → s.outcome ≡ Answered line → Has (record { number = m; line = line }) made
+answer_made made settled m s line h found answered =
+    let same : 0 + m ≡ m = omega arith in
+    subst (λ k. Has (record { number = k; line = line }) made) same (subst (IsMade made (0 + m)) answered (made_at made 0 settled m s h found))
 
 -- an answer that was made for a request stays so when more replies are made
 made_more : (made more : List (Numbered (List ℕ))) (n : ℕ) (o : Outcome) → IsMade made n o → IsMade (made ++ more) n o
@@ -126,21 +146,21 @@ module _ {Q State : Type 0} (width : ℕ) (ends : Ends Q State) (Good : State �
             (all_made_settle w.wire.made w.client.count x.number (x.number - w.client.count) x.line (drop w.client.count w.client.requests) (omega (arith, ge)) g.0);
       }
 
+  -- settling all that wait as lost keeps the replies and answers backed
+  backed_lost : (w : World Q (ByNumber Q) State) → length w.wire.settled ≡ w.client.count → IsBacked w.wire.made w.wire.down w.wire.settled
+      → IsBacked w.wire.made w.wire.down (w.wire.settled ++ map lost (drop w.client.count w.client.requests))
+  backed_lost w s h =
+      record {
+        in_flight = h.in_flight;
+        booked = all_made_append w.wire.made 0 w.client.count w.wire.settled _ (omega (arith, s)) h.booked
+            (all_made_lost w.wire.made w.client.count (drop w.client.count w.client.requests));
+      }
+
   -- a restart of the client keeps the replies and answers backed
   backed_restart : (w : World Q (ByNumber Q) State) (b : Bool) → length w.wire.settled ≡ w.client.count → IsBacked w.wire.made w.wire.down w.wire.settled
       → (let v = (with_settled (started ends w.wire b) ((by_numbers width).restart w.client)).wire in IsBacked v.made v.down v.settled)
-  backed_restart w false s h =
-      record {
-        in_flight = h.in_flight;
-        booked = all_made_append w.wire.made 0 w.client.count w.wire.settled _ (omega (arith, s)) h.booked
-            (all_made_lost w.wire.made w.client.count (drop w.client.count w.client.requests));
-      }
-  backed_restart w true s h =
-      record {
-        in_flight = h.in_flight;
-        booked = all_made_append w.wire.made 0 w.client.count w.wire.settled _ (omega (arith, s)) h.booked
-            (all_made_lost w.wire.made w.client.count (drop w.client.count w.client.requests));
-      }
+  backed_restart w false s h = backed_lost w s h
+  backed_restart w true s h = backed_lost w s h
 
   -- each step keeps a world backed
   keeps_backed : (written : ℕ → Q → List ℕ) → IsExchange ends Good → IsStable written ends (by_numbers width) Backed

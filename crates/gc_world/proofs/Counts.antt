@@ -5,7 +5,7 @@ use Rattle.std.proofs.lemmas.List.{length-drop, length-map, length_push}
 use Rattle.gc_lines.specs.Lines.{with_end}
 use Rattle.gc_catalogue.specs.declared.call.Call.{Call}
 use Rattle.gc_catalogue.specs.Texts.{request_line}
-use Rattle.gc_client.specs.Rule.{Sending}
+use Rattle.gc_client.specs.Rule.{Sending, Settlement}
 use Rattle.gc_instrument.specs.Replying.{Handed}
 use Rattle.gc_world.specs.declared.direction.Direction.{Direction}
 use Rattle.gc_world.specs.declared.direction.Direction.TheVariants.{Up, Down}
@@ -46,42 +46,34 @@ cut_few (line ∷ lines) n = by_size (ltb n (length line)) (cut_few lines (n - l
     by_size true few = omega arith
     by_size false few = omega (arith, few)
 
+-- the bound n doesn't depend on the settlements and on the replies in flight
+else_within : {State : Type 0} (n : ℕ) (w : Wire State) (settled : List (Settlement Call)) (down : List (Numbered (List ℕ))) → IsWithin n w
+    → IsWithin n (record w { settled = settled; down = down })
+else_within n w settled down h = record { sent = h.sent; executed = h.executed; made = h.made; starts = h.starts; refused = h.refused; idle = h.idle }
+
 module _ {Client State : Type 0} (ends : Ends State) (rule : Rule Client) (n : ℕ) where
-  -- what is within n is within n + 1
-  one_more_within : (w : Wire State) → IsWithin n w → IsWithin (n + 1) w
-  one_more_within w h = record {
+  -- what is within n is within n + 1, also with counts of refused sends and of idle events that are greater by at most one
+  counted_within : (w : Wire State) (refused idle : ℕ) → refused ≤ w.refused + 1 → idle ≤ w.idle + 1 → IsWithin n w → IsWithin (n + 1) (record w { refused = refused; idle = idle })
+  counted_within w refused idle few_refused few_idle h = record {
     sent = omega (arith, h.sent);
     executed = omega (arith, h.executed);
     made = omega (arith, h.made);
-    starts =
-        omega (arith, h.starts);
-    refused = omega (arith, h.refused);
-    idle = omega (arith, h.idle);
+    starts = omega (arith, h.starts);
+    refused = omega (arith, h.refused, few_refused);
+    idle = omega (arith, h.idle, few_idle);
   }
+
+  -- what is within n is within n + 1
+  one_more_within : (w : Wire State) → IsWithin n w → IsWithin (n + 1) w
+  one_more_within w h = counted_within w w.refused w.idle (omega arith) (omega arith) h
 
   -- an event that is not possible raises the bound by at most one
   idles : (w : Wire State) → IsWithin n w → IsWithin (n + 1) (idle w)
-  idles w h = record {
-    sent = omega (arith, h.sent);
-    executed = omega (arith, h.executed);
-    made = omega (arith, h.made);
-    starts =
-        omega (arith, h.starts);
-    refused = omega (arith, h.refused);
-    idle = omega (arith, h.idle);
-  }
+  idles w h = counted_within w w.refused (w.idle + 1) (omega arith) (omega arith) h
 
   -- a send raises the bound by at most one
   sends : (w : World Client State) (target : ℕ) (call : Call) (o : Option (Sending Client)) → IsWithin n w.wire → IsWithin (n + 1) (requested w target call o).wire
-  sends w target call None h = record {
-    sent = omega (arith, h.sent);
-    executed = omega (arith, h.executed);
-    made = omega (arith, h.made);
-    starts =
-        omega (arith, h.starts);
-    refused = omega (arith, h.refused);
-    idle = omega (arith, h.idle);
-  }
+  sends w target call None h = counted_within w.wire (w.wire.refused + 1) w.wire.idle (omega arith) (omega arith) h
   sends w target call (Some x) h =
       let d : Sent = record { target = target; call = call; line = request_line (Some x.id) call } in
       let up = length_push w.wire.up (record { number = length w.wire.sent; line = record { id = x.id; call = call } }) in
@@ -137,28 +129,12 @@ module _ {Client State : Type 0} (ends : Ends State) (rule : Rule Client) (n : �
   -- another downward queue raises the bound by at most one
   changes_down : (w : Wire State) (down : List (Numbered (List ℕ))) (b : Bool) → IsWithin n w → IsWithin (n + 1) (with_down w down b)
   changes_down w down false h = idles w h
-  changes_down w down true h = record {
-    sent = omega (arith, h.sent);
-    executed = omega (arith, h.executed);
-    made = omega (arith, h.made);
-    starts =
-        omega (arith, h.starts);
-    refused = omega (arith, h.refused);
-    idle = omega (arith, h.idle);
-  }
+  changes_down w down true h = one_more_within (record w { down = down }) (else_within n w w.settled down h)
 
   -- a delivery to the client raises the bound by at most one
   hears : (w : World Client State) (q : List (Numbered (List ℕ))) → IsWithin n w.wire → IsWithin (n + 1) (down_delivered rule w q).wire
   hears w [] h = idles w.wire h
-  hears w (x ∷ rest) h = record {
-    sent = omega (arith, h.sent);
-    executed = omega (arith, h.executed);
-    made = omega (arith, h.made);
-    starts =
-        omega (arith, h.starts);
-    refused = omega (arith, h.refused);
-    idle = omega (arith, h.idle);
-  }
+  hears w (x ∷ rest) h = one_more_within (down_delivered rule w (x ∷ rest)).wire (else_within n w.wire (w.wire.settled ++ (rule.reply w.client x).settlements) rest h)
 
   -- a start of the instrument raises the bound by at most one
   starts : (w : Wire State) (b : Bool) → IsWithin n w → IsWithin (n + 1) (started ends w b)
@@ -181,7 +157,9 @@ module _ {Client State : Type 0} (ends : Ends State) (rule : Rule Client) (n : �
 
   -- a restart of the client raises the bound by at most one
   restarts_client : (w : World Client State) (up : List (Numbered Request)) (down : List (Numbered (List ℕ))) → IsWithin n w.wire → IsWithin (n + 1) (client_restarted ends rule w up down).wire
-  restarts_client w [] [] h = let s = starts w.wire ends.joint h in record { sent = s.sent; executed = s.executed; made = s.made; starts = s.starts; refused = s.refused; idle = s.idle }
+  restarts_client w [] [] h =
+      let v = started ends w.wire ends.joint in
+      else_within (n + 1) v (v.settled ++ (rule.restart w.client).settlements) v.down (starts w.wire ends.joint h)
   restarts_client w [] (y ∷ down) h = idles w.wire h
   restarts_client w (x ∷ up) down h = idles w.wire h
 
@@ -207,7 +185,7 @@ module _ {Client State : Type 0} (ends : Ends State) (rule : Rule Client) (n : �
   -- a delivery of a reply that is in flight doesn't raise the bound
   down_once : (w : World Client State) (q : List (Numbered (List ℕ))) → 0 < length (map (λ x. x.line) q) → IsWithin n w.wire → IsWithin n (down_delivered rule w q).wire
   down_once w [] some h = absurd (omega (arith, some))
-  down_once w (x ∷ rest) some h = record { sent = h.sent; executed = h.executed; made = h.made; starts = h.starts; refused = h.refused; idle = h.idle }
+  down_once w (x ∷ rest) some h = else_within n w.wire (w.wire.settled ++ (rule.reply w.client x).settlements) rest h
 
   -- a delivery of a line that is in flight doesn't raise the bound
   one_delivery : (d : Direction) (w : World Client State) → 0 < length (texts d w.wire) → IsWithin n w.wire → IsWithin n (happens ends rule w (deliver d)).wire

@@ -1,13 +1,14 @@
 -- What holds in either direction of the line. The two directions are distinguished here, so that other files state each
 -- lemma once for both.
-use Rattle.std.proofs.Common.{◌≡◌, ℕ, ◌<◌, List, [], ◌∷◌, length, map, drop, Some, refl, ap, arith}
+use Rattle.std.proofs.Common.{◌≡◌, ◌⊎◌, ℕ, zero, suc, ◌+◌, ◌<◌, List, [], ◌∷◌, length, map, drop, Some, inl, inr, refl, ap, arith}
 use Rattle.std.specs.Prelude.{replicate}
 use Rattle.gc_catalogue.specs.Texts.{request_line}
 use Rattle.gc_world.specs.declared.direction.Direction.{Direction}
 use Rattle.gc_world.specs.declared.direction.Direction.TheVariants.{Up, Down}
 use Rattle.gc_world.specs.Directions.{deliver, delivery, bytes, texts, lines, gone, reaches}
-use Rattle.gc_world.specs.Streams.{Streams, Cut, passed, left_gone, flows}
-use Rattle.gc_world.specs.World.{Request, Numbered, Ends, Rule, Wire, World, idle, up_delivered, down_delivered, happens, run}
+use Rattle.gc_world.specs.Sides.{IsPart}
+use Rattle.gc_world.specs.Streams.{Streams, Cut, cut, passed, left_gone, remaining, flows}
+use Rattle.gc_world.specs.World.{Request, Numbered, Ends, Rule, Wire, World, idle, up_delivered, on_wire, down_delivered, happens, run}
 
 module _ {Client State : Type 0} where
   -- What has gone.
@@ -22,10 +23,10 @@ module _ {Client State : Type 0} where
   reaches_again Up v w n w' n' = refl
   reaches_again Down v w n w' n' = refl
 
-  -- setting the world and the count of gone bytes that are there already changes nothing
-  pub reaches_same : (d : Direction) (v : Streams Client State) → reaches d v v.world (gone d v) ≡ v
-  reaches_same Up v = refl
-  reaches_same Down v = refl
+  -- setting a world, and the count of gone bytes that is there already, changes the world alone
+  pub unmoved : (d : Direction) (v : Streams Client State) (w : World Client State) → reaches d v w (gone d v) ≡ record { world = w; up_gone = v.up_gone; down_gone = v.down_gone }
+  unmoved Up v w = refl
+  unmoved Down v w = refl
 
   module _ (ends : Ends State) (rule : Rule Client) where
     -- The events of a direction.
@@ -44,9 +45,21 @@ module _ {Client State : Type 0} where
     bytes_pass Up v n = refl
     bytes_pass Down v n = refl
 
+    -- an event of 0 bytes, or of bytes while none are in flight, is only counted
+    pub idle_bytes : (d : Direction) (v : Streams Client State) (q : List (List ℕ)) (n : ℕ) {r : ℕ} → r ≡ remaining (gone d v) q → (n ≡ 0) ⊎ (r ≡ 0) → IsPart (gone d v) q
+        → passing d v q n ≡ record { world = on_wire v.world (idle v.world.wire); up_gone = v.up_gone; down_gone = v.down_gone }
+    idle_bytes d v [] n e none part = unmoved d v (on_wire v.world (idle v.world.wire))
+    idle_bytes d v (line ∷ q) zero e none part = unmoved d v (on_wire v.world (idle v.world.wire))
+    idle_bytes d v (line ∷ q) (suc n) e (inl z) part = absurd (omega (arith, z))
+    idle_bytes d v (line ∷ q) (suc n) e (inr z) part = absurd (omega (arith, e, z, part))
+
     -- the streams after as many deliveries in a direction as the cut has lines, and with as much gone of the next line as it says
     abbrev pub after_cut : Direction → Streams Client State → Cut → Streams Client State
     after_cut d v c = reaches d v (run ends rule (replicate c.lines (deliver d)) v.world) c.gone
+
+    -- the streams after the next n bytes of a direction were handed over
+    abbrev pub handed_over : Direction → Streams Client State → ℕ → Streams Client State
+    handed_over d v n = after_cut d v (cut (lines d v.world.wire) (gone d v + n))
 
     -- What is in flight after a step.
 

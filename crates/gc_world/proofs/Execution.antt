@@ -13,10 +13,10 @@ use Rattle.gc_world.specs.Exchange.{IsExchange}
 use Rattle.gc_world.specs.Order.{Each}
 use Rattle.gc_world.specs.Faithful.{has_number, begun}
 use Rattle.gc_world.specs.Record.{Increasing, IsOneForOne, IsReplyTo, IsBooked, IsExecuted, IsReplyAt, IsExecution}
-use Rattle.gc_world.proofs.Booked.{Has, has_at, IsMade, AllMade}
-use Rattle.gc_world.proofs.Replay.{IsReply, Replays}
-use Rattle.gc_world.proofs.Options.{some_is, none_is_not}
-use Rattle.gc_world.proofs.Places.{each_get, in_range, below}
+use Rattle.gc_world.proofs.Booked.{Has, has_at, AllMade, answer_made}
+use Rattle.gc_world.proofs.Replay.{Executes, Replays}
+use Rattle.std.proofs.lemmas.Option.{same_Some, none-some, slice_get_within}
+use Rattle.gc_world.proofs.Places.{each_get, in_range}
 
 -- a property that each element of a list has holds of any element that is in the list
 pub each_has : {A : Type 0} (P : A → Type 0) (xs : List A) (x : A) → Each P xs → Has x xs → P x
@@ -24,13 +24,13 @@ each_has P [] x h e = absurd e
 each_has P (y ∷ xs) x h (inl e) = subst P e h.0
 each_has P (y ∷ xs) x h (inr e) = each_has P xs x h.1 e
 
--- every request is written with an id of one digit below 8
+-- the oracle client sends each request with an id below 8
 pub digits : {Q : Type 0} (width : ℕ) (c : ByNumber Q) (target : ℕ) (call : Q) (deadline : ℕ) (x : Sending (ByNumber Q)) → (by_numbers width).send c target call deadline ≡ Some x → x.id < 8
 digits {Q} width c target call deadline x e = digit (eqb (length c.requests - c.count) width) e
   where
     digit : (full : Bool) → number_send c target call deadline full ≡ Some x → x.id < 8
-    digit true e = absurd (none_is_not x e)
-    digit false e = subst (λ (y : Sending (ByNumber Q)). y.id < 8) (some_is _ x e) (omega arith)
+    digit true e = absurd (none-some x e)
+    digit false e = subst (λ (y : Sending (ByNumber Q)). y.id < 8) (same_Some _ x e) (omega arith)
 
 module _ {State : Type 0} (ends : Ends State) where
   -- the state before execution k of a replay, counted from 0
@@ -83,10 +83,10 @@ module _ {State : Type 0} (ends : Ends State) where
       (h : Replays ends sent starts j s ns ms t) (k n : ℕ) → slice_get ns k ≡ Some n
       → IsStep sent starts (j + k + 1) (before_in sent starts j s ns ms t h k) (before_in sent starts j s ns ms t h (suc k)) (slice_get ms k) n
   unfolding before_in
-  step_at sent starts j s [] [] t h k n e = absurd (none_is_not n e)
+  step_at sent starts j s [] [] t h k n e = absurd (none-some n e)
   step_at sent starts j s (n' ∷ ns) (m ∷ ms) t h zero n e =
       let r = h.1 in
-      let same : n' ≡ n = some_is n' n e in
+      let same : n' ≡ n = same_Some n' n e in
       let i : j + 1 ≡ j + 0 + 1 = omega arith in
       record {
         request = r.request;
@@ -150,9 +150,9 @@ module _ {State : Type 0} (ends : Ends State) where
     reply_at entry has =
         let at = has_at entry replies has in
         let size = replays_entries w.sent w.starts 0 (ends.restarted opening) w.executed replies w.state h in
-        let n = in_range w.executed at.0 (omega (arith, size, below replies at.0 entry at.1)) in
+        let n = in_range w.executed at.0 (omega (arith, size, slice_get_within replies at.0 entry at.1)) in
         let s = step_at w.sent w.starts 0 (ends.restarted opening) w.executed replies w.state h at.0 n.0 n.1 in
-        let entry_is : entry ≡ record { number = n.0; line = (ends.handed (state_before at.0) s.id s.request.call).reply } = some_is _ _ (sym at.1 ∙ s.made) in
+        let entry_is : entry ≡ record { number = n.0; line = (ends.handed (state_before at.0) s.id s.request.call).reply } = same_Some _ _ (sym at.1 ∙ s.made) in
         let number : n.0 ≡ entry.number = sym (ap (λ (m : Numbered (List ℕ)). m.number) entry_is) in
         let found : slice_get w.executed at.0 ≡ Some entry.number = n.1 ∙ ap Some number in
         subst (λ (m : Numbered (List ℕ)). IsReplyAt ends w state_before m) (sym entry_is) (record { j = at.0; executed = n.1; execution = executed_at at.0 n.0 n.1; line = refl })
@@ -171,38 +171,26 @@ module _ {State : Type 0} (ends : Ends State) where
           climbs = climbs;
         }
 
-module _ {Q State : Type 0} (ends : Worlds.Ends Q State) (Good : State → Type 0) (ex : IsExchange ends Good) where
+module _ {Q State : Type 0} (ends : Worlds.Ends Q State) (Good : State → Type 0) where
   -- the entry is a reply to what the request whose number it has asks for
   pub record IsAnswerAt (sent : List (Worlds.Sent Q)) (m : Numbered (List ℕ)) : Type 0 where
     pub request : Worlds.Sent Q
     pub found : slice_get sent m.number ≡ Some request
     pub reply : IsReplyTo ends Good request.call m.line
 
-  -- where the answers of settlements, the first of which is number n, were made for their requests, the one at place m was made
-  -- for request n + m
-  made_get : (made : List (Numbered (List ℕ))) (n : ℕ) (ss : List (Settlement Q)) (m : ℕ) (s : Settlement Q) → AllMade made n ss → slice_get ss m ≡ Some s → IsMade made (n + m) s.outcome
-  made_get made n [] m s h e = absurd (none_is_not s e)
-  made_get made n (x ∷ ss) zero s h e =
-      let i : n ≡ n + 0 = omega arith in
-      subst (λ k. IsMade made k s.outcome) i (subst (λ (y : Settlement Q). IsMade made n y.outcome) (some_is x s e) h.0)
-  made_get made n (x ∷ ss) (suc m) s h e =
-      let i : n + 1 + m ≡ n + suc m = omega arith in
-      subst (λ k. IsMade made k s.outcome) i (made_get made (n + 1) ss m s h.1 e)
-
   -- where settlements correspond one for one, each answer was made for its request, and each reply made is one to its
   -- request's call, an answer at place m is booked for request m
   pub booked : (sent : List (Worlds.Sent Q)) (made : List (Numbered (List ℕ))) (settled : List (Settlement Q)) → IsOneForOne sent settled → AllMade made 0 settled
       → Each (IsAnswerAt sent) made → (m : ℕ) (s : Settlement Q) → slice_get settled m ≡ Some s → IsBooked ends Good made m s
   booked sent made settled one all at m s e bytes answered =
-      let i : 0 + m ≡ m = omega arith in
-      let has : Has (record { number = m; line = bytes }) made = subst (λ o. IsMade made m o) answered (subst (λ k. IsMade made k s.outcome) i (made_get made 0 settled m s all e)) in
+      let has = answer_made made settled m s bytes all e answered in
       let a = each_has (IsAnswerAt sent) made (record { number = m; line = bytes }) at has in
       let same = (one.same m s a.request e a.found).1 in
       (has_at _ made has, subst (λ c. IsReplyTo ends Good c bytes) (sym same) a.reply)
 
 module _ {State : Type 0} (ends : Ends State) (Good : State → Type 0) (ex : IsExchange ends Good) where
   -- the reply of an execution is a reply to the call of the request whose number it has
-  answer_at : (sent : List Sent) (s : State) (n : ℕ) (m : Numbered (List ℕ)) (t : State) → Good s → IsReply ends sent s n m t → IsAnswerAt ends Good ex sent m
+  answer_at : (sent : List Sent) (s : State) (n : ℕ) (m : Numbered (List ℕ)) (t : State) → Good s → Executes ends sent s n m t → IsAnswerAt ends Good sent m
   answer_at sent s n m t good h =
       record {
         request = h.request;
@@ -211,13 +199,13 @@ module _ {State : Type 0} (ends : Ends State) (Good : State → Type 0) (ex : Is
       }
 
   -- an execution, with a restart after it or without, leads to a good state
-  good_next : (sent : List Sent) (s : State) (n : ℕ) (m : Numbered (List ℕ)) (t : State) (b : Bool) → Good s → IsReply ends sent s n m t → Good (begun ends.restarted b t)
+  good_next : (sent : List Sent) (s : State) (n : ℕ) (m : Numbered (List ℕ)) (t : State) (b : Bool) → Good s → Executes ends sent s n m t → Good (begun ends.restarted b t)
   good_next sent s n m t false good h = subst Good h.leads (ex.stays_good s h.id h.request.call good h.small)
   good_next sent s n m t true good h = ex.restart_good t (subst Good h.leads (ex.stays_good s h.id h.request.call good h.small))
 
   -- each reply of a replay is a reply to the call of the request whose number it has
   pub answers_at : (sent : List Sent) (starts : List ℕ) (j : ℕ) (s : State) (ns : List ℕ) (ms : List (Numbered (List ℕ))) (t : State) → Good s
-      → Replays ends sent starts j s ns ms t → Each (IsAnswerAt ends Good ex sent) ms
+      → Replays ends sent starts j s ns ms t → Each (IsAnswerAt ends Good sent) ms
   answers_at sent starts j s [] [] t good h = tt
   answers_at sent starts j s (n ∷ ns) (m ∷ ms) t good h = (
     answer_at sent s n m h.0 good h.1,

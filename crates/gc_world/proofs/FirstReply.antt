@@ -27,7 +27,7 @@ use Rattle.gc_world.proofs.Delivering.{delivery_is}
 use Rattle.gc_world.proofs.Handing.{KeptFits, reads}
 use Rattle.gc_world.proofs.Marks.{entry_all}
 use Rattle.gc_world.proofs.Moments.{marked_all, in_time, too_late}
-use Rattle.gc_world.proofs.Options.{some_is, none_is_not}
+use Rattle.std.proofs.lemmas.Option.{same_Some, none-some}
 use Rattle.gc_world.proofs.Places.{get_map, get_push, get_seen}
 use Rattle.gc_world.proofs.Settled.{of_sent, whole_at}
 use Rattle.gc_world.proofs.Sound.{Sound, sound_step}
@@ -48,8 +48,8 @@ partner_at f g xs ys n x e h = get_seen g ys n (f x) (ap (λ l. slice_get l n) (
 
 -- settling through place k settles the first k requests as lost, and the one at place k by the line
 settle_at : (k : ℕ) (line : List ℕ) (ps : List (Pending Call)) (p : Pending Call) → slice_get ps k ≡ Some p → settle k line ps ≡ map lost (take k ps) ++ settled_by_line p line ∷ []
-settle_at k line [] p h = absurd (none_is_not p h)
-settle_at zero line (q ∷ ps) p h = ap (λ r. settled_by_line r line ∷ []) (some_is q p h)
+settle_at k line [] p h = absurd (none-some p h)
+settle_at zero line (q ∷ ps) p h = ap (λ r. settled_by_line r line ∷ []) (same_Some q p h)
 settle_at (suc k) line (q ∷ ps) p h = ap (λ l. lost q ∷ l) (settle_at k line ps p h)
 
 -- the settlement, with this outcome, of a request with this target and this call
@@ -132,85 +132,85 @@ module _ (width : ℕ) where
 
 module _ (width : ℕ) (narrow : width ≤ WINDOW) (opening : State) where
   -- the streams that the run by ids of these events leaves
-  abbrev seen_by : List Event → Streams (ById Call) State
-  seen_by events = streams_by_ids width ends events (restarted opening)
+  abbrev ids_after : List Event → Streams (ById Call) State
+  ids_after events = streams_by_ids width ends events (restarted opening)
 
   -- the streams that the run by numbers of these events leaves
-  abbrev counted_by : List Event → Streams (ByNumber Call) State
-  counted_by events = streams_by_numbers width ends events (restarted opening)
+  abbrev numbers_after : List Event → Streams (ByNumber Call) State
+  numbers_after events = streams_by_numbers width ends events (restarted opening)
 
   -- the two runs of these events are level
-  level : (events : List Event) → AreLevel width narrow ends KeptFits reads (restarted opening) tt (seen_by events) (counted_by events)
+  level : (events : List Event) → AreLevel width narrow ends KeptFits reads (restarted opening) tt (ids_after events) (numbers_after events)
   level events = level_at width narrow ends KeptFits reads (restarted opening) tt events
 
   -- the run by numbers of these events ends in a sound world
-  sound_in : (events : List Event) → Sound width ends KeptFits (counted_by events).world
+  sound_in : (events : List Event) → Sound width ends KeptFits (numbers_after events).world
   sound_in events = subst (Sound width ends KeptFits) (sym (level events).numbers) (sound_at width narrow ends KeptFits reads (level events).steps (restarted opening) tt)
 
   -- the two runs of these events leave the same wire
-  wire_in : (events : List Event) → left_by_ids width opening events ≡ (counted_by events).world.wire
-  wire_in events = level_wire width narrow ends KeptFits reads (restarted opening) tt (seen_by events) (counted_by events) (level events)
+  wire_in : (events : List Event) → left_by_ids width opening events ≡ (numbers_after events).world.wire
+  wire_in events = level_wire width narrow ends KeptFits reads (restarted opening) tt (ids_after events) (numbers_after events) (level events)
 
   -- the run by numbers of one more event is the run of the others, and then that event
-  counted_more : (events : List Event) (e : Event) → counted_by (events ++ e ∷ []) ≡ flows ends (by_numbers width) (counted_by events) e
-  counted_more events e = flow_append ends (by_numbers width) events (e ∷ []) (untouched (numbers_open (restarted opening)))
+  numbers_more : (events : List Event) (e : Event) → numbers_after (events ++ e ∷ []) ≡ flows ends (by_numbers width) (numbers_after events) e
+  numbers_more events e = flow_append ends (by_numbers width) events (e ∷ []) (untouched (numbers_open (restarted opening)))
 
   -- the streams after the earlier events and then the send of a request, in the run by numbers
-  abbrev behind : (earlier : List Event) (target : ℕ) (call : Call) (deadline : ℕ) → Streams (ByNumber Call) State
-  behind earlier target call deadline = flows ends (by_numbers width) (counted_by earlier) (event.Send target call deadline)
+  abbrev after_send : (earlier : List Event) (target : ℕ) (call : Call) (deadline : ℕ) → Streams (ByNumber Call) State
+  after_send earlier target call deadline = flows ends (by_numbers width) (numbers_after earlier) (event.Send target call deadline)
 
   -- the request that this send made, as the oracle client has it after these later events, while it isn't settled
   abbrev mark_of : (earlier : List Event) (target : ℕ) (call : Call) (deadline : ℕ) (later : List Event) → Pending Call
-  mark_of earlier target call deadline later = marked_all ends (by_numbers width) later (behind earlier target call deadline) (pending_of target call deadline)
+  mark_of earlier target call deadline later = marked_all ends (by_numbers width) later (after_send earlier target call deadline) (pending_of target call deadline)
 
   -- while request n isn't settled, the oracle client has it at place n as `mark_of` says
   entry : (events : List Event) (n deadline : ℕ) (later : List Event) (s : IsSentBefore width opening events n deadline later)
-      → length (left_by_ids width opening events).settled ≤ n → slice_get (counted_by events).world.client.requests n ≡ Some
+      → length (left_by_ids width opening events).settled ≤ n → slice_get (numbers_after events).world.client.requests n ≡ Some
       (mark_of s.earlier s.target s.call deadline later)
   entry events n deadline later s le =
       let e : Event = event.Send s.target s.call deadline in
-      let v = (counted_by s.earlier).world in
-      let b = behind s.earlier s.target s.call deadline in
+      let v = (numbers_after s.earlier).world in
+      let b = after_send s.earlier s.target s.call deadline in
       let w = b.world in
       let steps = taken ends (by_numbers width) later b in
       let here : length v.wire.sent ≡ n = ap (λ (u : Wire State). length u.sent) (sym (wire_in s.earlier)) ∙ s.number in
       let more : length w.wire.sent ≡ length v.wire.sent + 1 =
-      ap (λ (u : Streams (ByNumber Call) State). length u.world.wire.sent) (sym (counted_more s.earlier e)) ∙ ap (λ (u : Wire State). length u.sent) (sym (wire_in (s.earlier ++ e ∷ [])))
+      ap (λ (u : Streams (ByNumber Call) State). length u.world.wire.sent) (sym (numbers_more s.earlier e)) ∙ ap (λ (u : Wire State). length u.sent) (sym (wire_in (s.earlier ++ e ∷ [])))
       ∙ s.taken ∙ ap (λ m. m + 1) (sym here) in
       let full = eqb (length v.client.requests - v.client.count) width in
       let at : slice_get w.client.requests n ≡ Some (pending_of s.target s.call deadline) =
       ap (slice_get w.client.requests) (sym here) ∙ sent_entry width v s.target s.call deadline full (sound_in s.earlier).counted more in
-      let whole : (counted_by events).world ≡ run ends (by_numbers width) steps w =
-      ap (λ es. (counted_by es).world) s.order
+      let whole : (numbers_after events).world ≡ run ends (by_numbers width) steps w =
+      ap (λ es. (numbers_after es).world) s.order
       ∙ ap (λ (u : Streams (ByNumber Call) State). u.world) (flow_append ends (by_numbers width) s.earlier (e ∷ later) (untouched (numbers_open (restarted opening))))
       ∙ flow_run ends (by_numbers width) later b in
-      let unsettled : (counted_by events).world.client.count ≤ n = omega (arith, (sound_in events).booked, ap (λ (u : Wire State). length u.settled) (wire_in events), le) in
+      let unsettled : (numbers_after events).world.client.count ≤ n = omega (arith, (sound_in events).booked, ap (λ (u : Wire State). length u.settled) (wire_in events), le) in
       subst (λ (u : World (ByNumber Call) State). slice_get u.client.requests n ≡ Some (mark_of s.earlier s.target s.call deadline later)) (sym whole)
       (entry_all width ends KeptFits reads steps w n (pending_of s.target s.call deadline)
       (sound_step width ends KeptFits call_line reads v (Send s.target s.call deadline) (sound_in s.earlier)) at (subst (λ (u : World (ByNumber Call) State). u.client.count ≤ n) whole unsettled))
 
   -- an event that delivers the front reply leaves in the run by ids the settlements that the step `Down_deliver` leaves in the
   -- run by numbers
-  delivered_by : (events : List Event) (delivery : Event) → IsDelivery (seen_by events) delivery → (x : Numbered (List ℕ)) (rest : List (Numbered (List ℕ)))
+  delivered_by : (events : List Event) (delivery : Event) → IsDelivery (ids_after events) delivery → (x : Numbered (List ℕ)) (rest : List (Numbered (List ℕ)))
       → (left_by_ids width opening events).down ≡ x ∷ rest → (left_by_ids width opening (events ++ delivery ∷ [])).settled ≡
-      (happens ends (by_numbers width) (counted_by events).world Down_deliver).wire.settled
+      (happens ends (by_numbers width) (numbers_after events).world Down_deliver).wire.settled
   delivered_by events delivery is x rest front =
       let one : left_by_ids width opening (events ++ delivery ∷ []) ≡ left_by_ids width opening (events ++ DownDeliver ∷ []) =
       ap (λ (v : Streams (ById Call) State). v.world.wire)
       (flow_append ends (by_ids width ends) events (delivery ∷ []) (untouched (ids_open (restarted opening)))
-      ∙ delivery_is ends (by_ids width ends) (seen_by events) delivery is
+      ∙ delivery_is ends (by_ids width ends) (ids_after events) delivery is
       ∙ sym (flow_append ends (by_ids width ends) events (DownDeliver ∷ []) (untouched (ids_open (restarted opening))))) in
-      ap (λ (u : Wire State). u.settled) (one ∙ wire_in (events ++ DownDeliver ∷ [])) ∙ ap (λ (u : Streams (ByNumber Call) State). u.world.wire.settled) (counted_more events DownDeliver)
+      ap (λ (u : Wire State). u.settled) (one ∙ wire_in (events ++ DownDeliver ∷ [])) ∙ ap (λ (u : Streams (ByNumber Call) State). u.world.wire.settled) (numbers_more events DownDeliver)
 
   -- where the oracle client has p as request n, the delivery of the reply settles the request: as late where p had timed
   -- out, else as answered
-  settled_at : (events : List Event) (n : ℕ) (line : List ℕ) (p : Pending Call) → slice_get (counted_by events).world.client.requests n ≡ Some p
+  settled_at : (events : List Event) (n : ℕ) (line : List ℕ) (p : Pending Call) → slice_get (numbers_after events).world.client.requests n ≡ Some p
       → DeliverySettles width opening events n line (outcome_of p line)
   settled_at events n line p h delivery is next =
       let l = level events in
       let a = run_by_ids width ends l.steps (restarted opening) in
-      let same : (seen_by events).world ≡ a = l.ids in
-      let b = (counted_by events).world in
+      let same : (ids_after events).world ≡ a = l.ids in
+      let b = (numbers_after events).world in
       let agree = subst (Agree width narrow ends KeptFits a) (sym l.numbers) (agree_at width narrow ends KeptFits reads l.steps (restarted opening) tt) in
       let front : a.wire.down ≡ record { number = n; line = line } ∷ next.behind = ap (λ (u : World (ById Call) State). u.wire.down) (sym same) ∙ next.front in
       let unsettled : length a.wire.settled ≤ n = subst (λ (u : World (ById Call) State). length u.wire.settled ≤ n) same next.unsettled in
@@ -241,7 +241,7 @@ module _ (width : ℕ) (narrow : width ≤ WINDOW) (opening : State) where
       let s = t.sent in
       let p = mark_of s.earlier s.target s.call t.deadline t.later in
       subst (λ b. IsSettledAs (left_by_ids width opening events) (left_by_ids width opening (events ++ delivery ∷ [])) n (cond b Late (Answered line)))
-      (in_time ends (by_numbers width) t.later (behind s.earlier s.target s.call t.deadline) (pending_of s.target s.call t.deadline) refl t.early)
+      (in_time ends (by_numbers width) t.later (after_send s.earlier s.target s.call t.deadline) (pending_of s.target s.call t.deadline) refl t.early)
       (settled_at events n line p (entry events n t.deadline t.later s next.unsettled) delivery is next)
 
   -- a first reply that comes too late settles its request as late
@@ -250,15 +250,15 @@ module _ (width : ℕ) (narrow : width ≤ WINDOW) (opening : State) where
       let s = t.sent in
       let p = mark_of s.earlier s.target s.call t.deadline t.later in
       subst (λ b. IsSettledAs (left_by_ids width opening events) (left_by_ids width opening (events ++ delivery ∷ [])) n (cond b Late (Answered line)))
-      (too_late ends (by_numbers width) t.later (behind s.earlier s.target s.call t.deadline) (pending_of s.target s.call t.deadline) t.now t.given t.reached)
+      (too_late ends (by_numbers width) t.later (after_send s.earlier s.target s.call t.deadline) (pending_of s.target s.call t.deadline) t.now t.given t.reached)
       (settled_at events n line p (entry events n t.deadline t.later s next.unsettled) delivery is next)
 
   -- a further reply settles nothing
-  pub no_second : (events : List Event) (n : ℕ) (line : List ℕ) (rest : List (Numbered (List ℕ))) (delivery : Event) → IsDelivery (seen_by events) delivery
+  pub no_second : (events : List Event) (n : ℕ) (line : List ℕ) (rest : List (Numbered (List ℕ))) (delivery : Event) → IsDelivery (ids_after events) delivery
       → (left_by_ids width opening events).down ≡ record { number = n; line = line } ∷ rest → n < length (left_by_ids width opening events).settled
       → (left_by_ids width opening (events ++ delivery ∷ [])).settled ≡ (left_by_ids width opening events).settled
   no_second events n line rest delivery is front lt =
-      let b = (counted_by events).world in
+      let b = (numbers_after events).world in
       let same = sym (wire_in events) in
       let x : Numbered (List ℕ) = record { number = n; line = line } in
       let old : n < b.client.count = omega (arith, (sound_in events).booked, ap (λ (u : Wire State). length u.settled) same, lt) in

@@ -1,10 +1,10 @@
 -- For the loop that hands over n bytes of a direction, one completed line after the other: at each turn, handing over the bytes
 -- that are left leads to the same streams as handing over all n bytes at the start. An event *takes no memory* where `TakesNoMemory`
 -- holds of it: no list grows, as where bytes complete no line.
-use Rattle.std.proofs.Common.{◌≡◌, ℕ, zero, suc, ◌+◌, ◌-◌, ◌<◌, ◌≤◌, Bool, true, false, cond, ◌⊎◌, inl, inr, List, [], ◌∷◌, length, map, drop, Option, Some, None, refl, sym, ◌∙◌, ap, subst, arith}
+use Rattle.std.proofs.Common.{◌≡◌, ℕ, zero, suc, ◌+◌, ◌-◌, ◌<◌, ◌≤◌, Bool, false, cond, List, [], ◌∷◌, length, map, drop, Option, Some, None, refl, sym, ◌∙◌, ap, subst, arith}
 use mathlib.Core.Path.{ap₂}
 use Rattle.std.specs.Prelude.{replicate, IsTrue, ◌↔◌}
-use Rattle.std.proofs.lemmas.Bool.{cases_lt, le-ltb}
+use Rattle.std.proofs.lemmas.Bool.{both_ways, le-ltb}
 use Rattle.gc_lines.specs.Lines.{with_end}
 use Rattle.gc_catalogue.specs.declared.call.Call.{Call}
 use Rattle.gc_client.specs.Rule.{ById, fits, heard, hears, place_in, id_settled}
@@ -16,9 +16,10 @@ use Rattle.gc_world.specs.Directions.{deliver, delivery, bytes, texts, lines, go
 use Rattle.gc_world.specs.Memory.{IsStray, AreStrays, TakesNoMemory}
 use Rattle.gc_world.specs.Sides.{IsPart}
 use Rattle.gc_world.specs.Stages.{Seen, after_step, after_event, AreStreamsOf, after_bytes}
-use Rattle.gc_world.specs.Streams.{Streams, Cut, one_more, cut, down_lines, remaining}
-use Rattle.gc_world.specs.World.{Numbered, Down_deliver, down_delivered, run}
-use Rattle.gc_world.proofs.Directions.{gone_reached, reaches_again, reaches_same, delivered, passing, bytes_pass, after_cut, one_less, not_idle}
+use Rattle.gc_world.specs.Streams.{Streams, Cut, one_more, cut, down_lines, remaining, flows}
+use Rattle.gc_world.specs.World.{Numbered, Ends, Rule, Down_deliver, down_delivered, happens, run}
+use Rattle.gc_world.proofs.Directions.{gone_reached, reaches_again, unmoved, delivered, passing, bytes_pass, after_cut, handed_over, one_less, not_idle}
+use Rattle.gc_world.proofs.Queues.{not_below}
 use Rattle.gc_world.proofs.Shown.{part}
 
 -- where n bytes complete the front line, the cut at n bytes is the cut of the lines after that line at the bytes that are
@@ -42,18 +43,18 @@ stray_same c line None e = refl
 stray_same c line (Some id) e = ap (λ b. (id_settled c line (place_in c id) b).client) e
 
 -- One turn of that loop: n bytes of the direction d are to go over on the streams v, and `used` of them complete the front line.
-module _ (width : ℕ) (d : Direction) (v : Streams (ById Call) State) where
+module _ {Client State : Type 0} (ends : Ends State) (rule : Rule Client) (d : Direction) (v : Streams Client State) where
   -- the front line takes `used` of the n bytes: the cut at all n bytes is the cut of the lines after that line at the n -
   -- used others, and one line more
-  record IsNext (n used : ℕ) : Type 0 where
-    text : List ℕ
-    behind : List (List ℕ)
-    front : texts d v.world.wire ≡ text ∷ behind
-    cut_is : cut (lines d v.world.wire) (gone d v + n) ≡ one_more (cut (map with_end behind) (n - used))
-    tail : behind ≡ texts d (after_step width v.world (deliver d)).wire
+  pub record IsNext (n used : ℕ) : Type 0 where
+    pub text : List ℕ
+    pub behind : List (List ℕ)
+    pub front : texts d v.world.wire ≡ text ∷ behind
+    pub cut_is : cut (lines d v.world.wire) (gone d v + n) ≡ one_more (cut (map with_end behind) (n - used))
+    pub tail : behind ≡ texts d (happens ends rule v.world (deliver d)).wire
 
   -- `IsNext` holds where the front line takes what remains of it, which is some bytes and no more than n
-  next : (n used : ℕ) → used ≡ remaining (gone d v) (lines d v.world.wire) → 0 < used → used ≤ n → IsNext n used
+  pub next : (n used : ℕ) → used ≡ remaining (gone d v) (lines d v.world.wire) → 0 < used → used ≤ n → IsNext n used
   next n used e some le =
       let f = in_front (gone d v) (texts d v.world.wire) (subst (λ k. 0 < k) e some) in
       let size : used ≡ length (with_end f.0) - gone d v = e ∙ ap (λ q. remaining (gone d v) (map with_end q)) f.2 in
@@ -64,47 +65,55 @@ module _ (width : ℕ) (d : Direction) (v : Streams (ById Call) State) where
         front = f.2;
         cut_is = ap (λ q. cut (map with_end q) (gone d v + n)) f.2 ∙ cut_long (with_end f.0) (map with_end f.1) (gone d v + n) (omega (arith, size, some, le))
             ∙ ap (λ k. one_more (cut (map with_end f.1) k)) left;
-        tail = sym (one_less ends (by_ids width ends) d v.world ∙ ap (drop 1) f.2);
+        tail = sym (one_less ends rule d v.world ∙ ap (drop 1) f.2);
       }
 
   -- the streams after the delivery of the front line
-  abbrev after : Streams (ById Call) State
-  after = reaches d v (after_step width v.world (deliver d)) 0
+  abbrev after : Streams Client State
+  after = reaches d v (happens ends rule v.world (deliver d)) 0
 
   -- handing over n bytes is delivering the front line, and then handing over the n - used others
-  next_same : (n used : ℕ) → IsNext n used → after_bytes width d v n ≡ after_bytes width d (after_event width v (delivery d)) (n - used)
+  pub next_same : (n used : ℕ) → IsNext n used → handed_over ends rule d v n ≡ handed_over ends rule d (flows ends rule v (delivery d)) (n - used)
   next_same n used h =
-      let rule = by_ids width ends in
       let c = cut (map with_end h.behind) (n - used) in
-      let w = after_step width v.world (deliver d) in
+      let w = happens ends rule v.world (deliver d) in
       let none : gone d after ≡ 0 = gone_reached d v w 0 in
       let more : n - used ≡ gone d after + (n - used) = omega (arith, none) in
       ap (after_cut ends rule d v) h.cut_is ∙ sym (reaches_again d v w 0 (run ends rule (replicate c.lines (deliver d)) w) c.gone)
       ∙ ap₂ (λ q k. after_cut ends rule d after (cut (map with_end q) k)) h.tail more
-      ∙ ap (λ x. after_bytes width d x (n - used)) (sym (delivered ends rule d v))
+      ∙ ap (λ x. handed_over ends rule d x (n - used)) (sym (delivered ends rule d v))
 
   -- the delivery of the front line is no idle event
-  next_idle : (n used : ℕ) → IsNext n used → (after_event width v (delivery d)).world.wire.idle ≡ v.world.wire.idle
+  pub next_idle : (n used : ℕ) → IsNext n used → (flows ends rule v (delivery d)).world.wire.idle ≡ v.world.wire.idle
   next_idle n used h =
       let some : length (texts d v.world.wire) ≡ suc (length h.behind) = ap length h.front in
-      ap (λ (x : Streams (ById Call) State). x.world.wire.idle) (delivered ends (by_ids width ends) d v) ∙ not_idle ends (by_ids width ends) d v.world (omega (arith, some))
+      ap (λ (x : Streams Client State). x.world.wire.idle) (delivered ends rule d v) ∙ not_idle ends rule d v.world (omega (arith, some))
 
   -- where no byte is in flight, handing over bytes changes nothing
-  ended : (n : ℕ) → IsPart (gone d v) (lines d v.world.wire) → remaining (gone d v) (lines d v.world.wire) ≡ 0 → after_bytes width d v n ≡ v
+  pub ended : (n : ℕ) → IsPart (gone d v) (lines d v.world.wire) → remaining (gone d v) (lines d v.world.wire) ≡ 0 → handed_over ends rule d v n ≡ v
   ended n part e =
       let none = none_in_flight (gone d v) (lines d v.world.wire) part e in
-      ap (λ q. after_cut ends (by_ids width ends) d v (cut q (gone d v + n))) none.0 ∙ ap (reaches d v v.world) (sym none.1) ∙ reaches_same d v
+      ap (λ q. after_cut ends rule d v (cut q (gone d v + n))) none.0 ∙ ap (reaches d v v.world) (sym none.1) ∙ unmoved d v v.world
+
+  -- an event of n bytes leads to the streams that `handed_over` gives, where n isn't 0 and bytes are in flight
+  pub bytes_handed : (n r : ℕ) → r ≡ remaining (gone d v) (lines d v.world.wire) → (n ≡ 0 → ⊥) → (r ≡ 0 → ⊥) → flows ends rule v (bytes d n) ≡ handed_over ends rule d v n
+  bytes_handed n r e not none = bytes_pass ends rule d v n ∙ by_cases n (lines d v.world.wire) not (λ z. none (e ∙ z))
+    where
+      by_cases : (k : ℕ) (q : List (List ℕ)) → (k ≡ 0 → ⊥) → (remaining (gone d v) q ≡ 0 → ⊥) → passing ends rule d v q k ≡ after_cut ends rule d v (cut q (gone d v + k))
+      by_cases zero q some more = absurd (some refl)
+      by_cases (suc k) [] some more = absurd (more refl)
+      by_cases (suc k) (l ∷ ls) some more = refl
 
 -- A delivery that takes no memory: upward there is none, and downward it is one of a stray.
 module _ (width : ℕ) (v : Streams (ById Call) State) where
   -- bytes upward that take no memory complete no line
-  next_takes : (n used : ℕ) → IsNext width Up v n used → TakesNoMemory width v (bytes Up n) → ⊥
+  next_takes : (n used : ℕ) → IsNext ends (by_ids width ends) Up v n used → TakesNoMemory width v (bytes Up n) → ⊥
   next_takes n used h z =
       let s : suc (cut (map with_end h.behind) (n - used)).lines ≡ 0 = sym (ap (λ (c : Cut). c.lines) h.cut_is) ∙ z in
       absurd (omega (arith, s))
 
   -- where bytes downward take no memory, neither the delivery of the front line nor the other bytes do
-  next_strays : (n used : ℕ) → IsNext width Down v n used → (q : List (Numbered (List ℕ))) → v.world.wire.down ≡ q → TakesNoMemory width v (bytes Down n)
+  next_strays : (n used : ℕ) → IsNext ends (by_ids width ends) Down v n used → (q : List (Numbered (List ℕ))) → v.world.wire.down ≡ q → TakesNoMemory width v (bytes Down n)
       → TakesNoMemory width v (delivery Down) × TakesNoMemory width (after_event width v (delivery Down)) (bytes Down (n - used))
   next_strays n used h [] e t = let wrong : [] ≡ h.text ∷ h.behind = sym (ap (map (λ x. x.line)) e) ∙ h.front in cc
   next_strays n used h (x ∷ xs) e t =
@@ -122,7 +131,7 @@ module _ (width : ℕ) (v : Streams (ById Call) State) where
 
 -- where the bytes of an event take no memory, neither does the delivery of the front line nor do the other bytes, in either
 -- direction
-spared : (width : ℕ) (d : Direction) (v : Streams (ById Call) State) (n used : ℕ) → IsNext width d v n used → TakesNoMemory width v (bytes d n)
+spared : (width : ℕ) (d : Direction) (v : Streams (ById Call) State) (n used : ℕ) → IsNext ends (by_ids width ends) d v n used → TakesNoMemory width v (bytes d n)
     → TakesNoMemory width v (delivery d) × TakesNoMemory width (after_event width v (delivery d)) (bytes d (n - used))
 spared width Up v n used h t = absurd (next_takes width v n used h t)
 spared width Down v n used h t = next_strays width v n used h v.world.wire.down refl t
@@ -144,18 +153,18 @@ module _ (width : ℕ) (d : Direction) (s : Seen) (v : Streams (ById Call) State
   pub reaches_next : (t : Seen) (used : ℕ) → used ≡ remaining (gone d h.now) (lines d h.now.world.wire) → 0 < used → used ≤ left
       → AreStreamsOf width t (after_event width h.now (delivery d)) → IsReached width d t v n (left - used)
   reaches_next t used e some le shows =
-      let one = next width d h.now left used e some le in
+      let one = next ends (by_ids width ends) d h.now left used e some le in
       record {
         now = after_event width h.now (delivery d);
         shows = shows;
-        same = sym (next_same width d h.now left used one) ∙ h.same;
+        same = sym (next_same ends (by_ids width ends) d h.now left used one) ∙ h.same;
         spare = λ t. (spared width d h.now left used one (h.spare t)).1;
-        idle = next_idle width d h.now left used one ∙ h.idle;
+        idle = next_idle ends (by_ids width ends) d h.now left used one ∙ h.idle;
       }
 
   -- where the n bytes of the event take no memory, the delivery of the front line takes none
   pub next_spares : (used : ℕ) → used ≡ remaining (gone d h.now) (lines d h.now.world.wire) → 0 < used → used ≤ left → TakesNoMemory width v (bytes d n) → TakesNoMemory width h.now (delivery d)
-  next_spares used e some le t = (spared width d h.now left used (next width d h.now left used e some le) (h.spare t)).0
+  next_spares used e some le t = (spared width d h.now left used (next ends (by_ids width ends) d h.now left used e some le) (h.spare t)).0
 
   -- where the bytes that are left complete no line, handing them over leads where all n lead
   pub reaches_end : (t : Seen) → AreStreamsOf width t (after_bytes width d h.now left) → AreStreamsOf width t (after_bytes width d v n)
@@ -163,30 +172,9 @@ module _ (width : ℕ) (d : Direction) (s : Seen) (v : Streams (ById Call) State
 
   -- where no byte is in flight any more, the streams are those that all n bytes lead to
   pub runs_dry : remaining (gone d h.now) (lines d h.now.world.wire) ≡ 0 → AreStreamsOf width s (after_bytes width d v n)
-  runs_dry e = subst (λ x. AreStreamsOf width s x) (sym (ended width d h.now left (part width s h.now h.shows d) e) ∙ h.same) h.shows
-
--- no truth value is both true and false
-pub is_not : (b : Bool) → b ≡ true → b ≡ false → ⊥
-is_not b t f = let wrong : true ≡ false = sym t ∙ f in cc
+  runs_dry e = subst (λ x. AreStreamsOf width s x) (sym (ended ends (by_ids width ends) d h.now left (part width s h.now h.shows d) e) ∙ h.same) h.shows
 
 -- where l bytes don't complete a line of which r bytes remain (b is the test for that), and aren't fewer than r either, r is 0
 pub runs_out : (b : Bool) (r l : ℕ) → IsTrue b ↔ ((0 < r) × (r ≤ l)) → b ≡ false → (l < r → ⊥) → r ≡ 0
 runs_out b zero l iff e le = refl
-runs_out b (suc r) l iff e le = absurd (is_not b (iff.1 (omega arith, least (suc r) l le)) e)
-  where
-    least : (a d : ℕ) → (d < a → ⊥) → a ≤ d
-    least a d no_less = by_either (cases_lt d a)
-      where
-        by_either : (d < a) ⊎ (a ≤ d) → a ≤ d
-        by_either (inl lt) = absurd (no_less lt)
-        by_either (inr le1) = le1
-
--- an event of n bytes leads to the streams that `after_bytes` gives, where n isn't 0 and bytes are in flight
-pub bytes_handed : (width : ℕ) (d : Direction) (v : Streams (ById Call) State) (n r : ℕ) → r ≡ remaining (gone d v) (lines d v.world.wire) → (n ≡ 0 → ⊥) → (r ≡ 0 → ⊥)
-    → after_event width v (bytes d n) ≡ after_bytes width d v n
-bytes_handed width d v n r e not none = bytes_pass ends (by_ids width ends) d v n ∙ by_cases n (lines d v.world.wire) not (λ z. none (e ∙ z))
-  where
-    by_cases : (k : ℕ) (q : List (List ℕ)) → (k ≡ 0 → ⊥) → (remaining (gone d v) q ≡ 0 → ⊥) → passing ends (by_ids width ends) d v q k ≡ after_cut ends (by_ids width ends) d v (cut q (gone d v + k))
-    by_cases zero q some more = absurd (some refl)
-    by_cases (suc k) [] some more = absurd (more refl)
-    by_cases (suc k) (l ∷ ls) some more = refl
+runs_out b (suc r) l iff e le = absurd (both_ways b e (iff.1 (omega arith, not_below l (suc r) le)))

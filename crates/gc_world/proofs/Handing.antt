@@ -26,22 +26,17 @@ use Rattle.gc_world.specs.Exchange.{IsExchange, IsKeeper}
 use Rattle.gc_world.specs.Faithful.{IsValueOrRefusal, begun}
 use Rattle.gc_world.specs.Record.{IsReplyTo}
 use Rattle.gc_world.specs.Clients.{ends}
-use Rattle.gc_world.proofs.Options.{some_is}
+use Rattle.std.proofs.lemmas.Option.{cond_some, none-some, same_Some}
 
 -- where a reply is kept, its line is a reply line with the id that it is kept with
 abbrev pub KeptFits : State → Type 0
 KeptFits s = IsFittingKept s.kept
 
--- where `if b then Some l else None` is a line, b is true, and l is that line
-pub some_if : (b : Bool) (l line : List ℕ) → cond b (Some l) None ≡ Some line → (b ≡ true) × (l ≡ line)
-some_if true l line e = (refl, (cc))
-some_if false l line e = let never : ⊥ = cc in absurd never
-
 -- a kept line that is given for an id is heard with that id
 kept_heard : (k : Option KeptReply) (id : ℕ) (line : List ℕ) → kept_line k (Some id) ≡ Some line → IsFittingKept k → heard line ≡ Some id
 kept_heard None id line e h = let never : ⊥ = cc in absurd never
 kept_heard (Some k) id line e h =
-    let c = some_if (eqb k.id id) k.line line e in
+    let c = cond_some (eqb k.id id) k.line line e in
     ap heard (sym c.1) ∙ ap id_in (reply_again k.line h.fields h.is_reply) ∙ h.same_id ∙ ap Some (eqb-true k.id id c.0)
 
 -- the reply line to a call that was carried out reads back as the reply with this id
@@ -131,27 +126,42 @@ pub bare_begun : (b : Bool) (s t : State) → without_kept s ≡ t → without_k
 bare_begun false s t e = e
 bare_begun true s t e = ap restarted e
 
+-- the id with which a reply is kept, if one is kept
+abbrev pub kept_id : Option KeptReply → Option ℕ
+kept_id k = option_map (λ (r : KeptReply). r.id) k
+
+-- where the kept line for an id (`kept_line`) is this one, this line is kept, with that id
+pub kept_own : (k : Option KeptReply) (id : ℕ) (line : List ℕ) → kept_line k (Some id) ≡ Some line → k ≡ Some (record { id = id; line = line })
+kept_own None id line e = absurd (none-some line e)
+kept_own (Some k) id line e =
+    let c = cond_some (eqb k.id id) k.line line e in
+    ap (λ i. Some (record { id = i; line = k.line })) (eqb-true k.id id c.0) ∙ ap (λ l. Some (record { id = id; line = l })) c.1
+
+-- where a line is sent again for an id, if the instrument sends kept lines again (true), this line is kept, with that id
+pub again_kept : (b : Bool) (k : Option KeptReply) (id : ℕ) (line : List ℕ) → cond b (kept_line k (Some id)) None ≡ Some line → k ≡ Some (record { id = id; line = line })
+again_kept true k id line e = kept_own k id line e
+again_kept false k id line e = absurd (none-some line e)
+
 -- where the kept id changed, the request was executed
-pub executed_by_id : (s : State) (id : ℕ) (call : Call) → (option_map (λ (k : KeptReply). k.id) s.kept ≡ option_map (λ (k : KeptReply). k.id)
-    (handed s id call).state.kept → ⊥) → (handed s id call).executed ≡ true
+pub executed_by_id : (s : State) (id : ℕ) (call : Call) → (kept_id s.kept ≡ kept_id (handed s id call).state.kept → ⊥) → (handed s id call).executed ≡ true
 executed_by_id s id call other = elim (kept_or_not (kept_line s.kept (Some id))) [
-  | inl h ↦ absurd (other (sym (ap (λ (x : Handed State). option_map (λ (k : KeptReply). k.id) x.state.kept) (handed_again s id call h.0 h.1))))
+  | inl h ↦ absurd (other (sym (ap (λ (x : Handed State). kept_id x.state.kept) (handed_again s id call h.0 h.1))))
   | inr e ↦ ap (λ (x : Handed State). x.executed) (handed_new s id call e)
 ]
 
 -- where no line is kept for an id, the kept id is another
-not_kept : (k : Option KeptReply) (id : ℕ) → kept_line k (Some id) ≡ None → option_map (λ (k : KeptReply). k.id) k ≡ Some id → ⊥
-not_kept None id e same = cc
-not_kept (Some k) id e same =
-    let own : k.id ≡ id = some_is k.id id same in
-    let wrong : Some k.line ≡ None = sym (ap (λ b. cond b (Some k.line) None) (eq-eqb k.id id own)) ∙ e in cc
+pub other_id : (k : Option KeptReply) (id : ℕ) → kept_line k (Some id) ≡ None → kept_id k ≡ Some id → ⊥
+other_id None id e is = cc
+other_id (Some k) id e is =
+    let same : k.id ≡ id = same_Some k.id id is in
+    let yes : eqb k.id id ≡ true = eq-eqb k.id id same in
+    none-some k.line (sym e ∙ ap (λ b. cond b (Some k.line) None) yes)
 
 -- where the kept id is as before, the request was a repeat
-pub repeated_by_id : (s : State) (id : ℕ) (call : Call) → option_map (λ (k : KeptReply). k.id) s.kept ≡ option_map (λ (k : KeptReply). k.id)
-    (handed s id call).state.kept → (handed s id call).executed ≡ false
+pub repeated_by_id : (s : State) (id : ℕ) (call : Call) → kept_id s.kept ≡ kept_id (handed s id call).state.kept → (handed s id call).executed ≡ false
 repeated_by_id s id call same = elim (kept_or_not (kept_line s.kept (Some id))) [
   | inl h ↦ ap (λ (x : Handed State). x.executed) (handed_again s id call h.0 h.1)
-  | inr e ↦ absurd (not_kept s.kept id e (same ∙ ap (λ (x : Handed State). option_map (λ (k : KeptReply). k.id) x.state.kept) (handed_new s id call e)))
+  | inr e ↦ absurd (other_id s.kept id e (same ∙ ap (λ (x : Handed State). kept_id x.state.kept) (handed_new s id call e)))
 ]
 
 -- where two readings are each a value or a refusal, so is the one that b chooses

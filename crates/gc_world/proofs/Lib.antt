@@ -1,5 +1,4 @@
 pub mod Once
-pub mod Options
 pub mod Places
 pub mod Ids
 pub mod Rows

@@ -1,7 +1,7 @@
 -- A request that waits has timed out exactly by a moment at or past its deadline.
 use Rattle.std.proofs.Common.{◌≡◌, ℕ, zero, suc, ◌+◌, ◌<◌, ◌≤◌, ◌||◌, Bool, true, false, cond, List, [], ◌∷◌, ◌++◌, ◌⊎◌, inl, inr, Contains, refl, sym, ◌∙◌, ap, subst, arith, leb}
 use Rattle.std.specs.Prelude.{replicate}
-use Rattle.std.proofs.lemmas.Bool.{le-leb, lt-leb, leb-true, leb-false}
+use Rattle.std.proofs.lemmas.Bool.{le-leb, lt-leb, leb-true, leb-false, or_right}
 use Rattle.gc_catalogue.specs.declared.call.Call.{Call}
 use Rattle.gc_client.specs.declared.pending.Pending.{Pending}
 use Rattle.gc_world.specs.declared.event.Event.{Event}
@@ -11,7 +11,6 @@ use Rattle.gc_world.specs.World
 use Rattle.gc_world.specs.World.{Ends, Rule, Step, Up_deliver, Up_lose, Up_repeat, Down_deliver, Down_lose, Down_repeat}
 use Rattle.gc_world.proofs.Flow.{taken}
 use Rattle.gc_world.proofs.Marks.{touched, touched_all}
-use Rattle.gc_world.proofs.Replay.{or_true}
 
 -- an event makes q of a request p that waits: the deadline stays; q has timed out if p had, or if the event is a moment at
 -- or past the deadline; and else it hasn't
@@ -75,7 +74,7 @@ module _ {Client State : Type 0} (ends : Ends State) (rule : Rule Client) where
         deadline = refl;
         stays = λ g. ap (λ b. b || leb p.deadline now) g;
         early = λ g h. ap (λ b. p.given_up || b) (lt-leb _ _ (h now refl)) ∙ or_false p.given_up ∙ g;
-        reached = λ m is le. ap (λ b. p.given_up || b) (le-leb p.deadline now (omega (arith, moment_is now m is, le))) ∙ or_true p.given_up;
+        reached = λ m is le. ap (λ b. p.given_up || b) (le-leb p.deadline now (omega (arith, moment_is now m is, le))) ∙ or_right p.given_up true refl;
       }
   touch v (Send target call deadline) p = untouched_by (Send target call deadline) p (λ now is. cc)
   touch v UpDeliver p = untouched_by UpDeliver p (λ now is. cc)

@@ -15,8 +15,7 @@ use Rattle.gc_world.specs.Order.{Each, Rising, IsRecent, numbers}
 use Rattle.gc_world.specs.Record.{Increasing}
 use Rattle.gc_world.specs.World.{Request, Sent, Numbered, Ends, Step, World, Wire, without, doubled, replied, started, requested, with_settled, run, call_line}
 use Rattle.gc_world.proofs.Booked.{Has, has_more, has_push}
-use Rattle.gc_world.proofs.Handing.{some_if}
-use Rattle.gc_world.proofs.Options.{some_is}
+use Rattle.std.proofs.lemmas.Option.{cond_some, same_Some}
 use Rattle.gc_world.proofs.Places.{get_push}
 use Rattle.gc_world.proofs.Replay.{IsOf, of_more, Replays, replays_more, replays_push, replays_started, no_number}
 use Rattle.gc_world.proofs.Rows.{each_append, each_more, each_number, each_without, each_doubled}
@@ -29,17 +28,18 @@ increasing_push low n [] le b h = (le, tt)
 increasing_push low n (x ∷ xs) le b h = (h.0, increasing_push (x + 1) n xs (omega (arith, b.0)) b.1 h.1)
 
 -- where numbers never fall from `low` on, each number in the queue is at least low - 1
-rising_each : (low : ℕ) (xs : List (Numbered Request)) → Rising low (numbers xs) → Each (λ x. low ≤ x.number + 1) xs
+pub rising_each : {Line : Type 0} (low : ℕ) (xs : List (Numbered Line)) → Rising low (numbers xs) → Each (λ x. low ≤ x.number + 1) xs
 rising_each low [] h = tt
 rising_each low (x ∷ xs) h = (h.0, each_more (λ y. x.number + 1 ≤ y.number + 1) (λ y. low ≤ y.number + 1) (λ y k. omega (arith, k, h.0)) xs (rising_each (x.number + 1) xs h.1))
 
 -- where numbers never fall from `low` on, n among them is at least low - 1, and those after n never fall below n
-rising_tail : (low n : ℕ) (xs ys : List ℕ) → Rising low (xs ++ n ∷ ys) → (low ≤ n + 1) × Rising (n + 1) ys
+pub rising_tail : (low n : ℕ) (xs ys : List ℕ) → Rising low (xs ++ n ∷ ys) → (low ≤ n + 1) × Rising (n + 1) ys
 rising_tail low n [] ys h = h
 rising_tail low n (x ∷ xs) ys h = let r = rising_tail (x + 1) n xs ys h.1 in (omega (arith, h.0, r.0), r.1)
 
--- how the requests in flight upward relate to those executed. Where nothing is kept, none of them was executed. Where a
--- reply is kept, it has the id of request top - 1, and each of them is that request or a later one
+-- how the requests in flight upward relate to those executed. Where nothing is kept, none of them was executed. Where a reply is kept,
+-- request top - 1 was sent since the client's last start, the reply has its id, no request from `top` on is settled, and each request
+-- in flight is request top - 1 or a later one
 abbrev IsAboveExecuted : Option KeptReply → ℕ → ℕ → ℕ → List (Numbered Request) → Type 0
 IsAboveExecuted None since count top up = Each (λ x. top ≤ x.number) up
 IsAboveExecuted (Some k) since count top up = (since < top) × (k.id ≡ (top - 1 - since) % 8) × (count ≤ top) × Each (λ x. top ≤ x.number + 1) up
@@ -92,12 +92,12 @@ is_new (Some k) since count top x up e h =
     ]
 
 -- a request with the kept id is the last that was executed
-is_last : (width : ℕ) (kept : Option KeptReply) (since count top total : ℕ) (x : Numbered Request) (up : List (Numbered Request)) (line : List ℕ) → width ≤ 7
-    → kept_line kept (Some ((x.number - since) % 8)) ≡ Some line → since ≤ x.number → x.number < total → total ≤ count + width
-    → IsAboveExecuted kept since count top (x ∷ up) → x.number + 1 ≡ top
+is_last : (width : ℕ) (kept : Option KeptReply) (since count top total : ℕ) (x : Numbered Request) (up : List (Numbered Request)) (line : List ℕ) (narrow : width ≤ 7)
+    (is : kept_line kept (Some ((x.number - since) % 8)) ≡ Some line) (recent : since ≤ x.number) (sent : x.number < total) (few : total ≤ count + width)
+    (above : IsAboveExecuted kept since count top (x ∷ up)) → x.number + 1 ≡ top
 is_last width None since count top total x up line narrow e h1 h2 h3 h = cc
 is_last width (Some k) since count top total x up line narrow e h1 h2 h3 h =
-    let c = some_if (eqb k.id ((x.number - since) % 8)) k.line line e in
+    let c = cond_some (eqb k.id ((x.number - since) % 8)) k.line line e in
     let same = eqb-true k.id ((x.number - since) % 8) c.0 in
     omega (arith, same, h.0, h.1, h.2, h.3.0)
 
@@ -115,7 +115,7 @@ held_line : (kept : Option KeptReply) (id n top : ℕ) (line : List ℕ) (replie
     → IsKeptAmong kept top replies → Has (record { number = n; line = line }) replies
 held_line None id n top line replies e t h = cc
 held_line (Some k) id n top line replies e t h =
-    let c = some_if (eqb k.id id) k.line line e in
+    let c = cond_some (eqb k.id id) k.line line e in
     let m : top - 1 ≡ n = omega arith in
     subst (λ i. Has (record { number = i; line = line }) replies) m (subst (λ (q : List ℕ). Has (record { number = top - 1; line = q }) replies) c.1 h)
 
@@ -129,9 +129,9 @@ last_none : (top : ℕ) (executed : List ℕ) (kept : Option KeptReply) → kept
 last_none top executed kept none = subst (λ k. IsLast k top executed) (sym none) tt
 
 -- while a reply is kept, requests in flight have the number executed last or one of the `width` above it
-recent_row : (width since count top total : ℕ) (k : KeptReply) (executed earlier : List ℕ) (up : List (Numbered Request))
-    → executed ≡ earlier ++ (top - 1) ∷ [] → since < top → count ≤ top → total ≤ count + width
-    → Each (λ x. top ≤ x.number + 1) up → Each (IsGoing since total) up → IsRecent width (Some k) executed (numbers up)
+recent_row : (width since count top total : ℕ) (k : KeptReply) (executed earlier : List ℕ) (up : List (Numbered Request)) (is : executed ≡ earlier ++ (top - 1) ∷ [])
+    (some : since < top) (counted : count ≤ top) (few : total ≤ count + width) (above : Each (λ x. top ≤ x.number + 1) up) (going : Each (IsGoing since total) up)
+    → IsRecent width (Some k) executed (numbers up)
 recent_row width since count top total k executed earlier up is some counted few above going =
     (earlier, top - 1, is, each_number (λ n. (top - 1 ≤ n) × (n ≤ top - 1 + width)) up (both up above going))
   where
@@ -177,9 +177,9 @@ module _ {State : Type 0} (width : ℕ) (narrow : width ≤ 7) (ends : Ends Stat
     pub once : IsOnce w.client w.wire
 
   -- `IsReplayed` holds also once the front request, whose id isn't the kept one, was executed
-  replayed_new : (w : Wire State) (x : Numbered Request) (rest : List (Numbered Request)) (top : ℕ) → w.up ≡ x ∷ rest → (hd : Handed State)
-      → ends.handed w.state x.line.id x.line.call ≡ hd → kept_line (kept w.state) (Some x.line.id) ≡ None → IsReplayed w top → hd.executed ≡ true
-      → IsReplayed (replied w x.number rest (record hd { executed = true })) (x.number + 1)
+  replayed_new : (w : Wire State) (x : Numbered Request) (rest : List (Numbered Request)) (top : ℕ) (front : w.up ≡ x ∷ rest) (hd : Handed State)
+      (handed_is : ends.handed w.state x.line.id x.line.call ≡ hd) (none : kept_line (kept w.state) (Some x.line.id) ≡ None) (replayed : IsReplayed w top)
+      (executed_is : hd.executed ≡ true) → IsReplayed (replied w x.number rest (record hd { executed = true })) (x.number + 1)
   replayed_new w x rest top q hd is none h exe =
       let of = subst (λ l. Each (IsOf call_line w.sent) l) q h.lines in
       let y : Numbered (List ℕ) = record { number = x.number; line = hd.reply } in
@@ -213,9 +213,9 @@ module _ {State : Type 0} (width : ℕ) (narrow : width ≤ 7) (ends : Ends Stat
       }
 
   -- `IsOnce` holds also once the front request, whose id isn't the kept one, was executed
-  once_new : (w : World (ByNumber Call) State) (x : Numbered Request) (rest : List (Numbered Request)) (hd : Handed State) → w.wire.up ≡ x ∷ rest
-      → ends.handed w.wire.state x.line.id x.line.call ≡ hd → kept_line (kept w.wire.state) (Some x.line.id) ≡ None → hd.executed ≡ true
-      → Sound width ends Good w → IsOnce w.client w.wire → IsOnce w.client (replied w.wire x.number rest (record hd { executed = true }))
+  once_new : (w : World (ByNumber Call) State) (x : Numbered Request) (rest : List (Numbered Request)) (hd : Handed State) (front : w.wire.up ≡ x ∷ rest)
+      (handed_is : ends.handed w.wire.state x.line.id x.line.call ≡ hd) (none : kept_line (kept w.wire.state) (Some x.line.id) ≡ None) (executed_is : hd.executed ≡ true)
+      (sound : Sound width ends Good w) (once : IsOnce w.client w.wire) → IsOnce w.client (replied w.wire x.number rest (record hd { executed = true }))
   once_new w x rest hd q is none exe s h =
       let c = w.client in
       let g = subst (λ l. Each (IsGoing c.since (length c.requests)) l) q s.going in
@@ -270,8 +270,9 @@ module _ {State : Type 0} (width : ℕ) (narrow : width ≤ 7) (ends : Ends Stat
 
   -- `IsOnce` holds also once the front request was handed to the instrument
   once_handed : (w : World (ByNumber Call) State) (x : Numbered Request) (rest : List (Numbered Request)) (hd : Handed State) (b : Bool) (o : Option (List ℕ))
-      → hd.executed ≡ b → w.wire.up ≡ x ∷ rest → ends.handed w.wire.state x.line.id x.line.call ≡ hd → kept_line (kept w.wire.state) (Some x.line.id) ≡ o
-      → Sound width ends Good w → IsOnce w.client w.wire → IsOnce w.client (replied w.wire x.number rest hd)
+      (executed_is : hd.executed ≡ b) (front : w.wire.up ≡ x ∷ rest) (handed_is : ends.handed w.wire.state x.line.id x.line.call ≡ hd)
+      (kept_is : kept_line (kept w.wire.state) (Some x.line.id) ≡ o) (sound : Sound width ends Good w) (once : IsOnce w.client w.wire)
+      → IsOnce w.client (replied w.wire x.number rest hd)
   once_handed w x rest hd b (Some line) e q is o s h =
       subst (λ (k : Handed State). IsOnce w.client (replied w.wire x.number rest k)) (sym (keeper.again w.wire.state x.line.id x.line.call line o) ∙ is) (once_again w x rest line q o s h)
   once_handed w x rest hd b None e q is o s h =
@@ -279,9 +280,9 @@ module _ {State : Type 0} (width : ℕ) (narrow : width ≤ 7) (ends : Ends Stat
       subst (λ v. IsOnce w.client (replied w.wire x.number rest (record hd { executed = v }))) (sym exe) (once_new w x rest hd q is o exe s h)
 
   -- `IsOnce` holds also once a client sent one more request, and its counts `since` and `count` are as before
-  once_sent : (w : World (ByNumber Call) State) (target : ℕ) (call : Call) (deadline : ℕ) (x : Sending (ByNumber Call)) → x.id < 8
-      → length x.client.requests ≡ length w.client.requests + 1 → x.client.since ≡ w.client.since → x.client.count ≡ w.client.count → Sound width ends Good w
-      → IsOnce w.client w.wire → IsOnce x.client (requested w target call (Some x)).wire
+  once_sent : (w : World (ByNumber Call) State) (target : ℕ) (call : Call) (deadline : ℕ) (x : Sending (ByNumber Call)) (digit : x.id < 8)
+      (grows : length x.client.requests ≡ length w.client.requests + 1) (since_is : x.client.since ≡ w.client.since) (count_is : x.client.count ≡ w.client.count)
+      (sound : Sound width ends Good w) (once : IsOnce w.client w.wire) → IsOnce x.client (requested w target call (Some x)).wire
   once_sent w target call deadline x digit grows since count s h =
       let r : Sent = record { target = target; call = call; line = request_line (Some x.id) call } in
       let t = h.replayed in
@@ -321,7 +322,7 @@ module _ {State : Type 0} (width : ℕ) (narrow : width ≤ 7) (ends : Ends Stat
         client =
             record { count = c.count; requests = c.requests ++ pending_of target call deadline ∷ []; since = c.since };
       } in
-      subst (λ z. IsOnce z.client (requested w target call (Some z)).wire) (some_is y x e)
+      subst (λ z. IsOnce z.client (requested w target call (Some z)).wire) (same_Some y x e)
       (once_sent w target call deadline y (omega arith) (length_push c.requests (pending_of target call deadline)) refl refl s h)
 
   -- `IsReplayed` holds also with other queues, where each upward request is the one that was sent with its number
@@ -353,35 +354,31 @@ module _ {State : Type 0} (width : ℕ) (narrow : width ≤ 7) (ends : Ends Stat
     replayed = replayed_else w h.top settled w.down refused idle h.replayed;
   }
 
+  -- `IsOnce` holds also once the front reply was delivered, with other settlements and another count of settled requests, for which
+  -- `IsAboveExecuted` holds
+  once_settled : (w : World (ByNumber Call) State) (x : Numbered (List ℕ)) (rest : List (Numbered (List ℕ))) (count : ℕ) (settled : _) → w.wire.down ≡ x ∷ rest
+      → (h : IsOnce w.client w.wire) → IsAboveExecuted (kept w.wire.state) w.client.since count h.top w.wire.up
+      → IsOnce (record w.client { count = count }) (record w.wire { down = rest; settled = settled })
+  once_settled w x rest count settled e h above =
+      record {
+        top = h.top;
+        last = h.last;
+        climbs = h.climbs;
+        below = h.below;
+        sent = h.sent;
+        made = (subst (λ q. Each (λ y. y.number < h.top) q) e h.made).1;
+        above = above;
+        replayed = replayed_else w.wire h.top settled rest w.wire.refused w.wire.idle h.replayed;
+      }
+
   -- `IsOnce` holds also once the front reply was delivered
   once_reply : (w : World (ByNumber Call) State) (x : Numbered (List ℕ)) (rest : List (Numbered (List ℕ))) (old : Bool) → w.wire.down ≡ x ∷ rest
       → IsOnce w.client w.wire → IsOnce (number_reply w.client x old).client (with_settled (record w.wire { down = rest }) (number_reply w.client x old)).wire
-  once_reply w x rest true e h =
-      let m = subst (λ q. Each (λ y. y.number < h.top) q) e h.made in
-      record {
-        top = h.top;
-        last = h.last;
-        climbs = h.climbs;
-        below = h.below;
-        sent = h.sent;
-        made = m.1;
-        above = h.above;
-        replayed = replayed_else w.wire h.top _ rest w.wire.refused w.wire.idle h.replayed;
-      }
+  once_reply w x rest true e h = once_settled w x rest w.client.count (w.wire.settled ++ []) e h h.above
   once_reply w x rest false e h =
       let m = subst (λ q. Each (λ y. y.number < h.top) q) e h.made in
-      record {
-        top = h.top;
-        last = h.last;
-        climbs = h.climbs;
-        below = h.below;
-        sent = h.sent;
-        made = m.1;
-        above =
-            above_count (kept w.wire.state) w.client.since w.client.count (x.number + 1) h.top w.wire.up (omega (arith, m.0)) h.above;
-        replayed =
-            replayed_else w.wire h.top _ rest w.wire.refused w.wire.idle h.replayed;
-      }
+      once_settled w x rest (x.number + 1) (w.wire.settled ++ (number_reply w.client x false).settlements) e h
+      (above_count (kept w.wire.state) w.client.since w.client.count (x.number + 1) h.top w.wire.up (omega (arith, m.0)) h.above)
 
   -- `IsOnce` holds also once the instrument restarted while no request was in flight, which makes it forget what it kept
   once_forgotten : (c : ByNumber Call) (w : Wire State) (count since : ℕ) → w.up ≡ [] → IsOnce c w → IsOnce (record c { count = count; since = since }) (started ends w true)

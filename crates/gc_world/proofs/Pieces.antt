@@ -1,8 +1,8 @@
 -- The bytes of a line, and its CR LF, in pieces.
-use Rattle.std.proofs.Common.{◌≡◌, ◌≢◌, ℕ, zero, suc, ◌+◌, ◌-◌, ◌≤◌, cond, not, List, [], ◌∷◌, ◌++◌, length, take, drop, get_or, Some, None, refl, sym, ap, ◌∙◌, subst, arith, length-append, append_assoc, ltb}
+use Rattle.std.proofs.Common.{◌≡◌, ℕ, zero, suc, ◌+◌, ◌-◌, ◌≤◌, cond, not, List, [], ◌∷◌, ◌++◌, length, take, drop, get_or, Some, None, refl, sym, ap, ◌∙◌, subst, arith, length-append, append_assoc, ltb}
 use Rattle.std.specs.List.{AllByRecursion, position, prefix_len}
 use Rattle.std.proofs.lemmas.Bool.{le-ltb, ne_eqb}
-use Rattle.std.proofs.lemmas.List.{append-nil, take_all, take_at}
+use Rattle.std.proofs.lemmas.List.{append-nil, take_all, take_at, take-append-le}
 use Rattle.std.proofs.lemmas.List.Elements.{All-take, All-drop, recursion_from_All}
 use Rattle.arrayvec.specs.ArrayVec.{ArrayVec}
 use Rattle.gc_lines.specs.declared.frame.Frame.{Frame}
@@ -14,10 +14,7 @@ use Rattle.gc_lines.specs.Assembler.{Kept, StandsFor}
 use Rattle.gc_lines.specs.Frames.{is_line_feed, frame_of}
 use Rattle.gc_lines.specs.Lines.{IsPlain, with_end}
 use Rattle.gc_lines.proofs.Keeping.{line_frame, last-append}
-
--- a byte is neither CR nor LF
-abbrev IsPlainByte : ℕ → Type 0
-IsPlainByte b = (b ≢ 10) × (b ≢ 13)
+use Rattle.gc_lines.proofs.Plain.{IsPlainByte}
 
 -- Plain bytes have no line feed.
 
@@ -45,12 +42,6 @@ take_pieces (suc g) (suc m) (x ∷ xs) le =
     let e : suc m - suc g ≡ m - g = omega arith in
     ap (λ l. x ∷ l) (ap (λ k. take g xs ++ take k (drop g xs)) e ∙ take_pieces g m xs (omega (arith, le)))
 
--- the first m elements of two lists in a row are those of the first list, where it has at least m
-take_front : {A : Type 0} (m : ℕ) (xs ys : List A) → m ≤ length xs → take m (xs ++ ys) ≡ take m xs
-take_front zero xs ys le = refl
-take_front (suc m) [] ys le = absurd (omega (arith, le))
-take_front (suc m) (x ∷ xs) ys le = ap (λ l. x ∷ l) (take_front m xs ys (omega (arith, le)))
-
 -- a line with its CR LF is two bytes longer
 pub end_length : (line : List ℕ) → length (with_end line) ≡ length line + 2
 end_length line = length-append line (13 ∷ 10 ∷ [])
@@ -60,9 +51,9 @@ with_return : (line : List ℕ) (m : ℕ) → m ≡ length line + 1 → take m (
 with_return line m e =
     ap (take m) (sym (append_assoc line (13 ∷ []) (10 ∷ []))) ∙ take_at (line ++ 13 ∷ []) (10 ∷ []) m (length-append line (13 ∷ []) ∙ sym e)
 
--- at most 512 bytes and a CR, ended by a line feed, are a frame: the line of these bytes
-return_frame : (line : List ℕ) → length line ≤ 512 → frame_of (line ++ 13 ∷ []) ≡ Line (record { items = line })
-return_frame line fits =
+-- where at most 512 bytes and a CR came before a line feed, the frame that it ends is the line of these bytes
+pub fed_end : (line : List ℕ) → length line ≤ 512 → frame_of (line ++ 13 ∷ []) ≡ Line (record { items = line })
+fed_end line fits =
     let long : length (line ++ 13 ∷ []) ≡ length line + 1 = length-append line (13 ∷ []) in
     let one : length (line ++ 13 ∷ []) - 1 ≡ length line = omega (arith, long) in
     let last : get_or (line ++ 13 ∷ []) (length (line ++ 13 ∷ []) - 1) 0 ≡ 13 = last-append line (13 ∷ []) (omega arith) in
@@ -81,8 +72,8 @@ module _ {P Q : Type 0} (old new : Kept) (line : List ℕ) (plain : IsPlain line
       → StandsFor old (take g (with_end line)) → StandsFor new (take m (with_end line))
   fed_within g m le within next stands =
       let fed = (next (no_feed (take (m - g) (drop g line)) (All-take IsPlainByte (m - g) (drop g line) (All-drop IsPlainByte g line plain)))).2 (take g line)
-      (subst (StandsFor old) (take_front g line (13 ∷ 10 ∷ []) (omega (arith, le, within))) stands) in
-      subst (StandsFor new) (take_pieces g m line le ∙ sym (take_front m line (13 ∷ 10 ∷ []) within)) fed
+      (subst (StandsFor old) (take-append-le g line (13 ∷ 10 ∷ []) (omega (arith, le, within))) stands) in
+      subst (StandsFor new) (take_pieces g m line le ∙ sym (take-append-le m line (13 ∷ 10 ∷ []) within)) fed
 
   -- where an assembler stood (`old`) for the first g bytes of the line, and was fed its other bytes, without CR LF, it then
   -- stands (`new`) for the line
@@ -97,13 +88,9 @@ pub fed_return : {P Q : Type 0} (old new : Kept) (line : List ℕ) (m : ℕ) →
     → StandsFor old line → StandsFor new (take m (with_end line))
 fed_return old new line m e next stands = subst (StandsFor new) (sym (with_return line m e)) ((next refl).2 line stands)
 
--- where an assembler stands for a line and its CR, the frame that a line feed ends is that line
-pub fed_end : (line : List ℕ) → length line ≤ 512 → frame_of (line ++ 13 ∷ []) ≡ Line (record { items = line })
-fed_end line fits = return_frame line fits
-
 -- where an assembler stands for all bytes of a line but its line feed, the frame that a line feed ends is that line
 pub fed_feed : (line : List ℕ) (g : ℕ) → g ≡ length line + 1 → length line ≤ 512 → frame_of (take g (with_end line) ++ []) ≡ Line (record { items = line })
-fed_feed line g e fits = ap frame_of (append-nil (take g (with_end line)) ∙ with_return line g e) ∙ return_frame line fits
+fed_feed line g e fits = ap frame_of (append-nil (take g (with_end line)) ∙ with_return line g e) ∙ fed_end line fits
 
 -- two frames that are equal lines have equal bytes
 line_items : (xs ys : List ℕ) → ◌≡◌ {A = Frame} (Line (record { items = xs })) (Line (record { items = ys })) → xs ≡ ys

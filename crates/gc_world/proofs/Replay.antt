@@ -1,7 +1,7 @@
 -- A replay: the executions of a run, one after the other, with the instrument's state before each and the reply to each.
 use Rattle.std.proofs.Common.{◌≡◌, ℕ, ◌+◌, ◌<◌, ◌||◌, Bool, true, false, List, [], ◌∷◌, ◌++◌, length, Some, refl, sym, ◌∙◌, ap, subst, arith, eqb}
 use Rattle.std.specs.Prelude.{slice_get}
-use Rattle.std.proofs.lemmas.Bool.{ne_eqb, eq-eqb}
+use Rattle.std.proofs.lemmas.Bool.{ne_eqb, eq-eqb, or_right}
 use Rattle.gc_catalogue.specs.Texts.{request_line}
 use Rattle.gc_world.specs.World.{Sent, Numbered, Ends}
 use Rattle.gc_world.specs.Worlds
@@ -19,19 +19,14 @@ has_number_push : (n m : ℕ) (xs : List ℕ) → (m ≡ n → ⊥) → has_numb
 has_number_push n m [] ne = ap (λ b. b || false) (ne_eqb m n ne)
 has_number_push n m (x ∷ xs) ne = ap (λ b. eqb x n || b) (has_number_push n m xs ne)
 
--- `b || true` is true
-pub or_true : (b : Bool) → (b || true) ≡ true
-or_true true = refl
-or_true false = refl
-
 -- a number that was appended is among them
 has_number_pushed : (n : ℕ) (xs : List ℕ) → has_number n (xs ++ n ∷ []) ≡ true
 has_number_pushed n [] = ap (λ b. b || false) (eq-eqb n n refl)
-has_number_pushed n (x ∷ xs) = ap (λ b. eqb x n || b) (has_number_pushed n xs) ∙ or_true (eqb x n)
+has_number_pushed n (x ∷ xs) = ap (λ b. eqb x n || b) (has_number_pushed n xs) ∙ or_right (eqb x n) true refl
 
 module _ {State : Type 0} (ends : Ends State) where
   -- the instrument executes request n in this state, makes this entry and goes on to the next state
-  pub record IsReply (sent : List Sent) (state : State) (n : ℕ) (entry : Numbered (List ℕ)) (after : State) : Type 0 where
+  pub record Executes (sent : List Sent) (state : State) (n : ℕ) (entry : Numbered (List ℕ)) (after : State) : Type 0 where
     pub request : Sent
     pub found : slice_get sent n ≡ Some request
     pub id : ℕ
@@ -46,13 +41,13 @@ module _ {State : Type 0} (ends : Ends State) where
   -- before; and after each execution the instrument is restarted where `starts` has the count of executions until then
   abbrev pub Replays : List Sent → List ℕ → ℕ → State → List ℕ → List (Numbered (List ℕ)) → State → Type 0
   Replays sent starts j s [] [] t = s ≡ t
-  Replays sent starts j s (n ∷ ns) (m ∷ ms) t = (mid : _) × IsReply sent s n m mid × Replays sent starts (j + 1) (begun ends.restarted (has_number (j + 1) starts) mid) ns ms t
+  Replays sent starts j s (n ∷ ns) (m ∷ ms) t = (mid : _) × Executes sent s n m mid × Replays sent starts (j + 1) (begun ends.restarted (has_number (j + 1) starts) mid) ns ms t
   Replays sent starts j s [] (m ∷ ms) t = ⊥
   Replays sent starts j s (n ∷ ns) [] t = ⊥
 
   -- an execution stays one when more requests are sent
-  reply_more : (sent more : List Sent) (s : State) (n : ℕ) (m : Numbered (List ℕ)) (t : State) → IsReply sent s n m t → IsReply (sent ++ more) s n m t
-  reply_more sent more s n m t h = record {
+  executes_more : (sent more : List Sent) (s : State) (n : ℕ) (m : Numbered (List ℕ)) (t : State) → Executes sent s n m t → Executes (sent ++ more) s n m t
+  executes_more sent more s n m t h = record {
     request = h.request;
     found = get_more sent more n h.request h.found;
     id = h.id;
@@ -69,17 +64,17 @@ module _ {State : Type 0} (ends : Ends State) where
   pub replays_more : (sent more : List Sent) (starts : List ℕ) (j : ℕ) (s : State) (ns : List ℕ) (ms : List (Numbered (List ℕ))) (t : State)
       → Replays sent starts j s ns ms t → Replays (sent ++ more) starts j s ns ms t
   replays_more sent more starts j s [] [] t h = h
-  replays_more sent more starts j s (n ∷ ns) (m ∷ ms) t h = (h.0, reply_more sent more s n m h.0 h.1, replays_more sent more starts (j + 1) _ ns ms t h.2)
+  replays_more sent more starts j s (n ∷ ns) (m ∷ ms) t h = (h.0, executes_more sent more s n m h.0 h.1, replays_more sent more starts (j + 1) _ ns ms t h.2)
   replays_more sent more starts j s [] (m ∷ ms) t h = h
   replays_more sent more starts j s (n ∷ ns) [] t h = h
 
   -- a replay and one more execution, after which there is no start yet, are a replay
   pub replays_push : (sent : List Sent) (starts : List ℕ) (j l : ℕ) (s : State) (ns : List ℕ) (ms : List (Numbered (List ℕ))) (t : State) (n : ℕ)
-      (m : Numbered (List ℕ)) (u : State) → j + length ns + 1 ≡ l → has_number l starts ≡ false → IsReply sent t n m u → Replays sent starts j s ns ms t
+      (m : Numbered (List ℕ)) (u : State) → j + length ns + 1 ≡ l → has_number l starts ≡ false → Executes sent t n m u → Replays sent starts j s ns ms t
       → Replays sent starts j s (ns ++ n ∷ []) (ms ++ m ∷ []) u
   replays_push sent starts j l s [] [] t n m u e none r h =
       let e1 : l ≡ j + 1 = omega (arith, e) in
-      (u, subst (λ x. IsReply sent x n m u) (sym h) r, ap (λ b. begun ends.restarted b u) (subst (λ k. has_number k starts ≡ false) e1 none))
+      (u, subst (λ x. Executes sent x n m u) (sym h) r, ap (λ b. begun ends.restarted b u) (subst (λ k. has_number k starts ≡ false) e1 none))
   replays_push sent starts j l s (k ∷ ns) (x ∷ ms) t n m u e none r h = (h.0, h.1, replays_push sent starts (j + 1) l _ ns ms t n m u (omega (arith, e)) none r h.2)
   replays_push sent starts j l s [] (x ∷ ms) t n m u e none r h = absurd h
   replays_push sent starts j l s (k ∷ ns) [] t n m u e none r h = absurd h

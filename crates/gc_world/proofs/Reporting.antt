@@ -28,26 +28,26 @@ use Rattle.gc_world.specs.World
 use Rattle.gc_world.specs.World.{Numbered, Wire}
 use Rattle.gc_world.proofs.Counts.{IsWithin}
 use Rattle.gc_world.proofs.Handing.{without_kept, bare_after, bare_line, bare_begun}
-use Rattle.gc_world.proofs.Options.{some_is, none_is_not}
-use Rattle.gc_world.proofs.Places.{get_map, get_seen, below, in_range, each_get}
+use Rattle.std.proofs.lemmas.Option.{same_Some, none-some, slice_get_within}
+use Rattle.gc_world.proofs.Places.{get_map, get_seen, in_range, each_get}
 
 -- a property that all elements of a list have holds of the element at place n
 all_get : {A : Type 0} (P : A → Type 0) (xs : List A) (n : ℕ) (x : A) → All P xs → slice_get xs n ≡ Some x → P x
-all_get P [] n x h e = absurd (none_is_not x e)
-all_get P (y ∷ xs) zero x h e = subst P (some_is y x e) (All-head P y xs h)
+all_get P [] n x h e = absurd (none-some x e)
+all_get P (y ∷ xs) zero x h e = subst P (same_Some y x e) (All-head P y xs h)
 all_get P (y ∷ xs) (suc n) x h e = all_get P xs n x (All-tail P y xs h) e
 
 -- increasing numbers from `low` on are at least `low`
 above_low : (low : ℕ) (xs : List ℕ) (j m : ℕ) → Increasing low xs → slice_get xs j ≡ Some m → low ≤ m
-above_low low [] j m h e = absurd (none_is_not m e)
-above_low low (x ∷ xs) zero m h e = subst (λ k. low ≤ k) (some_is x m e) h.0
+above_low low [] j m h e = absurd (none-some m e)
+above_low low (x ∷ xs) zero m h e = subst (λ k. low ≤ k) (same_Some x m e) h.0
 above_low low (x ∷ xs) (suc j) m h e = omega (arith, h.0, above_low (x + 1) xs j m h.1 e)
 
 -- of increasing numbers one at a later place is greater
 rises : (low : ℕ) (xs : List ℕ) (i j n m : ℕ) → Increasing low xs → i < j → slice_get xs i ≡ Some n → slice_get xs j ≡ Some m → n < m
-rises low [] i j n m h lt e f = absurd (none_is_not n e)
+rises low [] i j n m h lt e f = absurd (none-some n e)
 rises low (x ∷ xs) i zero n m h lt e f = absurd (omega (arith, lt))
-rises low (x ∷ xs) zero (suc j) n m h lt e f = let above = above_low (x + 1) xs j m h.1 f in omega (arith, above, some_is x n e)
+rises low (x ∷ xs) zero (suc j) n m h lt e f = let above = above_low (x + 1) xs j m h.1 f in omega (arith, above, same_Some x n e)
 rises low (x ∷ xs) (suc i) (suc j) n m h lt e f = rises (x + 1) xs i j n m h.1 (omega (arith, lt)) e f
 
 module _ (r : Report) (w : Wire State) (h : IsReport r w) where
@@ -89,7 +89,7 @@ module _ (r : Report) (w : Wire State) (h : IsReport r w) where
         let b = booked m (settlement_seen s) (settled_at m s e) line.items (ap outcome_seen o) in
         let at = b.0.0 in
         let entry = get_seen made_seen r.made at (record { number = m; line = line.items }) (ap (λ l. slice_get l at) h.made ∙ b.0.1) in
-        let q = in_range r.sent m (omega (arith, one.count, below r.settled m s e)) in
+        let q = in_range r.sent m (omega (arith, one.count, slice_get_within r.settled m s e)) in
         let same = (one.same m s q.0 e q.1).1 in
         record {
           place = at;
@@ -126,7 +126,7 @@ module _ (r : Report) (w : Wire State) (h : IsReport r w) where
           next = λ j n request e sent.
               let d = x.each j n (executed_is j n e) in
               let q = request_of j n d in
-              let call : d.request.call ≡ request.call = sym (ap (λ (p : World.Sent). p.call) q.2) ∙ ap (λ (p : Sent). p.call) (some_is q.0 request (sym q.1 ∙ sent)) in
+              let call : d.request.call ≡ request.call = sym (ap (λ (p : World.Sent). p.call) q.2) ∙ ap (λ (p : Sent). p.call) (same_Some q.0 request (sym q.1 ∙ sent)) in
               ap without_kept d.next
               ∙ bare_begun (has_number (j + 1) w.starts) _ _ (bare_after (x.before j) d.id d.request.call d.executed)
               ∙ ap (λ starts. begun restarted (has_number (j + 1) starts) (exec (before j) d.request.call).state) (sym h.starts)

@@ -58,15 +58,15 @@ module _ {State : Type 0} (width : ℕ) (narrow : width ≤ 7) (ends : Ends Stat
   all_made = subst (λ (w : Wire State). AllMade w.made 0 w.settled) (sym same) (backed_at width ends Good call_line ex es (ends.restarted opening) good).backed.booked
 
   -- each reply of the run by ids is one to the call of its request
-  answered : Each (IsAnswerAt ends Good ex wire.sent) wire.made
+  answered : Each (IsAnswerAt ends Good wire.sent) wire.made
   answered =
       let t = once.once.replayed in
       let w = by_number.wire in
-      subst (λ (w : Wire State). Each (IsAnswerAt ends Good ex w.sent) w.made) (sym same)
-      (each_more (λ m. Has m t.replies) (IsAnswerAt ends Good ex w.sent)
-      (λ m has. each_has (IsAnswerAt ends Good ex w.sent) t.replies m
+      subst (λ (w : Wire State). Each (IsAnswerAt ends Good w.sent) w.made) (sym same)
+      (each_more (λ m. Has m t.replies) (IsAnswerAt ends Good w.sent)
+      (λ m has. each_has (IsAnswerAt ends Good w.sent) t.replies m
       (answers_at ends Good ex w.sent w.starts 0 (ends.restarted opening) w.executed t.replies w.state good t.replays) has) w.made t.among)
 
   -- an answer that the run by ids booked for request m was made for it, and replies to its call
   pub booked_at : (m : ℕ) (s : Settlement Call) → slice_get wire.settled m ≡ Some s → IsBooked ends Good wire.made m s
-  booked_at m s e = booked ends Good ex wire.sent wire.made wire.settled (one_for_one_at width ends es (ends.restarted opening)) all_made answered m s e
+  booked_at m s e = booked ends Good wire.sent wire.made wire.settled (one_for_one_at width ends es (ends.restarted opening)) all_made answered m s e

@@ -24,13 +24,13 @@ abbrev IsSend : Event → Type 0
 IsSend e = (target : ℕ) × (call : Call) × (deadline : ℕ) × (e ≡ Send target call deadline)
 
 module _ {Client S : Type 0} (ends : Ends S) (rule : Rule Client) where
-  -- no event sends more than one request, and none but a send does
+  -- the event sends no request on these streams; or it is a send, and sends one
   abbrev SendsOne : Streams Client S → Event → Type 0
   SendsOne v e =
       (length (flows ends rule v e).world.wire.sent ≡ length v.world.wire.sent)
       ⊎ (IsSend e × (length (flows ends rule v e).world.wire.sent ≡ length v.world.wire.sent + 1))
 
-  -- a send adds no request, or is a send that adds one
+  -- a send adds one request to those sent, or none where it is refused
   at_send : (w : World Client S) (target : ℕ) (call : Call) (deadline : ℕ) (o : Option (Sending Client))
       → (length (requested w target call o).wire.sent ≡ length w.wire.sent)
       ⊎ (IsSend (Send target call deadline) × (length (requested w target call o).wire.sent ≡ length w.wire.sent + 1))
@@ -74,7 +74,7 @@ module _ {Client S : Type 0} (ends : Ends S) (rule : Rule Client) where
   at_instrument w [] (y ∷ down) = refl
   at_instrument w (x ∷ up) down = refl
 
-  -- where a step sends nothing, nothing is sent either where it isn't possible (b) and only counted
+  -- where a step sends nothing, neither it (b false) nor `Nothing` in its place (b true) does
   at_begun : (w : World Client S) (step : Step) (b : Bool) → (happens ends rule w step).wire.sent ≡ w.wire.sent → (happens ends rule w (cond b World.Nothing step)).wire.sent ≡ w.wire.sent
   at_begun w step true e = refl
   at_begun w step false e = e
@@ -131,8 +131,8 @@ module _ (width : ℕ) (opening : State) (n : ℕ) where
 
   -- The event e sends a request. Where n requests were sent before it (b), e is the send of request n. Where fewer were, the last
   -- premise gives the send among the rest
-  found_at : (earlier : List Event) (e : Event) (rest : List Event) (b : Bool) → eqb (sent_in earlier) n ≡ b → sent_in earlier ≤ n → IsSend e
-      → sent_in (earlier ++ e ∷ []) ≡ sent_in earlier + 1 → (sent_in (earlier ++ e ∷ []) ≤ n → HasSend (earlier ++ e ∷ rest)) → HasSend (earlier ++ e ∷ rest)
+  found_at : (earlier : List Event) (e : Event) (rest : List Event) (b : Bool) (test : eqb (sent_in earlier) n ≡ b) (few : sent_in earlier ≤ n) (send : IsSend e)
+      (more : sent_in (earlier ++ e ∷ []) ≡ sent_in earlier + 1) (again : (sent_in (earlier ++ e ∷ []) ≤ n → HasSend (earlier ++ e ∷ rest))) → HasSend (earlier ++ e ∷ rest)
   found_at earlier e rest true t le (target, call, deadline, is) more again =
       let here : sent_in earlier ≡ n = eqb-true _ _ t in (
         deadline,
@@ -206,9 +206,9 @@ module _ (rule : Rule (ById Call)) (n : ℕ) where
 
   -- the send of request n is at one place of a list of events: where two splits of the list, at the events a and b, each
   -- have n requests sent before that event and n + 1 after it, what follows is the same
-  one_split : (xs ys : List Event) (a b : Event) (later rest : List Event) (w : Streams (ById Call) State) → xs ++ a ∷ later ≡ ys ++ b ∷ rest
-      → length (runs xs w).world.wire.sent ≡ n → length (runs ys w).world.wire.sent ≡ n → length (runs (xs ++ a ∷ []) w).world.wire.sent ≡ n + 1
-      → length (runs (ys ++ b ∷ []) w).world.wire.sent ≡ n + 1 → a ∷ later ≡ b ∷ rest
+  one_split : (xs ys : List Event) (a b : Event) (later rest : List Event) (w : Streams (ById Call) State) (same : xs ++ a ∷ later ≡ ys ++ b ∷ rest)
+      (before_a : length (runs xs w).world.wire.sent ≡ n) (before_b : length (runs ys w).world.wire.sent ≡ n) (after_a : length (runs (xs ++ a ∷ []) w).world.wire.sent ≡ n + 1)
+      (after_b : length (runs (ys ++ b ∷ []) w).world.wire.sent ≡ n + 1) → a ∷ later ≡ b ∷ rest
   one_split [] [] a b later rest w e hx hy tx ty = e
   one_split [] (y ∷ ys) a b later rest w e hx hy tx ty =
       let same : a ≡ y = cc in

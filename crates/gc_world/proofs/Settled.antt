@@ -11,7 +11,7 @@ use Rattle.gc_world.specs.Worlds.{Sent, Ends, Step, Wire, World, started, reques
 use Rattle.gc_world.specs.Clients.{by_ids, ids_open}
 use Rattle.gc_world.specs.Record.{IsOneForOne}
 use Rattle.gc_world.proofs.Stable.{IsStable, stable_all}
-use Rattle.gc_world.proofs.Options.{some_is, none_is_not}
+use Rattle.std.proofs.lemmas.Option.{same_Some, none-some}
 
 -- the target and the call of a request that was sent
 abbrev pub of_sent : {Q : Type 0} → Sent Q → Wanted Q
@@ -25,13 +25,13 @@ module _ {Q State : Type 0} (width : ℕ) (ends : Ends Q State) where
   -- a send keeps a world whole
   whole_sent : (written : ℕ → Q → List ℕ) (w : World Q (ById Q) State) (target : ℕ) (call : Q) (deadline : ℕ) (full : Bool) (x : Sending (ById Q))
       → id_send w.client target call deadline full ≡ Some x → Whole w → Whole (requested written w target call (Some x))
-  whole_sent written w target call deadline true x e h = absurd (none_is_not x e)
+  whole_sent written w target call deadline true x e h = absurd (none-some x e)
   whole_sent written w target call deadline false x e h =
       let y : Sending (ById Q) = record { id = w.client.next; client = record { next = (w.client.next + 1) % 8; waiting = w.client.waiting ++ pending_of target call deadline ∷ [] } } in
       let done : Whole (requested written w target call (Some y)) = simp map-append
       (sym (append_assoc (map of_settled w.wire.settled) (map of_pending w.client.waiting) _)
       ∙ ap (λ l. l ++ record { target = target; call = call } ∷ []) h) in
-      subst (λ z. Whole (requested written w target call (Some z))) (some_is y x e) done
+      subst (λ z. Whole (requested written w target call (Some z))) (same_Some y x e) done
 
   -- a settling keeps a world whole, where the requests settled, and after them those that then wait, are those that waited
   -- before
@@ -74,11 +74,11 @@ module _ {Q State : Type 0} (width : ℕ) (ends : Ends Q State) where
 -- request m
 same_at : {Q : Type 0} (settled : List (Settlement Q)) (rest : List (Wanted Q)) (sent : List (Sent Q)) (m : ℕ) (s : Settlement Q) (r : Sent Q)
     → map of_settled settled ++ rest ≡ map of_sent sent → slice_get settled m ≡ Some s → slice_get sent m ≡ Some r → of_settled s ≡ of_sent r
-same_at [] rest sent m s r e g h = absurd (none_is_not s g)
-same_at (x ∷ xs) rest [] m s r e g h = absurd (none_is_not r h)
+same_at [] rest sent m s r e g h = absurd (none-some s g)
+same_at (x ∷ xs) rest [] m s r e g h = absurd (none-some r h)
 same_at (x ∷ xs) rest (y ∷ ys) zero s r e g h =
     let front : of_settled x ≡ of_sent y = cc in
-    sym (ap of_settled (some_is x s g)) ∙ front ∙ ap of_sent (some_is y r h)
+    sym (ap of_settled (same_Some x s g)) ∙ front ∙ ap of_sent (same_Some y r h)
 same_at (x ∷ xs) rest (y ∷ ys) (suc m) s r e g h =
     let tail : map of_settled xs ++ rest ≡ map of_sent ys = cc in
     same_at xs rest ys m s r tail g h

@@ -3,7 +3,6 @@
 -- that step. Variables such as `executed` and `made` are the values that the function left; the premises are what its contract
 -- says of them.
 use Rattle.std.proofs.Common.{◌≡◌, ℕ, ◌+◌, ◌<◌, ◌≤◌, Bool, true, false, cond, List, [], ◌∷◌, ◌++◌, length, map, Option, Some, None, ◌⊎◌, inl, inr, refl, sym, ◌∙◌, ap, subst, ltb, eqb, arith}
-use Rattle.std.specs.Option.{option_map}
 use mathlib.Core.Path.{ap₂}
 use Rattle.std.specs.Prelude.{slice_get}
 use Rattle.std.proofs.lemmas.List.{map-append, length-map, append-nil}
@@ -21,7 +20,7 @@ use Rattle.gc_client.specs.Hearing.{HearsInto}
 use Rattle.gc_client.specs.Rule.{ById, Windowed, Sending, heard, hears, place_in, id_settled, id_send, sends, restarts}
 use Rattle.gc_client.specs.Rule
 use Rattle.gc_client.specs.Settlements.{AreSettlements, settlement_seen, IsReadForCall}
-use Rattle.gc_instrument.specs.State.{State, KeptReply, restarted}
+use Rattle.gc_instrument.specs.State.{State, restarted}
 use Rattle.gc_instrument.specs.Replying.{handed, IsExchanged}
 use Rattle.gc_world.specs.declared.report.Made.{Made}
 use Rattle.gc_world.specs.declared.report.Report.{Report}
@@ -34,10 +33,10 @@ use Rattle.gc_world.specs.Memory.{IsBusy}
 use Rattle.gc_world.specs.Order.{Each, numbers}
 use Rattle.gc_world.specs.Reports.{made_seen, IsReport}
 use Rattle.gc_world.specs.Stages.{after_step, bytes_of, IsSentIn, named, AreOfWorld}
-use Rattle.gc_world.proofs.Handing.{executed_by_id, repeated_by_id}
+use Rattle.gc_world.proofs.Handing.{kept_id, executed_by_id, repeated_by_id}
 use Rattle.gc_world.proofs.Queues.{without_map, doubled_map, without_past, doubled_past}
 use Rattle.gc_world.proofs.Rows.{each_append, each_more, each_without, each_doubled}
-use Rattle.gc_world.proofs.Options.{some_is, none_is_not}
+use Rattle.std.proofs.lemmas.Option.{same_Some, none-some}
 use Rattle.gc_world.proofs.Places.{get_map, get_more, get_push}
 
 -- where the line is the request line of a call, with whatever id, the instrument got from `before` to `after`, and gave this
@@ -57,8 +56,8 @@ exchanges_any before bytes line after old new false is none h id call digit fits
 
 -- the number was appended to those executed exactly where the kept id changed
 pub record Notes (before after : State) (n : ℕ) (old new : List ℕ) : Type 0 where
-  pub new_is : (option_map (λ (k : KeptReply). k.id) before.kept ≡ option_map (λ (k : KeptReply). k.id) after.kept → ⊥) → new ≡ old ++ n ∷ []
-  pub same_is : option_map (λ (k : KeptReply). k.id) before.kept ≡ option_map (λ (k : KeptReply). k.id) after.kept → new ≡ old
+  pub new_is : (kept_id before.kept ≡ kept_id after.kept → ⊥) → new ≡ old ++ n ∷ []
+  pub same_is : kept_id before.kept ≡ kept_id after.kept → new ≡ old
 
 -- two ids are the same, or aren't
 either_id : (a b : Option ℕ) → (a ≡ b) ⊎ (a ≡ b → ⊥)
@@ -67,17 +66,17 @@ either_id None (Some y) = inr (λ e. cc)
 either_id (Some x) None = inr (λ e. cc)
 either_id (Some x) (Some y) = elim (cases_eq x y) [
   | inl e ↦ inl (ap Some e)
-  | inr ne ↦ inr (λ e. ne (some_is x y e))
+  | inr ne ↦ inr (λ e. ne (same_Some x y e))
 ]
 
 -- where a number was noted exactly if the kept id changed, it was noted exactly if the request was executed
 noted : (s : State) (id : ℕ) (call : Call) (after : State) (n : ℕ) (old new : List ℕ) → after ≡ (handed s id call).state → Notes s after n old new
     → new ≡ cond (handed s id call).executed (old ++ n ∷ []) old
 noted s id call after n old new is h =
-    let same_id = λ (e : option_map (λ (k : KeptReply). k.id) s.kept ≡ option_map (λ (k : KeptReply). k.id) after.kept). e ∙ ap (λ (t : State). option_map (λ (k : KeptReply). k.id) t.kept) is in
-    elim (either_id (option_map (λ (k : KeptReply). k.id) s.kept) (option_map (λ (k : KeptReply). k.id) after.kept)) [
+    let same_id = λ (e : kept_id s.kept ≡ kept_id after.kept). e ∙ ap (λ (t : State). kept_id t.kept) is in
+    elim (either_id (kept_id s.kept) (kept_id after.kept)) [
       | inl e ↦ h.same_is e ∙ ap (λ b. cond b (old ++ n ∷ []) old) (sym (repeated_by_id s id call (same_id e)))
-      | inr ne ↦ h.new_is ne ∙ ap (λ b. cond b (old ++ n ∷ []) old) (sym (executed_by_id s id call (λ e. ne (e ∙ sym (ap (λ (t : State). option_map (λ (k : KeptReply). k.id) t.kept) is)))))
+      | inr ne ↦ h.new_is ne ∙ ap (λ b. cond b (old ++ n ∷ []) old) (sym (executed_by_id s id call (λ e. ne (e ∙ sym (ap (λ (t : State). kept_id t.kept) is)))))
     ]
 
 -- the report as it is (true), or with one more event that was not possible
@@ -118,8 +117,8 @@ pub sends_next : (width : ℕ) (c : ById Call) (target : ℕ) (call : Call) (dea
 sends_next width c target call deadline x e = by_room (eqb (length c.waiting) width) e
   where
     by_room : (full : Bool) → id_send c target call deadline full ≡ Some x → x.client.next < IDS
-    by_room true e = absurd (none_is_not x e)
-    by_room false e = subst (λ (y : Sending (ById Call)). y.client.next < IDS) (some_is _ x e) (omega arith)
+    by_room true e = absurd (none-some x e)
+    by_room false e = subst (λ (y : Sending (ById Call)). y.client.next < IDS) (same_Some _ x e) (omega arith)
 
 -- one more reply leaves the others at their places
 made_more : (made : List Made) (entry : Made) (p : ℕ) (x : Numbered (List ℕ)) → slice_get (map made_seen made) p ≡ Some x → slice_get (map made_seen (made ++ entry ∷ [])) p ≡ Some x
@@ -253,13 +252,13 @@ module _ (width : ℕ) (r : Report) (up down : List ℕ) (c : Windowed Call) (w 
 
   -- the reply at that place is the world's front reply
   pub down_line : (p : ℕ) (rest : List ℕ) (m : Made) (e : down ≡ p ∷ rest) → slice_get r.made p ≡ Some m → made_seen m ≡ (down_front p rest e).0
-  down_line p rest m e found = let f = down_front p rest e in some_is (made_seen m) f.0 (sym (get_map made_seen r.made p m found) ∙ f.3)
+  down_line p rest m e found = let f = down_front p rest e in same_Some (made_seen m) f.0 (sym (get_map made_seen r.made p m found) ∙ f.3)
 
   -- once the client sent a request, and its number was put at the back of the upward queue, the world after that step is shown
   pub shows_send : (entry : Sent) (deadline : ℕ) (client : Windowed Call) (sent : List Sent) (up' : List ℕ)
-      → sends c.width c.ids entry.target entry.call deadline ≡ Some (record { id = c.ids.next; client = client.ids }) → client.width ≡ c.width
-      → entry.line.items ≡ request_line (Some c.ids.next) entry.call → IsFitting entry.call → sent ≡ r.sent ++ entry ∷ [] → up' ≡ up ++ length r.sent ∷ []
-      → AreOfWorld width (record r { sent = sent }) up' down client (after_step width w (Send entry.target entry.call deadline))
+      (sends_is : sends c.width c.ids entry.target entry.call deadline ≡ Some (record { id = c.ids.next; client = client.ids })) (wide : client.width ≡ c.width)
+      (line_is : entry.line.items ≡ request_line (Some c.ids.next) entry.call) (fits : IsFitting entry.call) (sent_is : sent ≡ r.sent ++ entry ∷ [])
+      (up_is : up' ≡ up ++ length r.sent ∷ []) → AreOfWorld width (record r { sent = sent }) up' down client (after_step width w (Send entry.target entry.call deadline))
   shows_send entry deadline client sent up' sends_is wide line fits sent_is up_is =
       let x : Sending (ById Call) = record { id = c.ids.next; client = client.ids } in
       let ruled : sends width w.client entry.target entry.call deadline ≡ Some x = ap (λ (k : Windowed Call). sends k.width k.ids entry.target entry.call deadline) (sym h.client_is) ∙ sends_is in
@@ -296,21 +295,21 @@ module _ (width : ℕ) (r : Report) (up down : List ℕ) (c : Windowed Call) (w 
       }))
 
   -- once the front request was handed to the instrument, and its reply noted, the world after that step is shown
-  pub shows_up_deliver : (n : ℕ) (rest down' : List ℕ) (request : Sent) (entry : Made) (executed : List ℕ) (made : List Made) (state : State)
-      (o : Option (List ℕ)) → up ≡ n ∷ rest → slice_get r.sent n ≡ Some request → ExchangesAny r.instrument request.line.items state o
-      → o ≡ Some entry.line.items → entry.number ≡ n → Notes r.instrument state n r.executed executed → made ≡ r.made ++ entry ∷ []
-      → down' ≡ down ++ length r.made ∷ [] → AreOfWorld width (record r { executed = executed; made = made; instrument = state }) rest down' c
-      (after_step width w Up_deliver)
+  pub shows_up_deliver : (n : ℕ) (rest down' : List ℕ) (request : Sent) (entry : Made) (executed : List ℕ) (made : List Made) (state : State) (o : Option (List ℕ))
+      (front : up ≡ n ∷ rest) (found : slice_get r.sent n ≡ Some request) (replied : ExchangesAny r.instrument request.line.items state o) (told : o ≡ Some entry.line.items)
+      (same : entry.number ≡ n) (executed_is : Notes r.instrument state n r.executed executed) (made_is : made ≡ r.made ++ entry ∷ [])
+      (down_is : down' ≡ down ++ length r.made ∷ [])
+      → AreOfWorld width (record r { executed = executed; made = made; instrument = state }) rest down' c (after_step width w Up_deliver)
   shows_up_deliver n rest down' request entry executed made state o e found replied told same executed_is made_is down'_is =
       let f = up_front n rest e in
       let y = f.0 in
       let ys = f.1 in
       let sound = subst (λ q. Each (IsSentIn r.sent) q) f.2 h.requests in
-      let this : request ≡ sound.0.request = some_is request sound.0.request (sym found ∙ ap (λ k. slice_get r.sent k) (sym f.3) ∙ sound.0.found) in
+      let this : request ≡ sound.0.request = same_Some request sound.0.request (sym found ∙ ap (λ k. slice_get r.sent k) (sym f.3) ∙ sound.0.found) in
       let line : request.line.items ≡ bytes_of y.line = ap (λ (q : Sent). q.line.items) this ∙ sound.0.line in
       let did = replied y.line.id y.line.call sound.0.digit sound.0.fits line in
       let reply : entry.line.items ≡ (handed w.wire.state y.line.id y.line.call).reply =
-      some_is _ _ (sym told ∙ did.line) ∙ ap (λ s. (handed s y.line.id y.line.call).reply) h.reports.instrument in
+      same_Some _ _ (sym told ∙ did.line) ∙ ap (λ s. (handed s y.line.id y.line.call).reply) h.reports.instrument in
       let entry_is : made_seen entry ≡ record { number = y.number; line = (handed w.wire.state y.line.id y.line.call).reply } =
       ap₂ (λ k (l : List ℕ). record { number = k; line = l }) (same ∙ sym f.3) reply in
       subst (λ q. AreOfWorld width (record r { executed = executed; made = made; instrument = state }) rest down' c (on_wire w (up_delivered ends w.wire q))) (sym f.2) (record {
@@ -343,15 +342,15 @@ module _ (width : ℕ) (r : Report) (up down : List ℕ) (c : Windowed Call) (w 
   up_answered n rest request state o e found replied told =
       let f = up_front n rest e in
       let sound = subst (λ q. Each (IsSentIn r.sent) q) f.2 h.requests in
-      let this : request ≡ sound.0.request = some_is request sound.0.request (sym found ∙ ap (λ k. slice_get r.sent k) (sym f.3) ∙ sound.0.found) in
+      let this : request ≡ sound.0.request = same_Some request sound.0.request (sym found ∙ ap (λ k. slice_get r.sent k) (sym f.3) ∙ sound.0.found) in
       let line : request.line.items ≡ bytes_of f.0.line = ap (λ (q : Sent). q.line.items) this ∙ sound.0.line in
       let did = replied f.0.line.id f.0.line.call sound.0.digit sound.0.fits line in
-      none_is_not _ (sym told ∙ did.line)
+      none-some _ (sym told ∙ did.line)
 
   -- once the front reply was handed to the client, and what it settles noted, the world after that step is shown
-  pub shows_down_deliver : (p : ℕ) (rest : List ℕ) (m : Made) (bytes : List ℕ) (more settled : List (Settlement Call)) (client : Windowed Call) → down ≡ p ∷ rest
-      → slice_get r.made p ≡ Some m → bytes ≡ m.line.items → AreSettlements more (hears c.ids bytes (heard bytes)).settlements
-      → client ≡ record c { ids = (hears c.ids bytes (heard bytes)).client } → settled ≡ r.settled ++ more
+  pub shows_down_deliver : (p : ℕ) (rest : List ℕ) (m : Made) (bytes : List ℕ) (more settled : List (Settlement Call)) (client : Windowed Call) (front : down ≡ p ∷ rest)
+      (found : slice_get r.made p ≡ Some m) (same_bytes : bytes ≡ m.line.items) (more_are : AreSettlements more (hears c.ids bytes (heard bytes)).settlements)
+      (client_is : client ≡ record c { ids = (hears c.ids bytes (heard bytes)).client }) (settled_is : settled ≡ r.settled ++ more)
       → AreOfWorld width (record r { settled = settled }) up rest client (after_step width w Down_deliver)
   shows_down_deliver p rest m bytes more settled client e found same_bytes more_are client_is settled_is =
       let f = down_front p rest e in
@@ -381,9 +380,9 @@ module _ (width : ℕ) (r : Report) (up down : List ℕ) (c : Windowed Call) (w 
 
   -- once the client was restarted, and the instrument with it, while no line is in flight, the world after that step is
   -- shown
-  pub shows_restart_client : (more settled : List (Settlement Call)) (client : Windowed Call) (starts : List ℕ) (state : State) → up ≡ [] → down ≡ []
-      → AreSettlements more (restarts c.ids).settlements → client ≡ record c { ids = (restarts c.ids).client } → settled ≡ r.settled ++ more
-      → starts ≡ r.starts ++ length r.executed ∷ [] → state ≡ restarted r.instrument
+  pub shows_restart_client : (more settled : List (Settlement Call)) (client : Windowed Call) (starts : List ℕ) (state : State) (up_empty : up ≡ []) (down_empty : down ≡ [])
+      (more_are : AreSettlements more (restarts c.ids).settlements) (client_is : client ≡ record c { ids = (restarts c.ids).client }) (settled_is : settled ≡ r.settled ++ more)
+      (starts_is : starts ≡ r.starts ++ length r.executed ∷ []) (state_is : state ≡ restarted r.instrument)
       → AreOfWorld width (record r { settled = settled; starts = starts; instrument = state }) up down client (after_step width w Restart_client)
   shows_restart_client more settled client starts state eu ed more_are client_is settled_is starts_is state_is =
       let are : AreSettlements more (restarts w.client).settlements = subst (λ (k : Windowed Call). AreSettlements more (restarts k.ids).settlements) h.client_is more_are in

@@ -1,6 +1,6 @@
 -- For the proofs of `stage.rt`, as `Showing`, but with the assemblers and the bytes that have gone: where a stage shows streams
 -- (`AreStreamsOf`), and a function has done to its parts what its contract says, the stage shows the streams after the event.
-use Rattle.std.proofs.Common.{◌≡◌, ℕ, zero, suc, ◌+◌, ◌<◌, ◌⊎◌, inl, inr, Bool, true, false, cond, List, [], ◌∷◌, ◌++◌, length, map, Option, Some, refl, sym, ◌∙◌, ap, subst, ltb, arith}
+use Rattle.std.proofs.Common.{◌≡◌, ℕ, ◌+◌, ◌<◌, ◌⊎◌, Bool, true, false, cond, List, [], ◌∷◌, ◌++◌, length, map, Option, Some, refl, sym, ◌∙◌, ap, subst, ltb}
 use mathlib.Core.Path.{ap₂}
 use Rattle.std.specs.Option.{option_map}
 use Rattle.std.specs.Prelude.{slice_get, IsTrue, ◌↔◌}
@@ -32,8 +32,8 @@ use Rattle.gc_world.specs.Stages
 use Rattle.gc_world.specs.Stages.{Seen, after_step, after_event, bytes_of, IsSentIn, named, AreOfWorld, AreStreamsOf}
 use Rattle.gc_world.specs.Streams.{Streams, up_texts, down_texts, is_begun, remaining}
 use Rattle.gc_world.specs.World.{Request, Numbered, Wire, World, Step, Send, Up_deliver, Up_lose, Up_repeat, Down_deliver, Down_lose, Down_repeat, Restart_client, Restart_instrument, Nothing, without, doubled, idle, up_delivered, with_up, with_down, on_wire, requested, down_delivered, client_restarted, instrument_restarted}
-use Rattle.gc_world.proofs.Directions.{passing, bytes_pass, after_cut}
-use Rattle.gc_world.proofs.Options.{some_is}
+use Rattle.gc_world.proofs.Directions.{bytes_pass, idle_bytes, after_cut}
+use Rattle.std.proofs.lemmas.Option.{same_Some}
 use Rattle.gc_world.proofs.Places.{get_seen}
 use Rattle.gc_world.proofs.Queues.{without_map, doubled_map}
 use Rattle.gc_world.proofs.Showing.{Notes, ExchangesAny, counted, shows_idle, shows_up_lose, shows_up_repeat, shows_down_lose, shows_down_repeat, shows_send, shows_up_deliver, shows_down_deliver, shows_restart_client, busy_client, busy_instrument, up_front, down_front}
@@ -99,26 +99,8 @@ names_down r (p ∷ ps) (x ∷ xs) h =
 from_start : (s : Side) (texts : List (List ℕ)) → s.gone ≡ 0 → StandsFor s.assembler [] → Each IsPlain texts → IsFlow s.assembler s.gone texts
 from_start s texts none stands plain = subst (λ g. IsFlow s.assembler g texts) (sym none) (flow_start s.assembler texts stands plain)
 
--- setting the count of gone bytes that is there already changes only the world
-unmoved : (d : Direction) (v : Streams (ById Call) State) (w : World (ById Call) State) → reaches d v w (gone d v) ≡ record { world = w; up_gone = v.up_gone; down_gone = v.down_gone }
-unmoved Up v w = refl
-unmoved Down v w = refl
-
--- an event of 0 bytes, or of bytes while none are in flight, is only counted
-idle_bytes : (width : ℕ) (d : Direction) (v : Streams (ById Call) State) (q : List (List ℕ)) (n : ℕ) {r : ℕ} → r ≡ remaining (gone d v) q → (n ≡ 0) ⊎ (r ≡ 0)
-    → IsPart (gone d v) q → passing ends (by_ids width ends) d v q n ≡ record
-    { world = on_wire v.world (idle v.world.wire); up_gone = v.up_gone; down_gone = v.down_gone }
-idle_bytes width d v [] n e none part = unmoved d v (on_wire v.world (idle v.world.wire))
-idle_bytes width d v (line ∷ q) zero e none part = unmoved d v (on_wire v.world (idle v.world.wire))
-idle_bytes width d v (line ∷ q) (suc n) e (inl z) part = absurd (omega (arith, z))
-idle_bytes width d v (line ∷ q) (suc n) e (inr z) part = absurd (omega (arith, e, z, part))
-
--- the same report as `counted` gives, written as one record: as it is (true), or with one more event that was not possible
-abbrev counts : Bool → Report → Report
-counts b r = record r { idle_events = cond b r.idle_events (r.idle_events + 1) }
-
--- `counted` and `counts` give the same report, for each truth value
-counted_is : (b : Bool) (r : Report) → counted b r ≡ counts b r
+-- what `counted` gives, written as one record for both truth values
+counted_is : (b : Bool) (r : Report) → counted b r ≡ record r { idle_events = cond b r.idle_events (r.idle_events + 1) }
 counted_is true r = refl
 counted_is false r = refl
 
@@ -182,7 +164,7 @@ module _ (width : ℕ) (s : Seen) (v : Streams (ById Call) State) (h : AreStream
   up_queue : (b : Bool) (queue : List ℕ) (us : List (Numbered Request)) (k : ℕ)
       → AreOfWorld width (counted b s.report) queue s.down.queue s.client (on_wire v.world (with_up v.world.wire us (ltb k (length v.world.wire.up))))
       → IsFlow s.up.assembler s.up.gone (map (λ x. bytes_of x.line) us)
-      → AreStreamsOf width (record s { report = counts b s.report; up = record s.up { queue = queue } })
+      → AreStreamsOf width (record s { report = record s.report { idle_events = cond b s.report.idle_events (s.report.idle_events + 1) }; up = record s.up { queue = queue } })
       (record { world = on_wire v.world (with_up v.world.wire us (ltb k (length v.world.wire.up))); up_gone = v.up_gone; down_gone = v.down_gone })
   up_queue b queue us k lines flow =
       let t = ltb k (length v.world.wire.up) in
@@ -197,8 +179,8 @@ module _ (width : ℕ) (s : Seen) (v : Streams (ById Call) State) (h : AreStream
   -- once the downward queue was replaced, if the event is possible, the streams with that queue are shown
   down_queue : (b : Bool) (queue : List ℕ) (ds : List (Numbered (List ℕ))) (k : ℕ)
       → AreOfWorld width (counted b s.report) s.up.queue queue s.client (on_wire v.world (with_down v.world.wire ds (ltb k (length v.world.wire.down))))
-      → IsFlow s.down.assembler s.down.gone (map (λ x. x.line) ds) → AreStreamsOf width
-      (record s { report = counts b s.report; down = record s.down { queue = queue } })
+      → IsFlow s.down.assembler s.down.gone (map (λ x. x.line) ds)
+      → AreStreamsOf width (record s { report = record s.report { idle_events = cond b s.report.idle_events (s.report.idle_events + 1) }; down = record s.down { queue = queue } })
       (record { world = on_wire v.world (with_down v.world.wire ds (ltb k (length v.world.wire.down))); up_gone = v.up_gone; down_gone = v.down_gone })
   down_queue b queue ds k lines flow =
       let t = ltb k (length v.world.wire.down) in
@@ -211,8 +193,8 @@ module _ (width : ℕ) (s : Seen) (v : Streams (ById Call) State) (h : AreStream
       }
 
   -- the streams after a step at which no byte goes over
-  abbrev behind : Step → Streams (ById Call) State
-  behind step = record { world = after_step width v.world step; up_gone = v.up_gone; down_gone = v.down_gone }
+  abbrev stepped : Step → Streams (ById Call) State
+  stepped step = record { world = after_step width v.world step; up_gone = v.up_gone; down_gone = v.down_gone }
 
   -- a loss or a repeat of line k, possible only before its first byte has gone, shows the streams after that step. `old` is
   -- the side before it and `side` after it, `g` is how many bytes of its front line have gone, and `put` sets a side and a
@@ -220,13 +202,13 @@ module _ (width : ℕ) (s : Seen) (v : Streams (ById Call) State) (h : AreStream
   changes : (old : Side) (g : ℕ) (put : Side → ℕ → Seen) (k : ℕ) (queue : List ℕ) (step : Step) (side : Side) (count : ℕ) → old.gone ≡ g
       → put old (s.report.idle_events + 1) ≡ record s { report = counted false s.report } → Changes k queue old side s.report.idle_events count
       → (is_begun k old.gone ≡ false → (b : Bool) → b ≡ ltb k (length old.queue)
-      → AreStreamsOf width (put (record old { queue = queue }) (cond b s.report.idle_events (s.report.idle_events + 1))) (behind step))
-      → AreStreamsOf width (put side count) (behind (cond (is_begun k g) Nothing step))
+      → AreStreamsOf width (put (record old { queue = queue }) (cond b s.report.idle_events (s.report.idle_events + 1))) (stepped step))
+      → AreStreamsOf width (put side count) (stepped (cond (is_begun k g) Nothing step))
   changes old g put k queue step side count gone_is same c done = by_begun (is_begun k g) (ap (is_begun k) gone_is)
     where
-      by_begun : (b : Bool) → is_begun k old.gone ≡ b → AreStreamsOf width (put side count) (behind (cond b Nothing step))
-      by_begun true e = let was = c.held e in subst (λ t. AreStreamsOf width t (behind Nothing)) (sym (ap₂ put was.0 was.1 ∙ same)) nothing
-      by_begun false e = let was = c.done e in subst (λ t. AreStreamsOf width t (behind step)) (sym (ap₂ put was.0 was.1)) (done e (ltb k (length old.queue)) refl)
+      by_begun : (b : Bool) → is_begun k old.gone ≡ b → AreStreamsOf width (put side count) (stepped (cond b Nothing step))
+      by_begun true e = let was = c.held e in subst (λ t. AreStreamsOf width t (stepped Nothing)) (sym (ap₂ put was.0 was.1 ∙ same)) nothing
+      by_begun false e = let was = c.done e in subst (λ t. AreStreamsOf width t (stepped step)) (sym (ap₂ put was.0 was.1)) (done e (ltb k (length old.queue)) refl)
 
   module _ (k : ℕ) (side : Side) (count : ℕ) where
     -- the stage with this upward side, and n idle events
@@ -269,9 +251,9 @@ module _ (width : ℕ) (s : Seen) (v : Streams (ById Call) State) (h : AreStream
 
   -- once a request was sent, the streams after that event are shown
   pub streams_send : (entry : Sent) (deadline : ℕ) (client : Windowed Call) (sent : List Sent) (queue : List ℕ)
-      → sends s.client.width s.client.ids entry.target entry.call deadline ≡ Some (record { id = s.client.ids.next; client = client.ids })
-      → client.width ≡ s.client.width → entry.line.items ≡ request_line (Some s.client.ids.next) entry.call → IsPlain entry.line.items → IsFitting entry.call
-      → sent ≡ s.report.sent ++ entry ∷ [] → queue ≡ s.up.queue ++ length s.report.sent ∷ []
+      (sends_is : sends s.client.width s.client.ids entry.target entry.call deadline ≡ Some (record { id = s.client.ids.next; client = client.ids }))
+      (wide : client.width ≡ s.client.width) (line_is : entry.line.items ≡ request_line (Some s.client.ids.next) entry.call) (plain : IsPlain entry.line.items)
+      (fits : IsFitting entry.call) (sent_is : sent ≡ s.report.sent ++ entry ∷ []) (queue_is : queue ≡ s.up.queue ++ length s.report.sent ∷ [])
       → AreStreamsOf width (record s { report = record s.report { sent = sent }; up = record s.up { queue = queue }; client = client })
       (after_event width v (event.Send entry.target entry.call deadline))
   streams_send entry deadline client sent queue sends_is wide line plain fits sent_is queue_is =
@@ -296,9 +278,10 @@ module _ (width : ℕ) (s : Seen) (v : Streams (ById Call) State) (h : AreStream
 
   -- once the client was restarted, and the instrument with it, while no line is in flight, the streams after that event are
   -- shown
-  pub streams_restart_client : (more settled : List (Settlement Call)) (client : Windowed Call) (starts : List ℕ) (state : State) → s.up.queue ≡ [] → s.down.queue ≡ []
-      → AreSettlements more (restarts s.client.ids).settlements → client ≡ record s.client { ids = (restarts s.client.ids).client }
-      → settled ≡ s.report.settled ++ more → starts ≡ s.report.starts ++ length s.report.executed ∷ [] → state ≡ restarted s.report.instrument
+  pub streams_restart_client : (more settled : List (Settlement Call)) (client : Windowed Call) (starts : List ℕ) (state : State) (up_empty : s.up.queue ≡ [])
+      (down_empty : s.down.queue ≡ []) (more_are : AreSettlements more (restarts s.client.ids).settlements)
+      (client_is : client ≡ record s.client { ids = (restarts s.client.ids).client }) (settled_is : settled ≡ s.report.settled ++ more)
+      (starts_is : starts ≡ s.report.starts ++ length s.report.executed ∷ []) (state_is : state ≡ restarted s.report.instrument)
       → AreStreamsOf width (record s { report = record s.report { settled = settled; starts = starts; instrument = state }; client = client })
       (after_event width v event.RestartClient)
   streams_restart_client more settled client starts state eu ed more_are client_is settled_is starts_is state_is =
@@ -322,18 +305,18 @@ module _ (width : ℕ) (s : Seen) (v : Streams (ById Call) State) (h : AreStream
   -- Deliveries.
 
   -- once the front request was delivered, and its reply noted, the streams after that event are shown
-  pub streams_up_deliver : (n : ℕ) (side : Side) (queue : List ℕ) (request : Sent) (entry : Made) (executed : List ℕ) (made : List Made) (state : State)
-      (o : Option (List ℕ)) → s.up.queue ≡ n ∷ side.queue → slice_get s.report.sent n ≡ Some request
-      → ExchangesAny s.report.instrument request.line.items state o → o ≡ Some entry.line.items → entry.number ≡ n
-      → Notes s.report.instrument state n s.report.executed executed → made ≡ s.report.made ++ entry ∷ [] → queue ≡ s.down.queue ++ length s.report.made ∷ []
-      → StandsFor side.assembler [] → side.gone ≡ 0 → AreStreamsOf width
-      (record s { report = record s.report { executed = executed; made = made; instrument = state }; up = side; down = record s.down { queue = queue } })
+  pub streams_up_deliver : (n : ℕ) (side : Side) (queue : List ℕ) (request : Sent) (entry : Made) (executed : List ℕ) (made : List Made) (state : State) (o : Option (List ℕ))
+      (front : s.up.queue ≡ n ∷ side.queue) (found : slice_get s.report.sent n ≡ Some request) (replied : ExchangesAny s.report.instrument request.line.items state o)
+      (told : o ≡ Some entry.line.items) (same : entry.number ≡ n) (executed_is : Notes s.report.instrument state n s.report.executed executed)
+      (made_is : made ≡ s.report.made ++ entry ∷ []) (queue_is : queue ≡ s.down.queue ++ length s.report.made ∷ []) (stands : StandsFor side.assembler [])
+      (none_gone : side.gone ≡ 0)
+      → AreStreamsOf width (record s { report = record s.report { executed = executed; made = made; instrument = state }; up = side; down = record s.down { queue = queue } })
       (after_event width v event.UpDeliver)
   streams_up_deliver n side queue request entry executed made state o e found replied told same executed_is made_is queue_is stands none =
       let f = up_front width s.report s.up.queue s.down.queue s.client v.world h.lines n side.queue e in
       let x = f.0 in
       let sound = subst (λ q. Each (IsSentIn s.report.sent) q) f.2 h.lines.requests in
-      let this : request ≡ sound.0.request = some_is request sound.0.request (sym found ∙ ap (λ k. slice_get s.report.sent k) (sym f.3) ∙ sound.0.found) in
+      let this : request ≡ sound.0.request = same_Some request sound.0.request (sym found ∙ ap (λ k. slice_get s.report.sent k) (sym f.3) ∙ sound.0.found) in
       let did = replied x.line.id x.line.call sound.0.digit sound.0.fits (ap (λ (q : Sent). q.line.items) this ∙ sound.0.line) in
       let reply = (handed v.world.wire.state x.line.id x.line.call).reply in
       let plain : IsPlain reply = subst (λ t. IsPlain (handed t x.line.id x.line.call).reply) h.lines.reports.instrument did.plain in
@@ -355,11 +338,11 @@ module _ (width : ℕ) (s : Seen) (v : Streams (ById Call) State) (h : AreStream
 
   -- once the front reply was delivered, and what it settles noted, the streams after that event are shown
   pub streams_down_deliver : (p : ℕ) (side : Side) (m : Made) (line : List ℕ) (more settled : List (Settlement Call)) (client : Windowed Call)
-      → s.down.queue ≡ p ∷ side.queue → slice_get s.report.made p ≡ Some m → line ≡ m.line.items
-      → AreSettlements more (hears s.client.ids line (heard line)).settlements
-      → client ≡ record s.client { ids = (hears s.client.ids line (heard line)).client } → settled ≡ s.report.settled ++ more → StandsFor side.assembler []
-      → side.gone ≡ 0 → AreStreamsOf width (record s { report = record s.report { settled = settled }; down = side; client = client })
-      (after_event width v event.DownDeliver)
+      (front : s.down.queue ≡ p ∷ side.queue) (found : slice_get s.report.made p ≡ Some m) (line_is : line ≡ m.line.items)
+      (more_are : AreSettlements more (hears s.client.ids line (heard line)).settlements)
+      (client_is : client ≡ record s.client { ids = (hears s.client.ids line (heard line)).client }) (settled_is : settled ≡ s.report.settled ++ more)
+      (stands : StandsFor side.assembler []) (none_gone : side.gone ≡ 0)
+      → AreStreamsOf width (record s { report = record s.report { settled = settled }; down = side; client = client }) (after_event width v event.DownDeliver)
   streams_down_deliver p side m line more settled client e found is more_are client_is settled_is stands none =
       let f = down_front width s.report s.up.queue s.down.queue s.client v.world h.lines p side.queue e in
       let whole : after_step width v.world Down_deliver ≡ down_delivered (by_ids width ends) v.world (f.0 ∷ f.1) = ap (λ q. down_delivered (by_ids width ends) v.world q) f.2 in
@@ -396,7 +379,7 @@ module _ (width : ℕ) (s : Seen) (v : Streams (ById Call) State) (h : AreStream
   pub streams_idle_bytes : (d : Direction) (n r : ℕ) → r ≡ remaining (gone d v) (lines d v.world.wire) → (n ≡ 0) ⊎ (r ≡ 0)
       → AreStreamsOf width (record s { report = counted false s.report }) (after_event width v (bytes d n))
   streams_idle_bytes d n r e none = subst (λ x. AreStreamsOf width (record s { report = counted false s.report }) x)
-      (sym (bytes_pass ends (by_ids width ends) d v n ∙ idle_bytes width d v (lines d v.world.wire) n e none (part d))) nothing
+      (sym (bytes_pass ends (by_ids width ends) d v n ∙ idle_bytes ends (by_ids width ends) d v (lines d v.world.wire) n e none (part d))) nothing
 
 -- where P says that no line is in flight, and the test for P gives false, P doesn't hold
 pub is_busy : {P : Type 0} (quiet : Bool) → IsTrue quiet ↔ P → quiet ≡ false → P → ⊥

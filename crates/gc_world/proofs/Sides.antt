@@ -6,21 +6,21 @@ use Rattle.gc_world.specs.declared.report.Report.{Report}
 use Rattle.gc_world.specs.declared.side.Side.{Side}
 use Rattle.gc_world.specs.Sides.{written, IsFlow, Carries}
 use Rattle.gc_world.specs.Streams.{remaining}
-use Rattle.gc_world.proofs.Options.{some_is}
+use Rattle.std.proofs.lemmas.Option.{same_Some}
 use Rattle.gc_world.proofs.Streaming.{IsFront, front_of, remaining_is}
 
 -- the texts begin with a text that f finds at this place
-record AreNamed (f : ℕ → Option (List ℕ)) (place : ℕ) (rest : List ℕ) (texts : List (List ℕ)) : Type 0 where
+record AreNamed (f : ℕ → Option (List ℕ)) (place : ℕ) (texts : List (List ℕ)) : Type 0 where
   text : List ℕ
   behind : List (List ℕ)
   are : texts ≡ text ∷ behind
   found : f place ≡ Some text
 
 -- where f finds the texts at the places of a queue, in order, and the queue begins with this place, f finds the first text there
-named_first : (f : ℕ → Option (List ℕ)) (queue : List ℕ) (place : ℕ) (rest : List ℕ) (texts : List (List ℕ)) → queue ≡ place ∷ rest → map f queue ≡ map Some texts → AreNamed f place rest texts
+named_first : (f : ℕ → Option (List ℕ)) (queue : List ℕ) (place : ℕ) (rest : List ℕ) (texts : List (List ℕ)) → queue ≡ place ∷ rest → map f queue ≡ map Some texts → AreNamed f place texts
 named_first f queue place rest texts e h = by_texts texts (sym (ap (map f) e) ∙ h)
   where
-    by_texts : (ts : List (List ℕ)) → map f (place ∷ rest) ≡ map Some ts → AreNamed f place rest ts
+    by_texts : (ts : List (List ℕ)) → map f (place ∷ rest) ≡ map Some ts → AreNamed f place ts
     by_texts [] g = cc
     by_texts (t ∷ ts) g = let one : f place ≡ Some t = cc in record { text = t; behind = ts; are = refl; found = one }
 
@@ -38,7 +38,7 @@ module _ (d : Direction) (r : Report) (s : Side) (texts : List (List ℕ)) (h : 
   pub front_line : (place : ℕ) (rest : List ℕ) (line : List ℕ) → s.queue ≡ place ∷ rest → written d r place ≡ Some line → IsFront line s.assembler s.gone (map with_end texts)
   front_line place rest line e found =
       let f = named_first (written d r) s.queue place rest texts e h.names in
-      let same : f.text ≡ line = some_is f.text line (sym f.found ∙ found) in
+      let same : f.text ≡ line = same_Some f.text line (sym f.found ∙ found) in
       subst (λ (t : List ℕ). IsFront t s.assembler s.gone (map with_end texts)) same
       (subst (λ ts. IsFront f.text s.assembler s.gone (map with_end ts)) (sym f.are) (front_of s.assembler s.gone f.text f.behind (subst (λ ts. IsFlow s.assembler s.gone ts) f.are h.flow)))
 
@@ -46,7 +46,7 @@ module _ (d : Direction) (r : Report) (s : Side) (texts : List (List ℕ)) (h : 
   pub front_flow : (place : ℕ) (rest : List ℕ) (line : List ℕ) → s.queue ≡ place ∷ rest → written d r place ≡ Some line → (behind : List (List ℕ)) × IsFlow s.assembler s.gone (line ∷ behind)
   front_flow place rest line e found =
       let f = named_first (written d r) s.queue place rest texts e h.names in
-      (f.behind, subst (λ (t : List ℕ). IsFlow s.assembler s.gone (t ∷ f.behind)) (some_is f.text line (sym f.found ∙ found)) (subst (λ ts. IsFlow s.assembler s.gone ts) f.are h.flow))
+      (f.behind, subst (λ (t : List ℕ). IsFlow s.assembler s.gone (t ∷ f.behind)) (same_Some f.text line (sym f.found ∙ found)) (subst (λ ts. IsFlow s.assembler s.gone ts) f.are h.flow))
 
   -- what is still to go of the front line is its bytes, CR LF counted, less what has gone
   pub left_of : (place : ℕ) (rest : List ℕ) (line : List ℕ) → s.queue ≡ place ∷ rest → written d r place ≡ Some line → length line + 2 - s.gone ≡ remaining s.gone (map with_end texts)

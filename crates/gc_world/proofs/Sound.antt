@@ -12,7 +12,7 @@ use Rattle.gc_world.specs.Exchange.{IsExchange}
 use Rattle.gc_world.specs.Order.{Each, Rising, numbers}
 use Rattle.gc_world.proofs.Rows.{each_append, each_more, each_number, each_without, each_doubled, rising_lower, rising_without, rising_doubled, rising_without_behind, rising_doubled_behind, rising_moved, rising_push, length-settle}
 use Rattle.gc_world.proofs.Stable.{IsStable, stable, stable_all}
-use Rattle.gc_world.proofs.Options.{some_is}
+use Rattle.std.proofs.lemmas.Option.{same_Some}
 
 -- expiring all but the first k of a list of requests leaves as many requests as before
 pub length_expired : {Q : Type 0} (now k : ℕ) (ps : List (Pending Q)) → length (take k ps ++ map (expired now) (drop k ps)) ≡ length ps
@@ -100,7 +100,7 @@ module _ {Q State : Type 0} (width : ℕ) (ends : Ends Q State) (Good : State �
             );
         coming = each_more _ _ (coming_more c.since total _ (omega (arith, requests1))) w.wire.down h.coming;
       } in
-      subst (λ z. Sound (requested written w target call (Some z))) (some_is _ x s) done
+      subst (λ z. Sound (requested written w target call (Some z))) (same_Some _ x s) done
 
   -- an instrument's reply keeps a world sound
   sound_answer : IsExchange ends Good → (w : World Q (ByNumber Q) State) (x : Numbered (Request Q)) (rest : List (Numbered (Request Q))) → w.wire.up ≡ x ∷ rest → Sound w

@@ -1,6 +1,6 @@
 -- Events that take no memory: each condition for that, which `TakesNoMemory` states of a world, holds of the stage that shows the
 -- world.
-use Rattle.std.proofs.Common.{◌≡◌, ℕ, ◌≤◌, true, false, List, [], ◌∷◌, length, Some, inl, inr, sym, ◌∙◌, ap, subst, arith}
+use Rattle.std.proofs.Common.{◌≡◌, ℕ, ◌≤◌, false, List, [], ◌∷◌, length, Some, inl, inr, sym, ◌∙◌, ap, subst, arith}
 use mathlib.Core.Path.{ap₂}
 use Rattle.std.specs.Prelude.{slice_get}
 use Rattle.gc_catalogue.specs.declared.call.Call.{Call}
@@ -14,10 +14,6 @@ use Rattle.gc_world.specs.Stages.{AreOfWorld}
 use Rattle.gc_world.specs.Streams.{is_begun}
 use Rattle.gc_world.specs.World.{Numbered, World}
 use Rattle.gc_world.proofs.Showing.{same_up, same_down, no_up, no_down, down_front, down_line}
-
--- false isn't true
-pub not_both : false ≡ true → ⊥
-not_both e = cc
 
 module _ (width : ℕ) (r : Report) (up down : List ℕ) (c : Windowed Call) (w : World (ById Call) State) (h : AreOfWorld width r up down c w) where
   -- where the world's client has as many requests waiting as its width, the stage's has

@@ -10,10 +10,10 @@ use Rattle.std.specs.Prelude.{◌≡◌, ◌⊎◌, ℕ, ◌+◌, ◌-◌, ◌<�
 use Rattle.gc_catalogue.specs.declared.call.Call.{Call}
 use Rattle.gc_client.specs.declared.window.TheConstants.{WINDOW}
 use Rattle.gc_client.specs.Rule.{ById, Outcome, Answered, Late, Lost, Settlement}
-use Rattle.gc_instrument.specs.State.{State, restarted}
+use Rattle.gc_instrument.specs.State.{State}
 use Rattle.gc_world.specs.declared.event.Event.{Event}
 use Rattle.gc_world.specs.declared.event.Event.TheVariants.{Send, DownDeliver, DownBytes, Expire}
-use Rattle.gc_world.specs.Clients.{ends, streams_by_ids}
+use Rattle.gc_world.specs.Clients.{streamed}
 use Rattle.gc_world.specs.Laws.{left_by_ids}
 use Rattle.gc_world.specs.Streams.{Streams, down_lines, remaining}
 use Rattle.gc_world.specs.World.{Sent, Numbered, Wire}
@@ -75,7 +75,7 @@ IsDelivery v e = (e ≡ DownDeliver) ⊎ ((n : ℕ) × (e ≡ DownBytes (n + 1))
 -- isn't settled: its delivery settles request n with this outcome, and the unsettled requests before that one as lost
 abbrev pub DeliverySettles : ℕ → State → List Event → ℕ → List ℕ → Outcome → Type 0
 DeliverySettles width opening events n line outcome =
-    (delivery : Event) → IsDelivery (streams_by_ids width ends events (restarted opening)) delivery → IsNextFor (left_by_ids width opening events) n line →
+    (delivery : Event) → IsDelivery (streamed width opening events) delivery → IsNextFor (left_by_ids width opening events) n line →
     IsSettledAs (left_by_ids width opening events) (left_by_ids width opening (events ++ delivery ∷ [])) n outcome
 
 -- a first reply in time is booked: its request is answered with that very line. That the answer's reading in the report is what the line
@@ -106,6 +106,6 @@ IsNeverInTimeAndTooLate =
 abbrev pub NoSecondReply : Type 0
 NoSecondReply =
     (width : ℕ) → width ≤ WINDOW → (opening : State) (events : List Event) (n : ℕ) (line : List ℕ) (behind : List (Numbered (List ℕ))) →
-    (delivery : Event) → IsDelivery (streams_by_ids width ends events (restarted opening)) delivery →
+    (delivery : Event) → IsDelivery (streamed width opening events) delivery →
     (left_by_ids width opening events).down ≡ record { number = n; line = line } ∷ behind → n < length (left_by_ids width opening events).settled →
     (left_by_ids width opening (events ++ delivery ∷ [])).settled ≡ (left_by_ids width opening events).settled

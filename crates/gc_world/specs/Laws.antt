@@ -8,7 +8,7 @@ use Rattle.gc_client.specs.Rule.{Settlement}
 use Rattle.gc_client.specs.Settlements.{ReadsAs}
 use Rattle.gc_instrument.specs.State.{State, IsFittingState, restarted}
 use Rattle.gc_world.specs.declared.event.Event.{Event}
-use Rattle.gc_world.specs.Clients.{ends, streams_by_ids, streams_by_numbers}
+use Rattle.gc_world.specs.Clients.{ends, played, played_by_numbers}
 use Rattle.gc_world.specs.Faithful.{IsValueOrRefusal}
 use Rattle.gc_world.specs.Order.{IsOrderly, IsRecent, numbers}
 use Rattle.gc_world.specs.Record.{IsOneForOne, IsReplyTo, IsBooked, IsExecution}
@@ -16,11 +16,11 @@ use Rattle.gc_world.specs.World.{Wire}
 
 -- the wire that the run by ids of these events leaves: the world but its client
 abbrev pub left_by_ids : ℕ → State → List Event → Wire State
-left_by_ids width opening events = (streams_by_ids width ends events (restarted opening)).world.wire
+left_by_ids width opening events = (played width opening events).wire
 
 -- the wire that the run by numbers of these events leaves
 abbrev pub left_by_numbers : ℕ → State → List Event → Wire State
-left_by_numbers width opening events = (streams_by_numbers width ends events (restarted opening)).world.wire
+left_by_numbers width opening events = (played_by_numbers width opening events).wire
 
 -- the wire that each list of events leaves keeps the order of the line, as `IsOrderly` has it
 abbrev pub KeepsOrder : Type 0
@@ -41,13 +41,15 @@ SettlesInOrder =
     (width : ℕ) (opening : State) (events : List Event) →
     IsOneForOne (left_by_ids width opening events).sent (left_by_ids width opening events).settled
 
--- an answer that is booked at place m is a line that was made on executing request m, for the call of that request
+-- if the restarted opening state is fitting, an answer that is booked at place m is a line that was made on executing request m, for
+-- the call of that request
 abbrev pub BooksItsOwn : Type 0
 BooksItsOwn =
     (width : ℕ) → width ≤ WINDOW → (opening : State) → IsFittingState (restarted opening) → (events : List Event) (m : ℕ) (s : Settlement Call) →
     slice_get (left_by_ids width opening events).settled m ≡ Some s → IsBooked ends IsFittingState (left_by_ids width opening events).made m s
 
--- the line of an answer that is booked reads as a value or a refusal
+-- a line that the instrument writes on executing a fitting call, in a fitting state, reads for that call as a value or a refusal: so
+-- each answer that is booked does
 abbrev pub RepliesAreFine : Type 0
 RepliesAreFine =
     (call : Call) (bytes : List ℕ) (reading : Reading) → IsReplyTo ends IsFittingState call bytes → IsFitting call → ReadsAs call bytes reading →

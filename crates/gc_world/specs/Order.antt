@@ -31,7 +31,7 @@ IsRecent width (Some k) executed up = (earlier : List ℕ) × (last : ℕ) × (e
 
 -- the order of the line, where at most `width` requests are unsettled
 pub record IsOrderly {Q State : Type 0} (width : ℕ) (w : Wire Q State) : Type 0 where
-  -- at most `width` requests are unsettled
+  -- there are no more settlements than requests sent, and at most `width` requests are unsettled
   pub settled : length w.settled ≤ length w.sent
   pub few : length w.sent ≤ length w.settled + width
   -- in each queue the numbers never fall from front to back, no number downward is above one upward, and every number is at

@@ -1,9 +1,9 @@
 -- However bytes are cut into deliveries, what they leave is the same: this project's own.
 use Rattle.std.specs.Prelude.{◌≡◌, ℕ, ◌+◌, ◌<◌, List, [], ◌∷◌, ◌++◌, length}
-use Rattle.gc_instrument.specs.State.{State, restarted}
+use Rattle.gc_instrument.specs.State.{State}
 use Rattle.gc_world.specs.declared.direction.Direction.{Direction}
 use Rattle.gc_world.specs.declared.event.Event.{Event}
-use Rattle.gc_world.specs.Clients.{ends, streams_by_ids}
+use Rattle.gc_world.specs.Clients.{streamed}
 use Rattle.gc_world.specs.Directions.{bytes, lines}
 
 -- some bytes of a direction and some more, at least one each, leave the same streams in one event as in two, if a byte is in
@@ -11,14 +11,13 @@ use Rattle.gc_world.specs.Directions.{bytes, lines}
 abbrev pub BytesAdd : Direction → Type 0
 BytesAdd d =
     (width : ℕ) (opening : State) (events : List Event) (m n : ℕ) →
-    0 < length (lines d (streams_by_ids width ends (events ++ bytes d (m + 1) ∷ []) (restarted opening)).world.wire) →
-    streams_by_ids width ends (events ++ bytes d (m + 1 + (n + 1)) ∷ []) (restarted opening)
-    ≡ streams_by_ids width ends (events ++ bytes d (m + 1) ∷ bytes d (n + 1) ∷ []) (restarted opening)
+    0 < length (lines d (streamed width opening (events ++ bytes d (m + 1) ∷ [])).world.wire) →
+    streamed width opening (events ++ bytes d (m + 1 + (n + 1)) ∷ []) ≡ streamed width opening (events ++ bytes d (m + 1) ∷ bytes d (n + 1) ∷ [])
 
 -- if an event of some bytes leaves none in flight in its direction, an event of more bytes in its place leaves the same
 -- streams
 abbrev pub BytesEnd : Direction → Type 0
 BytesEnd d =
     (width : ℕ) (opening : State) (events : List Event) (m n : ℕ) →
-    lines d (streams_by_ids width ends (events ++ bytes d (m + 1) ∷ []) (restarted opening)).world.wire ≡ [] →
-    streams_by_ids width ends (events ++ bytes d (m + 1 + n) ∷ []) (restarted opening) ≡ streams_by_ids width ends (events ++ bytes d (m + 1) ∷ []) (restarted opening)
+    lines d (streamed width opening (events ++ bytes d (m + 1) ∷ [])).world.wire ≡ [] →
+    streamed width opening (events ++ bytes d (m + 1 + n) ∷ []) ≡ streamed width opening (events ++ bytes d (m + 1) ∷ [])

@@ -59,7 +59,8 @@ abbrev pub named : List Made → List ℕ → List (Option (Numbered (List ℕ))
 named made places = map (slice_get (map made_seen made)) places
 
 -- the report, the queues and the client are those of this world, for a client with a window of this width: the queue upward
--- has the numbers of the requests in flight, and the queue downward names the replies
+-- has the numbers of the requests in flight, and the queue downward names the replies. Each request in flight is the one that was
+-- sent with its number, the id of the next one is a digit below 8, and the numbers of each call lie in their types
 pub record AreOfWorld (width : ℕ) (report : Report) (up down : List ℕ) (client : Windowed Call) (w : World (ById Call) State) : Type 0 where
   pub reports : IsReport report w.wire
   pub up_is : up ≡ numbers w.wire.up

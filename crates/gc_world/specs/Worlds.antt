@@ -33,7 +33,7 @@ pub record Wire (Q State : Type 0) : Type 0 where
   pub made : List (Numbered (List ℕ))
   -- what the client settled
   pub settled : List (Settlement Q)
-  -- how many had been executed at each start of the instrument
+  -- how many had been executed at each restart of the instrument, that before the first event not among them
   pub starts : List ℕ
   -- the requests in flight to the instrument, and the replies in flight to the client, the front of each queue first
   pub up : List (Numbered (Request Q))

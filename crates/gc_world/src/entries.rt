@@ -76,11 +76,11 @@ impl<T> Entries<T> {
 }
 
 impl<T: Drop> Entries<T> {
-    /// Appends an entry. `Err`: memory for it was refused.
+    /// Appends an entry. `Err`: memory for it was refused, and the list is as before.
     pub(crate) fn push(&mut self, entry: T) -> Result<(), AllocError>
         ensures { OnOk result (self.new ≡ self.old ++ entry ∷ []) }
     {
-        // A `push` for which memory ran out would hand the entry back, large as it is.
+        // Memory is asked for first: a `push` that is refused returns its entry, and entries are large.
         self.entries.reserve(1)?;
         self.entries.push_reserved(entry);
         Ok(())
@@ -101,7 +101,7 @@ impl<T> Entries<T> {
 // as many copied bytes as it has, and not the 512 that it has room for.
 
 impl Entries<Sent> {
-    /// Appends a request that was sent. `Err`: memory for it was refused.
+    /// Appends a request that was sent. `Err`: memory for it was refused, and the list is as before.
     pub(crate) fn push_sent(
         &mut self,
         target: u32,
@@ -123,7 +123,7 @@ impl Entries<Sent> {
 }
 
 impl Entries<Made> {
-    /// Appends a reply that was made, with the number of its request. `Err`: memory for it was refused.
+    /// Appends a reply that was made, with the number of its request. `Err`: memory for it was refused, and the list is as before.
     #[inline(always)]
     pub(crate) fn push_made(&mut self, number: usize, line: &Line) -> Result<(), AllocError>
         ensures { OnOk result (self.new ≡ self.old ++ record { number = number; line = line.now } ∷ []) }
@@ -151,7 +151,7 @@ impl Entries<Settlement<Call>> {
         Ok(())
     }
 
-    // Appends a settlement, whatever its outcome.
+    // Appends a settlement, whatever its outcome. `Err`: memory for it was refused, and the list is as before.
     fn push_settled(&mut self, settlement: &Settlement<Call>) -> Result<(), AllocError>
         ensures { OnOk result (self.new ≡ self.old ++ settlement.now ∷ []) }
     {
@@ -164,7 +164,7 @@ impl Entries<Settlement<Call>> {
         }
     }
 
-    // Appends the settlement of a request that was answered.
+    // Appends the settlement of a request that was answered with this line. `Err`: memory for it was refused, and the list is as before.
     fn push_answered(
         &mut self,
         target: u32,
@@ -185,7 +185,8 @@ impl Entries<Settlement<Call>> {
         Ok(())
     }
 
-    // Appends the settlement of a request that is late. The function has a frame of its own, because a settlement is large.
+    // Appends the settlement of a request that is late. `Err`: memory for it was refused, and the list is as before. The function has a
+    // frame of its own, because a settlement is large.
     #[inline(never)]
     fn push_late(&mut self, target: u32, call: &Call) -> Result<(), AllocError>
         ensures { OnOk result (self.new ≡ self.old ++ record { target = target; call = call.now; outcome = Late } ∷ []) }
@@ -197,7 +198,8 @@ impl Entries<Settlement<Call>> {
         })
     }
 
-    // Appends the settlement of a request that is lost. The function has a frame of its own, because a settlement is large.
+    // Appends the settlement of a request that is lost. `Err`: memory for it was refused, and the list is as before. The function has a
+    // frame of its own, because a settlement is large.
     #[inline(never)]
     fn push_lost(&mut self, target: u32, call: &Call) -> Result<(), AllocError>
         ensures { OnOk result (self.new ≡ self.old ++ record { target = target; call = call.now; outcome = Lost } ∷ []) }

@@ -7,7 +7,7 @@ use gc_catalogue::Call;
 /// whose bytes go first.
 #[derive(Clone, Copy, Debug, PartialEq, Eq)]
 pub enum Event {
-    /// The client sends this call to this target, with this deadline.
+    /// The client sends this call to this target, with this deadline. If its window is full it refuses, and nothing is sent.
     Send(u32, Call, u64),
     /// What remains of the line at the front of the upward queue reaches the instrument, and its reply goes to the back of
     /// the downward one. Not possible where no line is in flight upward.
@@ -33,8 +33,8 @@ pub enum Event {
     DownRepeat(usize),
     /// The client gets this moment, and times out each request whose deadline it has reached.
     Expire(u64),
-    /// The client is restarted; possible only with no line in flight.
+    /// The client is restarted, and the instrument with it; possible only with no line in flight.
     RestartClient,
-    /// The instrument is restarted; possible only with no line in flight.
+    /// The instrument alone is restarted; possible only with no line in flight.
     RestartInstrument,
 }

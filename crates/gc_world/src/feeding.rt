@@ -8,8 +8,8 @@ ghost use Rattle.gc_world.specs.Sides.{IsLine, StandsForPart};
 
 use gc_lines::{Assembler, Lent, Line};
 
-/// Feeds the next `n` bytes of a line whose first `gone` bytes have gone. The line's last byte isn't among them, so the line isn't
-/// completed. `cut` is where the assembler puts the line together.
+/// Feeds the next `n` bytes of a line whose first `gone` bytes have gone, its CR LF counted. The last byte, the LF, isn't among them, so
+/// the line isn't completed. `cut` is where the assembler puts the line together.
 #[inline(never)]
 pub fn feed_some(assembler: &mut Assembler, line: &[u8], gone: usize, n: usize, cut: &mut Line)
     requires plain { IsPlain line.now }

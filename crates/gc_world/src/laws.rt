@@ -2,6 +2,7 @@
 //!
 //! A request's number is its place among the requests sent, counted from 0. A reply in flight has the number of its request.
 //! In the run by ids the client knows requests by ids of one digit; in the run by numbers it is given each reply's number.
+//! In all laws but the last the client's window is at most seven wide.
 
 ghost use Rattle.gc_world.specs.FirstReply.{BooksFirstReply, FirstReplyIsLate, IsNeverInTimeAndTooLate, IsInTimeOrTooLate, NoSecondReply};
 ghost use Rattle.gc_world.specs.Laws.{KeepsOrder, KeepsRecent, RunsAgree, SettlesInOrder, BooksItsOwn, RepliesAreFine, RecordsExecutions};
@@ -33,7 +34,8 @@ pub fn settlements_are_one_for_one()
     ensures { SettlesInOrder }
 {}
 
-/// Each answer that is booked was made for that very request, and reads as a value or a refusal.
+/// If the restarted opening state is fitting (`IsFittingState`), each answer that is booked was made for that very request, and reads
+/// as a value or a refusal.
 pub fn answers_are_booked()
     ensures own { BooksItsOwn }
     ensures fine { RepliesAreFine }
@@ -57,9 +59,9 @@ pub fn first_reply_is_booked()
     ensures first_alone { NoSecondReply }
 {}
 
-/// Whether bytes are delivered in one event or in two, and so in any number of events, they lead to the same streams: each line
-/// that they complete is delivered with its own last byte. If an event delivers more bytes than are in flight, those in flight
-/// are delivered.
+/// Whether bytes that are in flight are delivered in one event or in two, of one byte at least, and so in any number of events, they
+/// lead to the same streams: each line that they complete is delivered with its own last byte. If an event is to deliver more
+/// bytes than are in flight, those in flight are delivered.
 pub fn bytes_go_over_in_turn()
     ensures adds { (direction : Direction) → BytesAdd direction }
     ensures ends { (direction : Direction) → BytesEnd direction }

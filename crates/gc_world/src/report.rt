@@ -41,7 +41,7 @@ pub struct Report {
     pub made: Entries<Made>,
     /// The settlements, in order.
     pub settled: Entries<Settlement<Call>>,
-    /// For each restart of the instrument, how many requests it had executed until then.
+    /// For each event that restarted the instrument, alone or with the client, how many requests it had executed until then.
     pub starts: Entries<usize>,
     /// The instrument, as the last event left it.
     pub instrument: Instrument,

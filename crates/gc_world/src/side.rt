@@ -21,7 +21,7 @@ pub struct Side {
     /// The places of these lines in the report's list, the front line's first.
     pub queue: Queue,
 
-    /// How many bytes of the front line have gone over.
+    /// How many bytes of the front line have gone over, CR LF included.
     pub gone: usize,
 
     /// The assembler at the far end.
@@ -42,7 +42,7 @@ impl Side {
         }
     }
 
-    /// How many bytes of the front line are still to go: 0 where no line is in flight.
+    /// How many bytes of the front line are still to go, CR LF included: 0 where no line is in flight.
     pub fn remaining(&self, direction: Direction, report: &Report) -> usize
         requires { (texts : List (List ℕ)) × Carries direction report.now self.now texts }
         ensures { (texts : List (List ℕ)) → Carries direction report.now self.now texts → result ≡ remaining self.now.gone (map with_end texts) }
@@ -55,7 +55,7 @@ impl Side {
 
     /// Feeds the next `n` bytes of the front line to the assembler: fewer than remain, so they don't complete the line. `cut` is
     /// where the assembler puts the line together.
-    pub fn begin(&mut self, direction: Direction, report: &Report, n: usize, cut: &mut Line)
+    pub fn go_on(&mut self, direction: Direction, report: &Report, n: usize, cut: &mut Line)
         requires { CarriesMoreThan direction report.now self.old n }
         ensures flow { KeepsFlow direction report.now self.old self.new }
         ensures gone { self.new.gone ≡ self.old.gone + n }

@@ -79,7 +79,7 @@ impl<W: Window<Asked = Call>> Stage<W> {
     }
 
     /// Plays one event: what it does to the line, the two ends and the report. An event that isn't possible is only counted.
-    /// `Err`: memory for a longer list or queue was refused.
+    /// `Err`: memory for a longer list or queue was refused, and the event may have happened in part.
     pub fn happen(&mut self, event: &Event) -> Result<(), AllocError>
         requires refused { self.old.report.refused_sends + 1 < 2 ^ 64 }
         requires idle { self.old.report.idle_events + 1 < 2 ^ 64 }
@@ -90,11 +90,11 @@ impl<W: Window<Asked = Call>> Stage<W> {
         match *event {
             Event::Send(target, ref call, deadline) => self.send(target, call, deadline)?,
             Event::UpDeliver => self.up_deliver()?,
-            Event::UpBytes(n) => self.bytes(Direction::Up, n)?,
+            Event::UpBytes(n) => self.deliver_bytes(Direction::Up, n)?,
             Event::UpLose(k) => self.up.lose(k, &mut self.report.idle_events),
             Event::UpRepeat(k) => self.up.repeat(k, &mut self.report.idle_events)?,
             Event::DownDeliver => self.down_deliver()?,
-            Event::DownBytes(n) => self.bytes(Direction::Down, n)?,
+            Event::DownBytes(n) => self.deliver_bytes(Direction::Down, n)?,
             Event::DownLose(k) => self.down.lose(k, &mut self.report.idle_events),
             Event::DownRepeat(k) => self.down.repeat(k, &mut self.report.idle_events)?,
             Event::Expire(now) => self.expire(now),
@@ -123,7 +123,8 @@ impl<W: Window<Asked = Call>> Stage<W> {
         (report, client)
     }
 
-    // Sends a request: its line goes to the back of the upward queue. A send that is refused is only counted.
+    // Sends a request: its line goes to the back of the upward queue. A send that the client refuses is only counted. `Err`: memory
+    // was refused.
     fn send(&mut self, target: u32, call: &Call, deadline: u64) -> Result<(), AllocError>
         requires { self.old.report.refused_sends + 1 < 2 ^ 64 }
         ensures follows { OnOk result (Follows self.old (Event.Send target call.now deadline) self.new) }
@@ -138,7 +139,7 @@ impl<W: Window<Asked = Call>> Stage<W> {
     }
 
     // Hands the front request to the instrument, and puts the reply at the back of the downward queue. The report gets the reply,
-    // and the request's number if it was executed. If no request is in flight, the event is only counted.
+    // and the request's number if it was executed. If no request is in flight, the event is only counted. `Err`: memory was refused.
     #[inline(always)]
     fn up_deliver(&mut self) -> Result<(), AllocError>
         requires idle { self.old.report.idle_events + 1 < 2 ^ 64 }
@@ -167,8 +168,8 @@ impl<W: Window<Asked = Call>> Stage<W> {
         Ok(())
     }
 
-    // Hands the front reply to the client, and appends the requests that it settles to the report. If no reply is in flight, the
-    // event is only counted.
+    // Hands the front reply to the client, and appends its settlements to the report. If no reply is in flight, the event is only
+    // counted. `Err`: memory was refused.
     #[inline(always)]
     fn down_deliver(&mut self) -> Result<(), AllocError>
         requires idle { self.old.report.idle_events + 1 < 2 ^ 64 }
@@ -193,9 +194,9 @@ impl<W: Window<Asked = Call>> Stage<W> {
     }
 
     // Hands over the next `n` bytes of a direction: each line that they complete is delivered. Where `n` is 0 or no byte is
-    // in flight, the event is only counted.
+    // in flight, the event is only counted. `Err`: memory was refused.
     #[inline(never)]
-    fn bytes(&mut self, direction: Direction, n: usize) -> Result<(), AllocError>
+    fn deliver_bytes(&mut self, direction: Direction, n: usize) -> Result<(), AllocError>
         requires idle { self.old.report.idle_events + 1 < 2 ^ 64 }
         requires shown { IsShown self.old }
         ensures follows { OnOk result (Follows self.old (bytes direction n) self.new) }
@@ -213,12 +214,13 @@ impl<W: Window<Asked = Call>> Stage<W> {
             remaining = self.remaining(direction);
         }
         if left < remaining {
-            self.begin(direction, left);
+            self.go_on(direction, left);
         }
         Ok(())
     }
 
-    // Hands over what remains of the front line of a direction. Where no line is in flight, the event is only counted.
+    // Hands over what remains of the front line of a direction. Where no line is in flight, the event is only counted. `Err`: memory
+    // was refused.
     #[inline(always)]
     fn deliver(&mut self, direction: Direction) -> Result<(), AllocError>
         requires idle { self.old.report.idle_events + 1 < 2 ^ 64 }
@@ -232,7 +234,7 @@ impl<W: Window<Asked = Call>> Stage<W> {
         }
     }
 
-    // How many bytes of the front line of a direction are still to go: 0 where no line is in flight.
+    // How many bytes of the front line of a direction are still to go, CR LF included: 0 where no line is in flight.
     fn remaining(&self, direction: Direction) -> usize
         requires { IsShown self.now }
         ensures { (width : ℕ) (v : Streams (ById Call) State) → Shows width self.now v → result ≡ remaining (gone direction v) (lines direction v.world.wire) }
@@ -245,16 +247,16 @@ impl<W: Window<Asked = Call>> Stage<W> {
 
     // Hands over the next `n` bytes of the front line of a direction, after those that have gone already. They don't
     // complete it.
-    fn begin(&mut self, direction: Direction, n: usize)
+    fn go_on(&mut self, direction: Direction, n: usize)
         requires shown { IsShown self.old }
         requires some { HasMoreThan self.old direction n }
         ensures { FollowsBytes self.old direction n self.new }
     {
         match direction {
-            Direction::Up => self.up.begin(Direction::Up, &self.report, n, &mut self.cut),
+            Direction::Up => self.up.go_on(Direction::Up, &self.report, n, &mut self.cut),
             Direction::Down => self
                 .down
-                .begin(Direction::Down, &self.report, n, &mut self.cut),
+                .go_on(Direction::Down, &self.report, n, &mut self.cut),
         }
     }
 
@@ -268,7 +270,8 @@ impl<W: Window<Asked = Call>> Stage<W> {
     }
 
     // Restarts the client, which settles all requests that wait as lost. It restarts the instrument, too: the reply that the
-    // instrument keeps has an id that the new client uses again. Where a line is in flight, the event is only counted.
+    // instrument keeps has an id that the new client uses again. Where a line is in flight, the event is only counted. `Err`: memory
+    // was refused.
     fn restart_client(&mut self) -> Result<(), AllocError>
         requires { self.old.report.idle_events + 1 < 2 ^ 64 }
         ensures follows { OnOk result (Follows self.old Event.RestartClient self.new) }
@@ -286,7 +289,8 @@ impl<W: Window<Asked = Call>> Stage<W> {
         Ok(())
     }
 
-    // Restarts the instrument, and leaves the client as it is. Where a line is in flight, the event is only counted.
+    // Restarts the instrument, and leaves the client as it is. Where a line is in flight, the event is only counted. `Err`: memory was
+    // refused.
     fn restart_instrument(&mut self) -> Result<(), AllocError>
         requires { self.old.report.idle_events + 1 < 2 ^ 64 }
         ensures follows { OnOk result (Follows self.old Event.RestartInstrument self.new) }
@@ -310,7 +314,7 @@ impl<W: Window<Asked = Call>> Stage<W> {
 }
 
 // Appends the request's number to those executed, if the instrument's kept id changed from `before` to `after`: an execution
-// changes that id, and a repeat leaves it.
+// changes that id, and a repeat leaves it. `Err`: memory was refused.
 #[inline(always)]
 fn note_execution(
     executed: &mut Entries<usize>,

@@ -1,4 +1,4 @@
--- Clients and the states that stand for them.
+-- Clients: their widths, the numbers of the faults that their calls return, and the lines and lists that these write.
 use Rattle.std.proofs.Common.{◌≡◌, ◌≢◌, ◌≤◌, ℕ, List, ◌+◌, ◌++◌, Some, Ok, Err, length, take, drop, ◌∙◌, sym, ap, subst, arith}
 use Rattle.std.proofs.lemmas.List.{take_all, take-append-le, drop-drop}
 use Rattle.gc_values.specs.declared.fault.ValueFault.TheVariants.{Spelling, Range, OpenQuote, TooMany, Count}
@@ -48,7 +48,7 @@ no_raw_astray raw.TooLong f = absurd (omega (arith, f))
 no_raw_astray raw.OpenQuote f = absurd (omega (arith, f))
 no_raw_astray raw.TooMany f = absurd (omega (arith, f))
 
--- a number and parameters that are asked for as they are aren't refused
+-- a number and parameters for which a raw request asks aren't refused
 pub never_refused : (procedure : ℕ) (params : List ℕ) (raw : RawCall) (e : RawFault) → IsAsked procedure params (Raw raw) → IsRawRefusal procedure params e → ⊥
 never_refused procedure params raw e is fault =
     no_raw_refusal procedure params e
@@ -67,7 +67,7 @@ as_given raw procedure params id next text is same e =
 pub unbegun_not_astray : NOT_BEGUN ≡ NO_CLIENT → ⊥
 unbegun_not_astray e = absurd (omega (arith, e))
 
--- a fault isn't a success
+-- an error isn't a success
 pub never_ok : {A E : Type 0} (e : E) (x : A) → Err e ≡ Ok x → ⊥
 never_ok e x f = cc
 

@@ -15,11 +15,12 @@ use Rattle.gc_client.specs.OneForOne.{Course, course_after, course, settled_on, 
 use Rattle.gc_client.specs.OneForOne as one
 use Rattle.gc_client.specs.Rule.{ById, Settled, expires, fresh, heard, hears, id_settled, place_in, restarts}
 use Rattle.gc_client.proofs.OneForOne.{one_for_one}
+use Rattle.gc_station.proofs.Words.{left_none}
 use Rattle.gc_field.proofs.BeginWords.{cons_not_nil}
-use Rattle.geocom_c.specs.Beginning.{anew, given, left_behind, left_by_all}
+use Rattle.geocom_c.specs.Beginning.{left_by_restart, given, left_by_bytes, unanswered_after}
 use Rattle.geocom_c.specs.Following.{CallsReach, Stage, hearing, opened}
-use Rattle.geocom_c.specs.Rest.{lines_behind}
-use Rattle.geocom_c.specs.Steps.{Event, Came, Went, AreEvents, AreInTurn, IsOverEvents, asked_by, begins_by, goes_by, left_among, steps_among}
+use Rattle.geocom_c.specs.Rest.{lines_completed}
+use Rattle.geocom_c.specs.Steps.{Event, Came, Stepped, AreEvents, AreInTurn, IsOverEvents, ask_events, begin_events, step_events, left_among, steps_among}
 use Rattle.geocom_c.specs.declared.following.Step.{Step}
 use Rattle.geocom_c.specs.declared.following.Step.TheVariants.{Send, SendRaw, Begin, Feed, Expire, Restart}
 
@@ -30,19 +31,19 @@ record Leads (width : ℕ) (x y : Course Asked) (left after : List ℕ) (front :
   reached : (es : List Event) → course width x (steps_among (front ++ es)) ≡ course width y (steps_among es)
   behind : (es : List Event) → left_among left (front ++ es) ≡ left_among after es
 
--- no events leave all as it was
+-- the empty list of events leaves all as it was
 leads_none : (width : ℕ) (x : Course Asked) (left : List ℕ) → Leads width x x left left []
 leads_none width x left = record { turns = λ es h. h; reached = λ es. refl; behind = λ es. refl }
 
 -- lines that come to the synchronization answer null procedures
-leads_came : (width : ℕ) (x : Course Asked) (lines : List (List ℕ)) (left : List ℕ) → Leads width x x left (left_by_all left lines) (map Came lines)
+leads_came : (width : ℕ) (x : Course Asked) (lines : List (List ℕ)) (left : List ℕ) → Leads width x x left (unanswered_after left lines) (map Came lines)
 leads_came width x [] left = leads_none width x left
 leads_came width x (line ∷ lines) left =
     let more = leads_came width x lines (left_by left (heard line)) in
     record { turns = more.turns; reached = more.reached; behind = more.behind }
 
 -- a null procedure that is asked for changes nothing
-leads_asked : (width : ℕ) (x : Course Asked) (left : List ℕ) (o : Option (List ℕ)) → Leads width x x left left (asked_by o)
+leads_asked : (width : ℕ) (x : Course Asked) (left : List ℕ) (o : Option (List ℕ)) → Leads width x x left left (ask_events o)
 leads_asked width x left None = leads_none width x left
 leads_asked width x left (Some line) = record { turns = λ es h. h; reached = λ es. refl; behind = λ es. refl }
 
@@ -56,19 +57,14 @@ leads_both width x y z left between after front later f g =
       behind = λ es. ap (λ l. left_among left l) (append_assoc front later es) ∙ f.behind (later ++ es) ∙ g.behind es;
     }
 
--- if no id of the word is left, none is left after any lines
-stays_begun : (lines : List (List ℕ)) → left_by_all [] lines ≡ []
-stays_begun [] = refl
-stays_begun (line ∷ lines) = stays_begun lines
-
 -- the events of a begin leave the course as it was, and lead to the ids that aren't answered after its bytes
-leads_begin : (width : ℕ) (x : Course Asked) (left rest bytes : List ℕ) → Leads width x x left (left_behind left rest bytes) (begins_by left rest bytes)
-leads_begin width x [] rest bytes = subst (λ l. Leads width x x [] l []) (sym (stays_begun (lines_behind rest bytes))) (leads_none width x [])
+leads_begin : (width : ℕ) (x : Course Asked) (left rest bytes : List ℕ) → Leads width x x left (left_by_bytes left rest bytes) (begin_events left rest bytes)
+leads_begin width x [] rest bytes = subst (λ l. Leads width x x [] l []) (sym (left_none (lines_completed rest bytes))) (leads_none width x [])
 leads_begin width x (asked ∷ later) rest bytes =
     let left = asked ∷ later in
-    let after = left_behind left rest bytes in
-    leads_both width x x x left after after (map Came (lines_behind rest bytes)) (asked_by (given bytes left after))
-    (leads_came width x (lines_behind rest bytes) left) (leads_asked width x after (given bytes left after))
+    let after = left_by_bytes left rest bytes in
+    leads_both width x x x left after after (map Came (lines_completed rest bytes)) (ask_events (given bytes left after))
+    (leads_came width x (lines_completed rest bytes) left) (leads_asked width x after (given bytes left after))
 
 -- A client that hasn't synchronized has no outstanding request, so a line, a moment or a restart changes nothing in it.
 
@@ -109,7 +105,7 @@ idle_lines : (width : ℕ) (x : Course Asked) (lines : List (List ℕ)) → x.cl
 idle_lines width x [] idle = refl
 idle_lines width x (line ∷ lines) idle = ap (λ y. course width y (map one.Hear lines)) (idle_line width x line idle) ∙ idle_lines width x lines idle
 
--- no events lead from a course to an equal one
+-- the empty list of events leads from a course to an equal one
 leads_idle : (width : ℕ) (x y : Course Asked) (left : List ℕ) → y ≡ x → Leads width x y left left []
 leads_idle width x y left same = subst (λ (z : Course Asked). Leads width x z left left []) (sym same) (leads_none width x left)
 
@@ -118,7 +114,7 @@ abbrev IsIdle : Course Asked → List ℕ → Type 0
 IsIdle x left = (left ≡ [] → ⊥) → x.client ≡ fresh
 
 -- lines that a client hears once it has synchronized are steps of it
-leads_heard : (width : ℕ) (x : Course Asked) (lines : List (List ℕ)) → Leads width x (course width x (map one.Hear lines)) [] [] (map Went (map one.Hear lines))
+leads_heard : (width : ℕ) (x : Course Asked) (lines : List (List ℕ)) → Leads width x (course width x (map one.Hear lines)) [] [] (map Stepped (map one.Hear lines))
 leads_heard width x [] = leads_none width x []
 leads_heard width x (line ∷ lines) =
     let more = leads_heard width (course_after width x (one.Hear line)) lines in
@@ -126,18 +122,18 @@ leads_heard width x (line ∷ lines) =
 
 -- the events of lines that are fed lead to the course that has heard these lines
 leads_feed : (width : ℕ) (x : Course Asked) (left : List ℕ) (lines : List (List ℕ)) → IsIdle x left
-    → Leads width x (course width x (map one.Hear lines)) left left (goes_by left (map one.Hear lines))
+    → Leads width x (course width x (map one.Hear lines)) left left (step_events left (map one.Hear lines))
 leads_feed width x [] lines idle = leads_heard width x lines
 leads_feed width x (asked ∷ later) lines idle = leads_idle width x _ (asked ∷ later) (idle_lines width x lines (idle (cons_not_nil asked later)))
 
 -- the events of a moment lead to the course after it
 leads_expire : (width : ℕ) (x : Course Asked) (left : List ℕ) (now : ℕ) → IsIdle x left
-    → Leads width x (course_after width x (one.Expire now)) left left (goes_by left (one.Expire now ∷ []))
+    → Leads width x (course_after width x (one.Expire now)) left left (step_events left (one.Expire now ∷ []))
 leads_expire width x [] now idle = record { turns = λ es h. (refl, h); reached = λ es. refl; behind = λ es. refl }
 leads_expire width x (asked ∷ later) now idle = leads_idle width x _ (asked ∷ later) (idle_moment width x now (idle (cons_not_nil asked later)))
 
 -- the events of a restart lead to the course after it, and to the ids that are to be answered then
-leads_restart : (width : ℕ) (x : Course Asked) (left : List ℕ) → IsIdle x left → Leads width x (course_after width x one.Restart) left (anew left) (goes_by left (one.Restart ∷ []))
+leads_restart : (width : ℕ) (x : Course Asked) (left : List ℕ) → IsIdle x left → Leads width x (course_after width x one.Restart) left (left_by_restart left) (step_events left (one.Restart ∷ []))
 leads_restart width x [] idle = record { turns = λ es h. (refl, h); reached = λ es. refl; behind = λ es. refl }
 leads_restart width x (asked ∷ later) idle = leads_idle width x _ (asked ∷ later) (idle_restart width x (idle (cons_not_nil asked later)))
 
@@ -157,7 +153,7 @@ as_events width s [] t idle f = record { events = []; are = refl; turns = tt; re
 as_events width s (Send target deadline procedure params ∷ calls) t idle (inl f) =
     let more = as_events width (record s { reached = course_after width s.reached (one.Send target (Table f.0) deadline) }) calls t (λ no. absurd (no f.1)) f.3 in
     record {
-      events = Went (one.Send target (Table f.0) deadline) ∷ more.events;
+      events = Stepped (one.Send target (Table f.0) deadline) ∷ more.events;
       are = inl (f.0, more.events, f.1, f.2, refl, more.are);
       turns = (f.1, subst (λ l. AreInTurn l more.events) f.1 more.turns);
       reached = more.reached;
@@ -169,7 +165,7 @@ as_events width s (Send target deadline procedure params ∷ calls) t idle (inr 
 as_events width s (SendRaw target deadline procedure params ∷ calls) t idle (inl f) =
     let more = as_events width (record s { reached = course_after width s.reached (one.Send target (Raw f.0) deadline) }) calls t (λ no. absurd (no f.1)) f.3 in
     record {
-      events = Went (one.Send target (Raw f.0) deadline) ∷ more.events;
+      events = Stepped (one.Send target (Raw f.0) deadline) ∷ more.events;
       are = inl (f.0, more.events, f.1, f.2, refl, more.are);
       turns = (f.1, subst (λ l. AreInTurn l more.events) f.1 more.turns);
       reached = more.reached;
@@ -179,24 +175,24 @@ as_events width s (SendRaw target deadline procedure params ∷ calls) t idle (i
     let more = as_events width s calls t idle f.1 in
     record { events = more.events; are = inr (f.0, more.are); turns = more.turns; reached = more.reached; left = more.left }
 as_events width s (Begin bytes ∷ calls) t idle f =
-    let lines = lines_behind s.rest bytes.now in
+    let lines = lines_completed s.rest bytes.now in
     let l = leads_begin width s.reached s.left s.rest bytes.now in
-    let more = as_events width (record s { rest = rest_behind s.rest bytes.now; left = left_behind s.left s.rest bytes.now }) calls t
-    (λ no. idle (λ e. no (ap (λ a. left_by_all a lines) e ∙ stays_begun lines))) f in
+    let more = as_events width (record s { rest = rest_behind s.rest bytes.now; left = left_by_bytes s.left s.rest bytes.now }) calls t
+    (λ no. idle (λ e. no (ap (λ a. unanswered_after a lines) e ∙ left_none lines))) f in
     record {
-      events = begins_by s.left s.rest bytes.now ++ more.events;
+      events = begin_events s.left s.rest bytes.now ++ more.events;
       are = (more.events, refl, more.are);
       turns = l.turns more.events more.turns;
       reached = more.reached ∙ sym (l.reached more.events);
       left = more.left ∙ sym (l.behind more.events);
     }
 as_events width s (Feed bytes ∷ calls) t idle f =
-    let lines = lines_behind s.rest bytes.now in
+    let lines = lines_completed s.rest bytes.now in
     let l = leads_feed width s.reached s.left lines idle in
     let more = as_events width (record s { reached = hearing width s.reached s.rest bytes.now; rest = rest_behind s.rest bytes.now }) calls t
     (λ no. ap (λ (x : Course Asked). x.client) (idle_lines width s.reached lines (idle no)) ∙ idle no) f in
     record {
-      events = goes_by s.left (map one.Hear lines) ++ more.events;
+      events = step_events s.left (map one.Hear lines) ++ more.events;
       are = (more.events, refl, more.are);
       turns = l.turns more.events more.turns;
       reached = more.reached ∙ sym (l.reached more.events);
@@ -207,7 +203,7 @@ as_events width s (Expire now ∷ calls) t idle f =
     let more = as_events width (record s { reached = course_after width s.reached (one.Expire now) }) calls t
     (λ no. ap (λ (x : Course Asked). x.client) (idle_moment width s.reached now (idle no)) ∙ idle no) f in
     record {
-      events = goes_by s.left (one.Expire now ∷ []) ++ more.events;
+      events = step_events s.left (one.Expire now ∷ []) ++ more.events;
       are = (more.events, refl, more.are);
       turns = l.turns more.events more.turns;
       reached = more.reached ∙ sym (l.reached more.events);
@@ -215,9 +211,9 @@ as_events width s (Expire now ∷ calls) t idle f =
     }
 as_events width s (Restart ∷ calls) t idle f =
     let l = leads_restart width s.reached s.left idle in
-    let more = as_events width (record { reached = course_after width s.reached one.Restart; rest = []; left = anew s.left }) calls t (λ no. refl) f in
+    let more = as_events width (record { reached = course_after width s.reached one.Restart; rest = []; left = left_by_restart s.left }) calls t (λ no. refl) f in
     record {
-      events = goes_by s.left (one.Restart ∷ []) ++ more.events;
+      events = step_events s.left (one.Restart ∷ []) ++ more.events;
       are = (more.events, refl, more.are);
       turns = l.turns more.events more.turns;
       reached = more.reached ∙ sym (l.reached more.events);
@@ -229,26 +225,26 @@ only_events : (left rest : List ℕ) (calls : List Step) (es fs : List Event) �
 only_events left rest [] es fs f g = f ∙ sym g
 only_events left rest (Send target deadline procedure params ∷ calls) es fs (inl f) (inl g) =
     f.4
-    ∙ ap (λ call. Went (one.Send target (Table call) deadline) ∷ f.1) (one_call procedure params.now f.0 g.0 f.3 g.3)
-    ∙ ap (λ later. Went (one.Send target (Table g.0) deadline) ∷ later) (only_events left rest calls f.1 g.1 f.5 g.5)
+    ∙ ap (λ call. Stepped (one.Send target (Table call) deadline) ∷ f.1) (one_call procedure params.now f.0 g.0 f.3 g.3)
+    ∙ ap (λ later. Stepped (one.Send target (Table g.0) deadline) ∷ later) (only_events left rest calls f.1 g.1 f.5 g.5)
     ∙ sym g.4
 only_events left rest (Send target deadline procedure params ∷ calls) es fs (inl f) (inr g) = absurd (g.0 f.2 f.0 f.3)
 only_events left rest (Send target deadline procedure params ∷ calls) es fs (inr f) (inl g) = absurd (f.0 g.2 g.0 g.3)
 only_events left rest (Send target deadline procedure params ∷ calls) es fs (inr f) (inr g) = only_events left rest calls es fs f.1 g.1
 only_events left rest (SendRaw target deadline procedure params ∷ calls) es fs (inl f) (inl g) =
     f.4
-    ∙ ap (λ asked. Went (one.Send target asked deadline) ∷ f.1) (one_asked procedure params.now (Raw f.0) (Raw g.0) f.3 g.3)
-    ∙ ap (λ later. Went (one.Send target (Raw g.0) deadline) ∷ later) (only_events left rest calls f.1 g.1 f.5 g.5)
+    ∙ ap (λ asked. Stepped (one.Send target asked deadline) ∷ f.1) (one_asked procedure params.now (Raw f.0) (Raw g.0) f.3 g.3)
+    ∙ ap (λ later. Stepped (one.Send target (Raw g.0) deadline) ∷ later) (only_events left rest calls f.1 g.1 f.5 g.5)
     ∙ sym g.4
 only_events left rest (SendRaw target deadline procedure params ∷ calls) es fs (inl f) (inr g) = absurd (g.0 f.2 f.0 f.3)
 only_events left rest (SendRaw target deadline procedure params ∷ calls) es fs (inr f) (inl g) = absurd (f.0 g.2 g.0 g.3)
 only_events left rest (SendRaw target deadline procedure params ∷ calls) es fs (inr f) (inr g) = only_events left rest calls es fs f.1 g.1
 only_events left rest (Begin bytes ∷ calls) es fs f g =
-    f.1 ∙ ap (λ later. begins_by left rest bytes.now ++ later) (only_events (left_behind left rest bytes.now) (rest_behind rest bytes.now) calls f.0 g.0 f.2 g.2) ∙ sym g.1
+    f.1 ∙ ap (λ later. begin_events left rest bytes.now ++ later) (only_events (left_by_bytes left rest bytes.now) (rest_behind rest bytes.now) calls f.0 g.0 f.2 g.2) ∙ sym g.1
 only_events left rest (Feed bytes ∷ calls) es fs f g =
-    f.1 ∙ ap (λ later. goes_by left (map one.Hear (lines_behind rest bytes.now)) ++ later) (only_events left (rest_behind rest bytes.now) calls f.0 g.0 f.2 g.2) ∙ sym g.1
-only_events left rest (Expire now ∷ calls) es fs f g = f.1 ∙ ap (λ later. goes_by left (one.Expire now ∷ []) ++ later) (only_events left rest calls f.0 g.0 f.2 g.2) ∙ sym g.1
-only_events left rest (Restart ∷ calls) es fs f g = f.1 ∙ ap (λ later. goes_by left (one.Restart ∷ []) ++ later) (only_events (anew left) [] calls f.0 g.0 f.2 g.2) ∙ sym g.1
+    f.1 ∙ ap (λ later. step_events left (map one.Hear (lines_completed rest bytes.now)) ++ later) (only_events left (rest_behind rest bytes.now) calls f.0 g.0 f.2 g.2) ∙ sym g.1
+only_events left rest (Expire now ∷ calls) es fs f g = f.1 ∙ ap (λ later. step_events left (one.Expire now ∷ []) ++ later) (only_events left rest calls f.0 g.0 f.2 g.2) ∙ sym g.1
+only_events left rest (Restart ∷ calls) es fs f g = f.1 ∙ ap (λ later. step_events left (one.Restart ∷ []) ++ later) (only_events (left_by_restart left) [] calls f.0 g.0 f.2 g.2) ∙ sym g.1
 
 -- the law: any calls on a state are one list of events, and bring the client to where its rule brings it over these
 pub over_events : (width : ℕ) (calls : List Step) (t : Stage) → CallsReach width opened calls t → IsOverEvents width calls t

@@ -1,4 +1,4 @@
--- Calls that meet each premise of the laws, computed: so the laws aren't about nothing.
+-- Calls that meet each premise of `EachAnswerIsOwn`, computed: so the laws that say it aren't about nothing.
 use Rattle.std.proofs.Common.{◌≡◌, ◌⊎◌, ℕ, [], ◌∷◌, None, inl, inr, refl, lit≤, arith}
 use Rattle.std.specs.Prelude.{codes, take, drop}
 use Rattle.std.specs.Fmt.{digits}
@@ -34,7 +34,7 @@ not_alone (inr f) = f
 counting_alike : TreatsRawsAlike counting AnyState kept_by
 counting_alike state id call good lt = inr (counted.keeps.always state id call good lt refl)
 
--- the calls over an instrument that counts meet every premise of the laws
+-- the calls over an instrument that counts meet every premise of `EachAnswerIsOwn` (`AreInField`)
 over_counting : (raw : RawCall) → AreInField counting AnyState kept_by (record { count = 27; keeps = None }) chain.null_replies (raw_second raw) (Raw raw) chain.first_reply chain.second_reply
 unfolding header_at reply_at digits
 over_counting raw =
@@ -114,7 +114,7 @@ over_counting raw =
       };
     }
 
--- the calls over the simulator meet every premise of the laws
+-- the calls over the simulator meet every premise of `EachAnswerIsOwn` (`AreInField`)
 over_simulator :
     AreInField ends IsFittingState kept_of simulator_opening replies table_second (Table InstrumentNo) (codes "%R1P,0,0:0,123456") (codes "%R1P,0,1:0,123456")
 unfolding header_at reply_at handed exec digits

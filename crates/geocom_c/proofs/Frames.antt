@@ -31,9 +31,9 @@ with_rest s r c old new is rest =
       width = is.width;
       next = is.next;
       waiting = is.waiting;
-      head = record { width = is.head.width; digit = is.head.digit; few = is.head.few; part = is.head.part };
+      head = record { width = is.head.width; next = is.head.next; few = is.head.few; answered = is.head.answered };
       places = is.places;
-      under_way = rest;
+      incomplete = rest;
     }
 
 -- `IsFed` still holds with an equal frame g in place of f, and with another number of used bytes
@@ -45,6 +45,6 @@ fed_used c f g r q records text used e same is =
       kind = ap (λ (x : GeocomHeard). x.kind) same ∙ is.kind;
       line_fault = ap (λ (x : GeocomHeard). x.line_fault) same ∙ is.line_fault;
       count = ap (λ (x : GeocomHeard). x.count) same ∙ is.count;
-      told = is.told;
+      recorded = is.recorded;
       front = subst (λ (n : ℕ). IsInFront f n text) (sym (ap (λ (x : GeocomHeard). x.count) same)) is.front;
     })

@@ -13,29 +13,29 @@ use Rattle.gc_lines.proofs.Cutting.{cut_none, cut_some}
 use Rattle.gc_client.specs.Rule.{Windowed, ById, Sending}
 use Rattle.gc_client.specs.OneForOne.{Course, course_after, course, sent_on}
 use Rattle.gc_client.specs.OneForOne as one
-use Rattle.geocom_c.specs.Feeding.{behind}
+use Rattle.geocom_c.specs.Feeding.{client_past}
 use Rattle.geocom_c.specs.State.{StandsFor}
-use Rattle.geocom_c.specs.Sending.{Sent, SendMeets}
+use Rattle.geocom_c.specs.Sending.{SendEffect, SendMeets}
 use Rattle.geocom_c.specs.Following.{hearing, FedTo}
 use Rattle.geocom_c.specs.declared.state.GeocomClient.{GeocomClient}
 
 -- the course after a frame
-abbrev pub past : ℕ → Course Asked → Frame → Course Asked
-past width x (Line line) = course_after width x (one.Hear line.items)
-past width x Cleared = x
-past width x Overlong = x
-past width x More = x
+abbrev pub course_past : ℕ → Course Asked → Frame → Course Asked
+course_past width x (Line line) = course_after width x (one.Hear line.items)
+course_past width x Cleared = x
+course_past width x Overlong = x
+course_past width x More = x
 
 -- the client after a frame is that of the course after it
-pub behind_past : (width : ℕ) (x : Course Asked) (f : Frame) → behind (record { width = width; ids = x.client }) f ≡ record { width = width; ids = (past width x f).client }
-behind_past width x (Line line) = refl
-behind_past width x Cleared = refl
-behind_past width x Overlong = refl
-behind_past width x More = refl
+pub client_of_course : (width : ℕ) (x : Course Asked) (f : Frame) → client_past (record { width = width; ids = x.client }) f ≡ record { width = width; ids = (course_past width x f).client }
+client_of_course width x (Line line) = refl
+client_of_course width x Cleared = refl
+client_of_course width x Overlong = refl
+client_of_course width x More = refl
 
 -- hearing the lines of the frames f and `fs` is hearing f, and then the lines of `fs`
 frame_first : (width : ℕ) (x : Course Asked) (f : Frame) (fs : List Frame) → course width x (map one.Hear (filter_map line_in (f ∷ fs))) ≡ course width
-    (past width x f) (map one.Hear (filter_map line_in fs))
+    (course_past width x f) (map one.Hear (filter_map line_in fs))
 frame_first width x (Line line) fs = refl
 frame_first width x Cleared fs = refl
 frame_first width x Overlong fs = refl
@@ -47,7 +47,7 @@ none_heard width x rest bytes e = ap (λ ps. course width x (map one.Hear (filte
 
 -- of bytes with a line feed the first frame is heard, and then the others
 pub some_heard : (width : ℕ) (x : Course Asked) (rest bytes : List ℕ) (at : ℕ) → position is_line_feed bytes ≡ Some at
-    → hearing width (past width x (frame_of (rest ++ take at bytes))) [] (drop (at + 1) bytes) ≡ hearing width x rest bytes
+    → hearing width (course_past width x (frame_of (rest ++ take at bytes))) [] (drop (at + 1) bytes) ≡ hearing width x rest bytes
 some_heard width x rest bytes at e =
     sym (ap (λ ps. course width x (map one.Hear (filter_map line_in (map frame_of ps)))) (cut_some rest bytes at e).0
     ∙ frame_first width x (frame_of (rest ++ take at bytes)) (map frame_of (pieces_behind [] (drop (at + 1) bytes))))
@@ -66,13 +66,13 @@ fed_none width x rest bytes state left e none s =
 
 -- if the first line feed ended a frame, which the client heard, the bytes through that line feed were fed
 pub fed_some : (width : ℕ) (x : Course Asked) (rest bytes : List ℕ) (state : GeocomClient) (used at : ℕ) → position is_line_feed bytes ≡ Some at → used ≡ at + 1
-    → StandsFor state (behind (record { width = width; ids = x.client }) (frame_of (rest ++ take at bytes))) [] → FedTo width x rest bytes state (drop used bytes)
+    → StandsFor state (client_past (record { width = width; ids = x.client }) (frame_of (rest ++ take at bytes))) [] → FedTo width x rest bytes state (drop used bytes)
 fed_some width x rest bytes state used at e n s =
     record {
-      reached = past width x (frame_of (rest ++ take at bytes));
+      reached = course_past width x (frame_of (rest ++ take at bytes));
       now = [];
-      stands = subst (λ (d : Windowed Asked). StandsFor state d []) (behind_past width x (frame_of (rest ++ take at bytes))) s;
-      same = ap (λ m. hearing width (past width x (frame_of (rest ++ take at bytes))) [] (drop m bytes)) n ∙ some_heard width x rest bytes at e;
+      stands = subst (λ (d : Windowed Asked). StandsFor state d []) (client_of_course width x (frame_of (rest ++ take at bytes))) s;
+      same = ap (λ m. hearing width (course_past width x (frame_of (rest ++ take at bytes))) [] (drop m bytes)) n ∙ some_heard width x rest bytes at e;
       behind = ap (λ m. rest_behind [] (drop m bytes)) n ∙ sym (cut_some rest bytes at e).1;
     }
 
@@ -100,7 +100,7 @@ fed_all width x rest bytes left state f none =
     (subst (λ (r : List ℕ). StandsFor state (record { width = width; ids = f.reached.client }) r) behind f.stands)
 
 -- after a send, taken or refused by the rule, the state stands for the course that goes on with it
-pub sent_course : (width : ℕ) (x : Course Asked) (rest : List ℕ) (call : Asked) (target : ℕ) (o : Option (Sending (ById Asked))) (sent : Sent)
+pub sent_course : (width : ℕ) (x : Course Asked) (rest : List ℕ) (call : Asked) (target : ℕ) (o : Option (Sending (ById Asked))) (sent : SendEffect)
     → StandsFor sent.old (record { width = width; ids = x.client }) rest → SendMeets (record { width = width; ids = x.client }) rest call o sent
     → StandsFor sent.new (record { width = width; ids = (sent_on x target call o).client }) rest
 sent_course width x rest call target None sent s is = subst (λ (t : GeocomClient). StandsFor t (record { width = width; ids = x.client }) rest) (sym is.1) s

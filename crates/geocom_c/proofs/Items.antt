@@ -47,7 +47,7 @@ pub items_total : (params : List ℕ) (items : List (List ℕ)) → IsParams par
 items_total params [] is = omega arith
 items_total params (i ∷ items) is = let n = ap length is.bytes_are in omega (arith, n, joined_total is.pieces, pieces_total is.pieces (i ∷ items) is.pieces_are)
 
--- the parameters have as many items as values
+-- items that read as values (`AreItems`) are as many as these
 pub items_length : (items : List (List ℕ)) (values : List Value) → AreItems items values → length items ≡ length values
 items_length [] [] are = refl
 items_length [] (v ∷ vs) are = absurd are

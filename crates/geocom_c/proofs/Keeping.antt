@@ -1,10 +1,10 @@
 -- What is kept of a line that no line feed has ended yet, as more of it comes: at most 514 bytes, the first 513 and the last
 -- one so far. A frame is what a line feed makes of the bytes before it. `GoAlike` says of two texts that the same frame comes
 -- of them, however both go on.
-use Rattle.std.proofs.Common.{◌≡◌, ◌≢◌, ℕ, zero, suc, ◌+◌, ◌-◌, ◌<◌, ◌≤◌, List, [], ◌∷◌, ◌++◌, length, take, get_or, All, refl, sym, subst, ap, ap₂, ◌∙◌, arith, append_assoc, length-append, if◌then◌else◌, ◌==◌}
+use Rattle.std.proofs.Common.{◌≡◌, ◌≢◌, ℕ, ◌+◌, ◌-◌, ◌<◌, ◌≤◌, List, [], ◌∷◌, ◌++◌, length, take, get_or, All, refl, sym, subst, ap, ap₂, ◌∙◌, arith, append_assoc, length-append, if◌then◌else◌, ◌==◌}
 use Rattle.std.specs.Prelude.{slice_set}
 use Rattle.std.proofs.lemmas.List.{length-take, append-nil, take-take, take_more_set}
-use Rattle.std.proofs.lemmas.List.Elements.{All-append, All-take}
+use Rattle.std.proofs.lemmas.List.Elements.{All-append, All-push, All-take}
 use Rattle.std.proofs.lemmas.Bool.{lt-ltb}
 use Rattle.gc_lines.specs.Frames.{frame_of}
 use Rattle.gc_lines.specs.declared.frame.Frame.TheVariants.{Overlong, Cleared}
@@ -51,25 +51,20 @@ alike_cut t p rest h same more = cut_same (t ++ p) more h ∙ alike_all t p rest
 filled : (t p : List ℕ) (n : ℕ) → length t ≤ 514 → n ≡ 514 - length t → n ≤ length p → take 513 (t ++ take n p) ≡ take 513 (t ++ p)
 filled t p n short room fits = take-append 513 t (take n p) ∙ ap (λ xs. take 513 t ++ xs) (take-take (513 - length t) n p (omega (arith, room))) ∙ sym (take-append 513 t p)
 
--- what holds of x holds of each item of the list that has x alone
-all_one : (P : ℕ → Type 0) (x : ℕ) → P x → All P (x ∷ [])
-all_one P x is zero d lt = is
-all_one P x is (suc k) d lt = absurd (omega (arith, lt))
-
 module _ (bytes t p rest : List ℕ) (n f : ℕ) (is : n ≡ length t) (clean : All (λ b. b ≢ 10) t) (cleanly : All (λ b. b ≢ 10) p) (same : GoAlike t rest) where
   -- if all of the piece `p` was kept, its f bytes after the n bytes `t` that were kept before, what is retained stands for all
   -- bytes that came since the last line feed, `rest` and then `p`
   pub all_rest : n + f ≤ 514 → take (n + f) bytes ≡ t ++ p → IsRest (record { length = n + f; bytes = bytes }) (rest ++ p)
   all_rest short text =
       record {
-        cut = record { short = short; unended = subst (λ u. All (λ b. b ≢ 10) u) (sym text) (All-append (λ b. b ≢ 10) t p clean cleanly) };
+        valid = record { short = short; unended = subst (λ u. All (λ b. b ≢ 10) u) (sym text) (All-append (λ b. b ≢ 10) t p clean cleanly) };
         same = λ more. ap (λ u. frame_of (u ++ more)) text ∙ alike_all t p rest same more;
       }
 
   -- if the first f bytes of the piece `p` were kept, as many as there was room for, and its last byte in the last place, what
   -- is retained stands for all bytes that came since the last line feed, `rest` and then `p`
-  pub cut_rest : (last : ℕ) → n ≤ 514 → f ≡ 514 - n → f < length p → take (n + f) bytes ≡ t ++ take f p → 513 < length bytes → last ≡ last_byte p
-      → IsRest (record { length = n + f; bytes = slice_set bytes 513 last }) (rest ++ p)
+  pub cut_rest : (last : ℕ) (short : n ≤ 514) (room : f ≡ 514 - n) (more : f < length p) (text : take (n + f) bytes ≡ t ++ take f p) (within : 513 < length bytes)
+      → last ≡ last_byte p → IsRest (record { length = n + f; bytes = slice_set bytes 513 last }) (rest ++ p)
   cut_rest last short room more text within e =
       let sum : n + f ≡ 514 = omega (arith, short, room) in
       let long : 513 < length (t ++ p) = omega (arith, is, sum, more, length-append t p) in
@@ -81,10 +76,10 @@ module _ (bytes t p rest : List ℕ) (n f : ℕ) (is : n ≡ length t) (clean : 
       ap (λ k. take k (slice_set bytes 513 last)) sum ∙ take_more_set bytes 513 last within ∙ ap₂ (λ u b. u ++ b ∷ []) front byte in
       let both = All-append (λ b. b ≢ 10) t p clean cleanly in
       record {
-        cut = record {
+        valid = record {
           short = omega (arith, sum);
-          unended = subst (λ u. All (λ b. b ≢ 10) u) (sym whole) (All-append (λ b. b ≢ 10) (take 513 (t ++ p)) (last_byte (t ++ p) ∷ [])
-              (All-take (λ b. b ≢ 10) 513 (t ++ p) both) (all_one (λ b. b ≢ 10) (last_byte (t ++ p)) (both (length (t ++ p) - 1) 0 (omega (arith, long)))));
+          unended = subst (λ u. All (λ b. b ≢ 10) u) (sym whole) (All-push (λ b. b ≢ 10) (take 513 (t ++ p)) (last_byte (t ++ p))
+              (All-take (λ b. b ≢ 10) 513 (t ++ p) both) (both (length (t ++ p) - 1) 0 (omega (arith, long))));
         };
         same = λ next. ap (λ u. frame_of (u ++ next)) whole ∙ alike_cut t p rest long same next;
       }

@@ -4,12 +4,13 @@
 use Rattle.std.proofs.Common.{◌≡◌, ℕ, suc, ◌+◌, ◌<◌, ◌≤◌, List, [], ◌∷◌, map, length, drop, refl, arith}
 use Rattle.std.specs.Prelude.{Option, Some, slice_get}
 use Rattle.std.specs.List.{AllByRecursion}
+use Rattle.std.proofs.lemmas.Option.{slice_get_within}
 use Rattle.gc_catalogue.specs.declared.asked.Asked.{Asked}
 use Rattle.gc_client.specs.OneForOne.{of_settled}
 use Rattle.gc_client.specs.Rule.{Settlement, Answered, Lost, lost}
 use Rattle.gc_client.specs.declared.pending.Pending.{Pending}
 use Rattle.gc_instrument.specs.State.{KeptReply}
-use Rattle.gc_world.proofs.Places.{below, in_range}
+use Rattle.gc_world.proofs.Places.{in_range}
 use Rattle.gc_field.specs.World.{Ends, Sent}
 use Rattle.gc_field.specs.Begin.{leaves}
 use Rattle.gc_field.specs.Begun.{IsFaithful}
@@ -28,13 +29,14 @@ same_asked : (r : Sent) (s : Settlement Asked) → s.target ≡ r.target → s.c
 same_asked r s t c = rw (t, c) refl
 
 module _ {State : Type 0} (width : ℕ) (ends : Ends State) (Good : State → Type 0) (kept : State → Option KeptReply) where
-  -- an answer that a run settled is its own request's, in the list that begins with this run
+  -- an answer that a faithful run settled, after the eight null procedures, is its own request's, in the list that begins with this
+  -- run, if the run's commands are safe
   own_at_place : (p : Part State) (ps : List (Part State)) → IsFaithful width ends (leaves (begun_at ends p)) p.run.moves Good kept
       → IsSafeRun width ends Good kept p → (m : ℕ) (x : Settlement Asked)
       → 8 ≤ m → slice_get (world width ends p).wire.settled m ≡ Some x → IsOwnAnswer width ends Good kept (p ∷ ps) x
   own_at_place p ps f safe m x command e = λ line is.
       let o = f.one_for_one in
-      let went : m < length (world width ends p).wire.sent = omega (arith, below (world width ends p).wire.settled m x e, o.count) in
+      let went : m < length (world width ends p).wire.sent = omega (arith, slice_get_within (world width ends p).wire.settled m x e, o.count) in
       let request = in_range (world width ends p).wire.sent m went in
       let s = safe m command went in
       let same = o.same m x request.0 e request.1 in
@@ -54,8 +56,8 @@ module _ {State : Type 0} (width : ℕ) (ends : Ends State) (Good : State → Ty
         made_on = f.made_on m x line command s e is;
       }
 
-  -- each answer that a run settled, after the eight null procedures, is its own request's, in the list that begins with this
-  -- run, if its commands are safe
+  -- each answer that a faithful run settled, after the eight null procedures, is its own request's, in the list that begins with
+  -- this run, if the run's commands are safe
   pub own_here : (p : Part State) (ps : List (Part State)) → IsFaithful width ends (leaves (begun_at ends p)) p.run.moves Good kept
       → IsSafeRun width ends Good kept p → AllByRecursion (IsOwnAnswer width ends Good kept (p ∷ ps)) (drop 8 (world width ends p).wire.settled)
   own_here p ps f safe = all_of_places (IsOwnAnswer width ends Good kept (p ∷ ps)) (drop 8 (world width ends p).wire.settled)

@@ -25,11 +25,11 @@ use Rattle.gc_field.proofs.BeginJoin.{begins_cleanly, left_lines}
 use Rattle.gc_field.proofs.BeginWords.{cons_not_nil}
 use Rattle.gc_field.proofs.BegunFaithful.{faithful}
 use Rattle.gc_field.proofs.BegunRuns.{clean_lines}
-use Rattle.gc_field.proofs.BegunRows.{rows_have_not, runs_leave_rows, runs_leave_good}
+use Rattle.gc_field.proofs.BegunRising.{rising_lack_the_word, runs_leave_rising_ids, runs_leave_good}
 use Rattle.geocom_c.specs.Following.{CallsReach, Stage, opened}
 use Rattle.geocom_c.specs.Laws.{AreOwn, IsOwnAnswer, IsSafeRun, MayBegin}
-use Rattle.geocom_c.specs.Runs.{Part, ArePossibleRuns, asked_of, begun_at, client_if, client_over, event_of, events_of, events_over, front_of, left_over, lost_if, parts, settled_if, settled_over, world}
-use Rattle.geocom_c.specs.Steps.{Event, Went, AreEvents, AreInTurn, left_among, steps_among}
+use Rattle.geocom_c.specs.Runs.{Part, ArePossibleRuns, null_of, begun_at, client_if, client_over, event_of, events_of, events_over, came_of, left_over, lost_if, parts, settled_if, settled_over, world}
+use Rattle.geocom_c.specs.Steps.{Event, Stepped, AreEvents, AreInTurn, left_among, steps_among}
 use Rattle.geocom_c.specs.declared.following.Step as call
 use Rattle.geocom_c.proofs.Courses.{over_events}
 use Rattle.geocom_c.proofs.Owning.{later_own, none_answered, own_here}
@@ -72,44 +72,44 @@ behind_all width old (step ∷ steps) x y h = behind_all width old steps _ _ (be
 -- Steps among events.
 
 -- the steps among events that begin with `steps` are these, and then those among the other events
-steps_went : (steps : List (Step Asked)) (es : List Event) → steps_among (map Went steps ++ es) ≡ steps ++ steps_among es
-steps_went [] es = refl
-steps_went (step ∷ steps) es = ap (λ l. step ∷ l) (steps_went steps es)
+steps_in_front : (steps : List (Step Asked)) (es : List Event) → steps_among (map Stepped steps ++ es) ≡ steps ++ steps_among es
+steps_in_front [] es = refl
+steps_in_front (step ∷ steps) es = ap (λ l. step ∷ l) (steps_in_front steps es)
 
 -- no step comes before the eighth answer
-none_went : (asked : ℕ) (later : List ℕ) (steps : List (Step Asked)) (es : List Event) → AreInTurn (asked ∷ later) (map Went steps ++ es) → steps ≡ []
-none_went asked later [] es h = refl
-none_went asked later (step ∷ steps) es h = absurd (cons_not_nil asked later h.0)
+no_step : (asked : ℕ) (later : List ℕ) (steps : List (Step Asked)) (es : List Event) → AreInTurn (asked ∷ later) (map Stepped steps ++ es) → steps ≡ []
+no_step asked later [] es h = refl
+no_step asked later (step ∷ steps) es h = absurd (cons_not_nil asked later h.0)
 
 -- no restart comes before the eighth answer, as a step
-no_restart : (asked : ℕ) (later : List ℕ) (steps : List (Step Asked)) (es : List Event) → AreInTurn (asked ∷ later) (map Went steps ++ Went Restart ∷ es) → ⊥
+no_restart : (asked : ℕ) (later : List ℕ) (steps : List (Step Asked)) (es : List Event) → AreInTurn (asked ∷ later) (map Stepped steps ++ Stepped Restart ∷ es) → ⊥
 no_restart asked later [] es h = cons_not_nil asked later h.0
 no_restart asked later (step ∷ steps) es h = cons_not_nil asked later h.0
 
 -- events that come in their turn after moves of the field, of a client that has synchronized, come in their turn without these
 -- moves, too
-went_on : {State : Type 0} (ms : List (Move State)) (es : List Event) → AreInTurn [] (map Went (seen ms) ++ es) → AreInTurn [] es
-went_on [] es h = h
-went_on (Sends target call deadline ∷ ms) es h = went_on ms es h.1
-went_on (Tells now ∷ ms) es h = went_on ms es h.1
-went_on (field.Comes line ∷ ms) es h = went_on ms es h.1
-went_on (field.Foreign line ∷ ms) es h = went_on ms es h.1
-went_on (OnLine step ∷ ms) es h = went_on ms es h
-went_on (field.Anew ∷ ms) es h = went_on ms es h
-went_on (field.Changes state ∷ ms) es h = went_on ms es h
-went_on (Joins line ∷ ms) es h = went_on ms es h
+turns_after_moves : {State : Type 0} (ms : List (Move State)) (es : List Event) → AreInTurn [] (map Stepped (seen ms) ++ es) → AreInTurn [] es
+turns_after_moves [] es h = h
+turns_after_moves (Sends target call deadline ∷ ms) es h = turns_after_moves ms es h.1
+turns_after_moves (Tells now ∷ ms) es h = turns_after_moves ms es h.1
+turns_after_moves (field.Comes line ∷ ms) es h = turns_after_moves ms es h.1
+turns_after_moves (field.Foreign line ∷ ms) es h = turns_after_moves ms es h.1
+turns_after_moves (OnLine step ∷ ms) es h = turns_after_moves ms es h
+turns_after_moves (field.Anew ∷ ms) es h = turns_after_moves ms es h
+turns_after_moves (field.Changes state ∷ ms) es h = turns_after_moves ms es h
+turns_after_moves (Joins line ∷ ms) es h = turns_after_moves ms es h
 
 -- moves of the field, of a client that has synchronized, change nothing in which ids aren't answered after further events
-went_left : {State : Type 0} (ms : List (Move State)) (es : List Event) → left_among [] (map Went (seen ms) ++ es) ≡ left_among [] es
-went_left [] es = refl
-went_left (Sends target call deadline ∷ ms) es = went_left ms es
-went_left (Tells now ∷ ms) es = went_left ms es
-went_left (field.Comes line ∷ ms) es = went_left ms es
-went_left (field.Foreign line ∷ ms) es = went_left ms es
-went_left (OnLine step ∷ ms) es = went_left ms es
-went_left (field.Anew ∷ ms) es = went_left ms es
-went_left (field.Changes state ∷ ms) es = went_left ms es
-went_left (Joins line ∷ ms) es = went_left ms es
+left_after_moves : {State : Type 0} (ms : List (Move State)) (es : List Event) → left_among [] (map Stepped (seen ms) ++ es) ≡ left_among [] es
+left_after_moves [] es = refl
+left_after_moves (Sends target call deadline ∷ ms) es = left_after_moves ms es
+left_after_moves (Tells now ∷ ms) es = left_after_moves ms es
+left_after_moves (field.Comes line ∷ ms) es = left_after_moves ms es
+left_after_moves (field.Foreign line ∷ ms) es = left_after_moves ms es
+left_after_moves (OnLine step ∷ ms) es = left_after_moves ms es
+left_after_moves (field.Anew ∷ ms) es = left_after_moves ms es
+left_after_moves (field.Changes state ∷ ms) es = left_after_moves ms es
+left_after_moves (Joins line ∷ ms) es = left_after_moves ms es
 
 module _ {State : Type 0} (width : ℕ) (ends : Ends State) where
   -- the events `front` go with turns of a synchronization that lead from s to `after`: they have no step of the client, and
@@ -119,7 +119,7 @@ module _ {State : Type 0} (width : ℕ) (ends : Ends State) where
     left : (es : List Event) → left_among s.left (front ++ es) ≡ left_among after.left es
     steps : (es : List Event) → steps_among (front ++ es) ≡ steps_among es
 
-  -- no events go with turns that leave the ids as they were
+  -- the empty list of events goes with turns that leave the ids as they were
   turned_same : (s after : Model State) → after.left ≡ s.left → Turned s after []
   turned_same s after e =
       record {
@@ -129,12 +129,12 @@ module _ {State : Type 0} (width : ℕ) (ends : Ends State) where
       }
 
   -- a null procedure that is sent leaves the ids as its event does
-  turned_asked : (s : Model State) (left : List ℕ) → Turned s (asks s left) (asked_of left)
+  turned_asked : (s : Model State) (left : List ℕ) → Turned s (asks s left) (null_of left)
   turned_asked s [] = turned_same s s refl
   turned_asked s (asked ∷ later) = record { turns = λ es h. h; left = λ es. refl; steps = λ es. refl }
 
   -- a line that comes leaves the ids as its event does
-  turned_front : (s : Model State) (down : List (InFlight (List ℕ))) → Turned s (comes s down) (front_of down)
+  turned_front : (s : Model State) (down : List (InFlight (List ℕ))) → Turned s (comes s down) (came_of down)
   turned_front s [] = turned_same s s refl
   turned_front s (x ∷ rest) = record { turns = λ es h. h; left = λ es. refl; steps = λ es. refl }
 
@@ -177,19 +177,25 @@ module _ {State : Type 0} (width : ℕ) (ends : Ends State) where
       lines : IsWellFormed Good (left_if width ends [] (after_turns ends u r) r.moves)
       may : MayBegin (left_if width ends [] (after_turns ends u r) r.moves)
 
-    -- if the word isn't in flight, a run whose null procedures are all answered is as `Begins` says
-    begins_own : (u : UnderWay State) (r : Run State) → IsWellFormed Good u → MayBegin u → AreTurns ends Good kept r.turns (begins u)
-        → ArePossible ends Good kept (by_ids width ends) r.moves (ids_begun (leaves (after_turns ends u r))) → (after_turns ends u r).left ≡ [] → Begins u r
-    begins_own u r lines may ts possible e =
-        let s = after_turns ends u r in
-        let clean = begins_cleanly ends Good kept is u r.turns lines ts may e in
-        let good = (left_lines ends Good kept is u r.turns lines ts).good in
+    -- the run may begin among what was in flight before it, and its turns and moves are possible
+    record MayRun (p : Part State) : Type 0 where
+      lines : IsWellFormed Good p.before
+      may : MayBegin p.before
+      turns : AreTurns ends Good kept p.run.turns (begins p.before)
+      moves : ArePossible ends Good kept (by_ids width ends) p.run.moves (ids_begun (leaves (begun_at ends p)))
+
+    -- a run that may begin and is possible (`MayRun`), and whose null procedures are all answered, is as `Begins` says
+    begins_own : (p : Part State) → MayRun p → (begun_at ends p).left ≡ [] → Begins p.before p.run
+    begins_own p run e =
+        let s = begun_at ends p in
+        let clean = begins_cleanly ends Good kept is p.before p.run.turns run.lines run.turns run.may e in
+        let good = (left_lines ends Good kept is p.before p.run.turns run.lines run.turns).good in
         let is_clean = clean_lines ends Good kept is width narrow s good clean in
-        let after = runs_leave_good ends Good kept is width narrow (leaves s) is_clean r.moves possible in
+        let after = runs_leave_good ends Good kept is width narrow (leaves s) is_clean p.run.moves run.moves in
         record {
-          own = (clean, faithful ends Good kept is width narrow (leaves s) is_clean r.moves possible);
+          own = (clean, faithful ends Good kept is width narrow (leaves s) is_clean p.run.moves run.moves);
           lines = record { ids = after.1; good = after.0 };
-          may = rows_have_not (on_line (behind width ends (leaves s) r.moves).wire) (runs_leave_rows ends Good kept is width narrow (leaves s) is_clean r.moves possible);
+          may = rising_lack_the_word (on_line (behind width ends (leaves s) p.run.moves).wire) (runs_leave_rising_ids ends Good kept is width narrow (leaves s) is_clean p.run.moves run.moves);
         }
 
     -- if this run has synchronized, it has done so cleanly, and is faithful
@@ -209,43 +215,42 @@ module _ {State : Type 0} (width : ℕ) (ends : Ends State) where
       own : OwnAll ps (settled_over width ends ps)
       each : AllByRecursion OwnPart ps
 
-    -- `Holds` is true of the last run alone, synchronized or not (`left` is the ids that it left unanswered)
-    last_holds : (p : Part State) (left : List ℕ) → (begun_at ends p).left ≡ left → IsWellFormed Good p.before → MayBegin p.before → AreTurns ends Good kept p.run.turns (begins p.before)
-        → ArePossible ends Good kept (by_ids width ends) p.run.moves (ids_begun (leaves (begun_at ends p)))
-        → IsSafeRun width ends Good kept p
-        → AreInTurn the_word (events_of ends (begins p.before) p.run.turns ++ map Went (seen p.run.moves))
-        → Holds (p ∷ []) (events_of ends (begins p.before) p.run.turns ++ map Went (seen p.run.moves))
-    last_holds p [] e lines may ts possible safe h =
+    -- `Holds` is true of the last run alone, synchronized or not (`left` is the ids that it left unanswered), if it may begin and is
+    -- possible (`MayRun`), is safe, and its events come in their turn
+    last_holds : (p : Part State) (left : List ℕ) → (begun_at ends p).left ≡ left → MayRun p → IsSafeRun width ends Good kept p
+        → AreInTurn the_word (events_of ends (begins p.before) p.run.turns ++ map Stepped (seen p.run.moves))
+        → Holds (p ∷ []) (events_of ends (begins p.before) p.run.turns ++ map Stepped (seen p.run.moves))
+    last_holds p [] e run safe h =
         let s = begun_at ends p in
         let w = world width ends p in
         let steps = seen p.run.moves in
         let front = turned_all p.run.turns (begins p.before) in
-        let b = begins_own p.before p.run lines may ts possible e in
+        let b = begins_own p run e in
         let f = b.own.1 in
-        let nil = append-nil (map Went steps) in
-        let same = front.steps (map Went steps) ∙ ap steps_among (sym nil) ∙ steps_went steps [] ∙ append-nil steps in
+        let nil = append-nil (map Stepped steps) in
+        let same = front.steps (map Stepped steps) ∙ ap steps_among (sym nil) ∙ steps_in_front steps [] ∙ append-nil steps in
         let here : drop 8 w.wire.settled ≡ (course width begun steps).settlements = ap (drop 8) f.settled in
         let none : settled_if width ends s.left w ≡ drop 8 w.wire.settled = ap (λ l. settled_if width ends l w) e in
         record {
           settled = ap (λ l. (course width begun l).settlements) same ∙ sym here ∙ sym none;
           client = ap (λ l. (course width begun l).client) same ∙ f.stands ∙ sym (ap (λ l. client_if width ends l w) e);
-          left = front.left (map Went steps) ∙ ap (λ l. left_among l (map Went steps)) e ∙ ap (left_among []) (sym nil) ∙ went_left p.run.moves [] ∙ sym e;
+          left = front.left (map Stepped steps) ∙ ap (λ l. left_among l (map Stepped steps)) e ∙ ap (left_among []) (sym nil) ∙ left_after_moves p.run.moves [] ∙ sym e;
           own = subst (λ l. OwnAll (p ∷ []) l) (sym none) (own_here width ends Good kept p [] f safe);
           each = (subst (λ l. IsOwnIf width ends Good kept l s p.run.moves) (sym e) b.own, tt);
         }
-    last_holds p (asked ∷ later) e lines may ts possible safe h =
+    last_holds p (asked ∷ later) e run safe h =
         let s = begun_at ends p in
         let w = world width ends p in
         let steps = seen p.run.moves in
         let front = turned_all p.run.turns (begins p.before) in
-        let nil = append-nil (map Went steps) in
-        let turn = front.turns (map Went steps) h in
-        let none = none_went asked later steps [] (subst (λ l. AreInTurn (asked ∷ later) l) (sym nil) (subst (λ l. AreInTurn l (map Went steps)) e turn)) in
-        let same = front.steps (map Went steps) ∙ ap (λ l. steps_among (map Went l)) none in
+        let nil = append-nil (map Stepped steps) in
+        let turn = front.turns (map Stepped steps) h in
+        let none = no_step asked later steps [] (subst (λ l. AreInTurn (asked ∷ later) l) (sym nil) (subst (λ l. AreInTurn l (map Stepped steps)) e turn)) in
+        let same = front.steps (map Stepped steps) ∙ ap (λ l. steps_among (map Stepped l)) none in
         record {
           settled = ap (λ l. (course width begun l).settlements) same ∙ sym (ap (λ l. settled_if width ends l w) e);
           client = ap (λ l. (course width begun l).client) same ∙ sym (ap (λ l. client_if width ends l w) e);
-          left = front.left (map Went steps) ∙ ap (λ l. left_among s.left (map Went l)) none;
+          left = front.left (map Stepped steps) ∙ ap (λ l. left_among s.left (map Stepped l)) none;
           own = subst (λ l. OwnAll (p ∷ []) (settled_if width ends l w)) (sym e) tt;
           each = (subst (λ l. IsOwnIf width ends Good kept l s p.run.moves) (sym e) tt, tt);
         }
@@ -257,26 +262,24 @@ module _ {State : Type 0} (width : ℕ) (ends : Ends State) where
       done : (begun_at ends p).left ≡ []
       turns : AreInTurn the_word rest
 
-    -- a restart comes in its turn only after a run that has synchronized
-    passes : (p : Part State) (left : List ℕ) (rest : List Event) → (begun_at ends p).left ≡ left → IsWellFormed Good p.before → MayBegin p.before
-        → AreTurns ends Good kept p.run.turns (begins p.before)
-        → ArePossible ends Good kept (by_ids width ends) p.run.moves (ids_begun (leaves (begun_at ends p)))
-        → AreInTurn the_word (events_of ends (begins p.before) p.run.turns ++ (map Went (seen p.run.moves) ++ Went Restart ∷ rest)) → Passes p rest
-    passes p [] rest e lines may ts possible h =
-        let turn = (turned_all p.run.turns (begins p.before)).turns (map Went (seen p.run.moves) ++ Went Restart ∷ rest) h in
+    -- if a restart comes in its turn after a run that may begin and is possible (`MayRun`), the run has synchronized (`Passes`)
+    passes : (p : Part State) (left : List ℕ) (rest : List Event) → (begun_at ends p).left ≡ left → MayRun p
+        → AreInTurn the_word (events_of ends (begins p.before) p.run.turns ++ (map Stepped (seen p.run.moves) ++ Stepped Restart ∷ rest)) → Passes p rest
+    passes p [] rest e run h =
+        let turn = (turned_all p.run.turns (begins p.before)).turns (map Stepped (seen p.run.moves) ++ Stepped Restart ∷ rest) h in
         record {
-          begins = begins_own p.before p.run lines may ts possible e;
+          begins = begins_own p run e;
           done = e;
-          turns = (went_on p.run.moves (Went Restart ∷ rest) (subst (λ l. AreInTurn l (map Went (seen p.run.moves) ++ Went Restart ∷ rest)) e turn)).1;
+          turns = (turns_after_moves p.run.moves (Stepped Restart ∷ rest) (subst (λ l. AreInTurn l (map Stepped (seen p.run.moves) ++ Stepped Restart ∷ rest)) e turn)).1;
         }
-    passes p (asked ∷ later) rest e lines may ts possible h =
-        let turn = (turned_all p.run.turns (begins p.before)).turns (map Went (seen p.run.moves) ++ Went Restart ∷ rest) h in
-        absurd (no_restart asked later (seen p.run.moves) rest (subst (λ l. AreInTurn l (map Went (seen p.run.moves) ++ Went Restart ∷ rest)) e turn))
+    passes p (asked ∷ later) rest e run h =
+        let turn = (turned_all p.run.turns (begins p.before)).turns (map Stepped (seen p.run.moves) ++ Stepped Restart ∷ rest) h in
+        absurd (no_restart asked later (seen p.run.moves) rest (subst (λ l. AreInTurn l (map Stepped (seen p.run.moves) ++ Stepped Restart ∷ rest)) e turn))
 
-    -- if a run has synchronized and a restart follows (`Passes`), and `Holds` is true of the later runs, it is true of all of
+    -- if a safe run has synchronized and a restart follows (`Passes`), and `Holds` is true of the later runs, it is true of all of
     -- them
     passed_holds : (p next : Part State) (others : List (Part State)) (rest : List Event) → IsSafeRun width ends Good kept p → Passes p rest → Holds (next ∷ others) rest
-        → Holds (p ∷ next ∷ others) (events_of ends (begins p.before) p.run.turns ++ (map Went (seen p.run.moves) ++ Went Restart ∷ rest))
+        → Holds (p ∷ next ∷ others) (events_of ends (begins p.before) p.run.turns ++ (map Stepped (seen p.run.moves) ++ Stepped Restart ∷ rest))
     passed_holds p next others rest safe pass more =
         let s = begun_at ends p in
         let w = world width ends p in
@@ -284,12 +287,12 @@ module _ {State : Type 0} (width : ℕ) (ends : Ends State) where
         let e = pass.done in
         let f = pass.begins.own.1 in
         let front = turned_all p.run.turns (begins p.before) in
-        let tail = map Went steps ++ Went Restart ∷ rest in
+        let tail = map Stepped steps ++ Stepped Restart ∷ rest in
         let later = steps_among rest in
         let x = course width begun steps in
         let z = settled_on x (restarts x.client) in
         let all = p ∷ next ∷ others in
-        let same = front.steps tail ∙ steps_went steps (Went Restart ∷ rest) in
+        let same = front.steps tail ∙ steps_in_front steps (Stepped Restart ∷ rest) in
         let on = behind_all width z.settlements later z begun (record { settled = sym (append-nil z.settlements); client = refl }) in
         let here : z.settlements ≡ drop 8 w.wire.settled ++ map lost w.client.waiting =
         ap (λ l. l ++ map lost x.client.waiting) (sym (ap (drop 8) f.settled)) ∙ ap (λ (c : ById Asked). drop 8 w.wire.settled ++ map lost c.waiting) f.stands in
@@ -308,7 +311,7 @@ module _ {State : Type 0} (width : ℕ) (ends : Ends State) where
               ∙ ap (λ (c : Course Asked). c.client) (course_append width steps (Restart ∷ later) begun)
               ∙ on.client
               ∙ more.client;
-          left = front.left tail ∙ ap (λ l. left_among l tail) e ∙ went_left p.run.moves (Went Restart ∷ rest) ∙ more.left;
+          left = front.left tail ∙ ap (λ l. left_among l tail) e ∙ left_after_moves p.run.moves (Stepped Restart ∷ rest) ∙ more.left;
           own = subst (λ l. OwnAll all l) (sym over)
               (all_append (IsOwnAnswer width ends Good kept all) (drop 8 w.wire.settled ++ map lost w.client.waiting) (settled_over width ends (next ∷ others))
               (all_append (IsOwnAnswer width ends Good kept all) (drop 8 w.wire.settled) (map lost w.client.waiting)
@@ -318,16 +321,19 @@ module _ {State : Type 0} (width : ℕ) (ends : Ends State) where
           each = (subst (λ l. IsOwnIf width ends Good kept l s p.run.moves) (sym e) pass.begins.own, more.each);
         }
 
-    -- `Holds` is true of all runs, one after the other, if the word isn't in flight at first
-    all_hold : (rs : List (Run State)) (u : UnderWay State) → IsWellFormed Good u → MayBegin u → ArePossibleRuns width ends Good kept u rs
-        → AllByRecursion (IsSafeRun width ends Good kept) (parts width ends u rs)
+    -- `Holds` is true of all runs, one after the other, if the word isn't in flight at first, the runs are possible and safe, and
+    -- their events come in their turn
+    all_hold : (rs : List (Run State)) (u : UnderWay State) (lines : IsWellFormed Good u) (may : MayBegin u) (possible : ArePossibleRuns width ends Good kept u rs)
+        (safe : AllByRecursion (IsSafeRun width ends Good kept) (parts width ends u rs))
         → AreInTurn the_word (events_over width ends u rs) → Holds (parts width ends u rs) (events_over width ends u rs)
     all_hold [] u lines may possible safe h = record { settled = refl; client = refl; left = refl; own = tt; each = tt }
-    all_hold (r ∷ []) u lines may possible safe h = last_holds (record { before = u; run = r }) _ refl lines may possible.0.0 possible.0.1 safe.0 h
+    all_hold (r ∷ []) u lines may possible safe h =
+        last_holds (record { before = u; run = r }) _ refl (record { lines = lines; may = may; turns = possible.0.0; moves = possible.0.1 }) safe.0 h
     all_hold (r ∷ next ∷ others) u lines may possible safe h =
         let p : Part State = record { before = u; run = r } in
         let after = left_by_run width ends u r in
-        let pass = passes p _ (events_over width ends after (next ∷ others)) refl lines may possible.0.0 possible.0.1 h in
+        let run : MayRun p = record { lines = lines; may = may; turns = possible.0.0; moves = possible.0.1 } in
+        let pass = passes p _ (events_over width ends after (next ∷ others)) refl run h in
         let s = after_turns ends u r in
         let now = subst (λ l. IsWellFormed Good (left_if width ends l s r.moves)) (sym pass.done) pass.begins.lines in
         let again = subst (λ l. MayBegin (left_if width ends l s r.moves)) (sym pass.done) pass.begins.may in
@@ -336,9 +342,9 @@ module _ {State : Type 0} (width : ℕ) (ends : Ends State) where
 
     -- the law: if the calls on a state are the events of these runs, over lines among which a run may begin, and all that is
     -- sent is safe, they are as `AreOwn` says: each answer is its own request's
-    pub owned : (calls : List call.Step) (t : Stage) → CallsReach width opened calls t → (u : UnderWay State) → IsWellFormed Good u → MayBegin u
-        → (rs : List (Run State)) → AreEvents the_word [] calls (events_over width ends u rs) → ArePossibleRuns width ends Good kept u rs
-        → AllByRecursion (IsSafeRun width ends Good kept) (parts width ends u rs) → AreOwn width ends Good kept (parts width ends u rs) t
+    pub owned : (calls : List call.Step) (t : Stage) (follows : CallsReach width opened calls t) (u : UnderWay State) (lines : IsWellFormed Good u) (may : MayBegin u)
+        (rs : List (Run State)) (are : AreEvents the_word [] calls (events_over width ends u rs)) (possible : ArePossibleRuns width ends Good kept u rs)
+        (safe : AllByRecursion (IsSafeRun width ends Good kept) (parts width ends u rs)) → AreOwn width ends Good kept (parts width ends u rs) t
     owned calls t follows u lines may rs are possible safe =
         let over = over_events width calls t follows in
         let events = events_over width ends u rs in

@@ -16,13 +16,13 @@ use Rattle.gc_catalogue.specs.Asked.{IsAskedReading}
 use Rattle.gc_client.specs.declared.pending.Pending.{Pending}
 use Rattle.gc_client.specs.Rule.{ById, Settlement, lost, settle, place_in, id_settled, hears, id_in, fits}
 use Rattle.gc_client.specs.Rule
-use Rattle.gc_field.proofs.BeginWords.{never}
-use Rattle.geocom_c.specs.Feeding.{line_kind, number_in}
+use Rattle.geocom_c.specs.Feeding.{line_kind, fault_number_in}
 use Rattle.geocom_c.specs.Settled.{StandsAt, AreListed, AreReadAs, IsKind, HasReading, IsListedLine, HasOutcome, IsRecord, AnswerHasLine, AnswersHaveLine}
 use Rattle.geocom_c.specs.declared.listed.GeocomItem.{GeocomItem}
 use Rattle.geocom_c.specs.declared.settled.GeocomSettlement.{GeocomSettlement}
 use Rattle.geocom_c.proofs.Places.{first_map}
 use Rattle.geocom_c.proofs.Items.{items_length, stands_more}
+use Rattle.std.proofs.lemmas.Bool.{false≢true}
 
 -- an answer has at most 16 values
 few_values : (a : Answer) → length (answer_fields a).values ≤ 16
@@ -42,8 +42,8 @@ few_values (answer.MeasuredMode hz v d m) = omega arith
 -- the items of a reply's parameters, which are at most 16, are listed where its line was written to the text (`IsListedLine`): as
 -- many as the record says
 listed : (asked : Asked) (answer : Answer) (text line : List ℕ) (count items : ℕ) (places : List GeocomItem) (reply : ReplyFields) (xs : List (List ℕ))
-    → IsListedLine text count places line → IsReply line reply → IsParams reply.params xs → length xs ≤ 16 → AreReadAs asked answer xs → items ≡ count
-    → AreListed asked answer items places text reply.params
+    (told : IsListedLine text count places line) (is : IsReply line reply) (split : IsParams reply.params xs) (few : length xs ≤ 16)
+    (read : AreReadAs asked answer xs) (same : items ≡ count) → AreListed asked answer items places text reply.params
 listed asked answer text line count items places reply xs told is split few read same =
     let stand = told.listed reply xs is split few in
     record { items = xs; split = split; read = read; counted = same ∙ stand.counted; stand = stand.stand }
@@ -60,10 +60,12 @@ value_listed (Raw raw) answer text line count items places reply told is reads s
     listed (Raw raw) answer text line count items places reply reads.2.0 told is reads.2.1 reads.2.2 tt same
 
 -- the record r of a reply, whose line was written to the text (`IsListedLine`), has what the reply says (`HasReading`): numbers for
--- its kind and code, and the places of its values in the text
+-- its kind and code, and the places of its values in the text. It has as many items as were listed if its reading is 1 (a value), and
+-- none if it is 2 or more
 pub has_reading : (r : GeocomSettlement) (text line : List ℕ) (count : ℕ) (asked : Asked) (reply : ReplyFields) (reading : Reading)
-    → IsListedLine text count r.places line → IsReply line reply → IsAskedReading asked reply reading → IsKind reading r.reading r.code
-    → (r.reading ≡ 1 → r.items ≡ count) → ((n : ℕ) → r.reading ≡ suc (suc n) → r.items ≡ 0) → HasReading asked r text reply.params reading
+    (told : IsListedLine text count r.places line) (is : IsReply line reply) (reads : IsAskedReading asked reply reading)
+    (kind : IsKind reading r.reading r.code) (some : r.reading ≡ 1 → r.items ≡ count)
+    (none : (n : ℕ) → r.reading ≡ suc (suc n) → r.items ≡ 0) → HasReading asked r text reply.params reading
 has_reading r text line count asked reply (Value a) told is reads kind some none =
     (kind.0, kind.1, value_listed asked a text line count r.items r.places reply told is reads (some kind.0))
 has_reading r text line count asked reply (Refused rc) told is reads kind some none = (kind.0, kind.1, none 0 kind.0)
@@ -146,6 +148,6 @@ lost_at (p ∷ ps) zero s e = let same : lost p ≡ s = cc in sym (ap (λ (x : S
 lost_at (p ∷ ps) (suc k) s e = lost_at ps k s e
 
 -- a reply whose id is that of an outstanding request has the kind 1, of a line that settled, and the number 0
-pub settling : (c : ById Asked) (r : Result ReplyFields LineFault) → fits c (id_in r) ≡ true → (1 ≡ line_kind r (fits c (id_in r))) × (0 ≡ number_in r)
+pub settling : (c : ById Asked) (r : Result ReplyFields LineFault) → fits c (id_in r) ≡ true → (1 ≡ line_kind r (fits c (id_in r))) × (0 ≡ fault_number_in r)
 settling c (Ok reply) e = (rw e refl, refl)
-settling c (Err f) e = absurd (never e)
+settling c (Err f) e = absurd (false≢true e)

@@ -8,7 +8,7 @@ use Rattle.gc_catalogue.specs.Asked.{is_of_table}
 use Rattle.gc_client.specs.Beginning.{the_word}
 use Rattle.gc_client.specs.OneForOne as one
 use Rattle.gc_instrument.specs.State.{KeptReply}
-use Rattle.gc_station.proofs.Lists.{all_append}
+use Rattle.gc_lines.proofs.Lists.{all_append, all_behind, all_front}
 use Rattle.gc_lines.specs.Frames.{rest_behind}
 use Rattle.gc_field.specs.Begin.{UnderWay, begins}
 use Rattle.gc_field.specs.Beginnings.{Run, left_by_run}
@@ -16,11 +16,11 @@ use Rattle.gc_field.specs.Field.{Move, Sends, Tells, OnLine, Joins, AsksTheTable
 use Rattle.gc_field.specs.Field as field
 use Rattle.gc_field.specs.Instrument.{TreatsRawsAlike}
 use Rattle.gc_field.specs.World.{Ends}
-use Rattle.geocom_c.specs.Beginning.{anew, given, left_behind}
+use Rattle.geocom_c.specs.Beginning.{left_by_restart, given, left_by_bytes}
 use Rattle.geocom_c.specs.Laws.{AreOfTheTable, IsSafeRun}
-use Rattle.geocom_c.specs.Rest.{lines_behind}
+use Rattle.geocom_c.specs.Rest.{lines_completed}
 use Rattle.geocom_c.specs.Runs.{Part, events_of, events_over, parts}
-use Rattle.geocom_c.specs.Steps.{Event, Null, Came, Went, AreEvents, asked_by, begins_by, goes_by}
+use Rattle.geocom_c.specs.Steps.{Event, Null, Came, Stepped, AreEvents, ask_events, begin_events, step_events}
 use Rattle.geocom_c.specs.declared.following.Step.{Step}
 use Rattle.geocom_c.specs.declared.following.Step.TheVariants.{Send, SendRaw, Begin, Feed, Expire, Restart}
 
@@ -28,24 +28,14 @@ use Rattle.geocom_c.specs.declared.following.Step.TheVariants.{Send, SendRaw, Be
 abbrev IsInTable : Event → Type 0
 IsInTable Null = Unit {0}
 IsInTable (Came line) = Unit {0}
-IsInTable (Went (one.Send target asked deadline)) = is_of_table asked ≡ true
-IsInTable (Went (one.Hear line)) = Unit {0}
-IsInTable (Went (one.Expire now)) = Unit {0}
-IsInTable (Went one.Restart) = Unit {0}
+IsInTable (Stepped (one.Send target asked deadline)) = is_of_table asked ≡ true
+IsInTable (Stepped (one.Hear line)) = Unit {0}
+IsInTable (Stepped (one.Expire now)) = Unit {0}
+IsInTable (Stepped one.Restart) = Unit {0}
 
 -- each of these events asks for nothing but a call of the table
 abbrev AreInTable : List Event → Type 0
 AreInTable events = AllByRecursion IsInTable events
-
--- if all events of two lists joined are `AreInTable`, so are those of the first
-first_in_table : (xs ys : List Event) → AreInTable (xs ++ ys) → AreInTable xs
-first_in_table [] ys h = tt
-first_in_table (x ∷ xs) ys h = (h.0, first_in_table xs ys h.1)
-
--- if all events of two lists joined are `AreInTable`, so are those of the second
-rest_in_table : (xs ys : List Event) → AreInTable (xs ++ ys) → AreInTable ys
-rest_in_table [] ys h = h
-rest_in_table (x ∷ xs) ys h = rest_in_table xs ys h.1
 
 -- lines that come ask for nothing
 came_in_table : (lines : List (List ℕ)) → AreInTable (map Came lines)
@@ -53,34 +43,34 @@ came_in_table [] = tt
 came_in_table (line ∷ lines) = (tt, came_in_table lines)
 
 -- a null procedure that is sent is a call of the table
-null_in_table : (o : Option (List ℕ)) → AreInTable (asked_by o)
+null_in_table : (o : Option (List ℕ)) → AreInTable (ask_events o)
 null_in_table None = tt
 null_in_table (Some line) = (tt, tt)
 
 -- a begin asks for null procedures alone
-begin_in_table : (left rest bytes : List ℕ) → AreInTable (begins_by left rest bytes)
+begin_in_table : (left rest bytes : List ℕ) → AreInTable (begin_events left rest bytes)
 begin_in_table [] rest bytes = tt
 begin_in_table (asked ∷ later) rest bytes =
-    let o = given bytes (asked ∷ later) (left_behind (asked ∷ later) rest bytes) in
-    all_append IsInTable (map Came (lines_behind rest bytes)) (asked_by o) (came_in_table (lines_behind rest bytes)) (null_in_table o)
+    let o = given bytes (asked ∷ later) (left_by_bytes (asked ∷ later) rest bytes) in
+    all_append IsInTable (map Came (lines_completed rest bytes)) (ask_events o) (came_in_table (lines_completed rest bytes)) (null_in_table o)
 
 -- lines that are heard ask for nothing
-heard_in_table : (lines : List (List ℕ)) → AreInTable (map Went (map one.Hear lines))
+heard_in_table : (lines : List (List ℕ)) → AreInTable (map Stepped (map one.Hear lines))
 heard_in_table [] = tt
 heard_in_table (line ∷ lines) = (tt, heard_in_table lines)
 
 -- lines that are fed ask for nothing
-fed_in_table : (left : List ℕ) (lines : List (List ℕ)) → AreInTable (goes_by left (map one.Hear lines))
+fed_in_table : (left : List ℕ) (lines : List (List ℕ)) → AreInTable (step_events left (map one.Hear lines))
 fed_in_table [] lines = heard_in_table lines
 fed_in_table (asked ∷ later) lines = tt
 
 -- a moment asks for nothing
-expired_in_table : (left : List ℕ) (now : ℕ) → AreInTable (goes_by left (one.Expire now ∷ []))
+expired_in_table : (left : List ℕ) (now : ℕ) → AreInTable (step_events left (one.Expire now ∷ []))
 expired_in_table [] now = (tt, tt)
 expired_in_table (asked ∷ later) now = tt
 
 -- a restart asks for nothing
-restarted_in_table : (left : List ℕ) → AreInTable (goes_by left (one.Restart ∷ []))
+restarted_in_table : (left : List ℕ) → AreInTable (step_events left (one.Restart ∷ []))
 restarted_in_table [] = (tt, tt)
 restarted_in_table (asked ∷ later) = tt
 
@@ -93,21 +83,21 @@ calls_in_table left rest (Send target deadline procedure params ∷ calls) event
 calls_in_table left rest (SendRaw target deadline procedure params ∷ calls) events t f = absurd t
 calls_in_table left rest (Begin bytes ∷ calls) events t f =
     subst (λ (es : List Event). AreInTable es) (sym f.1)
-    (all_append IsInTable (begins_by left rest bytes.now) f.0 (begin_in_table left rest bytes.now)
-    (calls_in_table (left_behind left rest bytes.now) (rest_behind rest bytes.now) calls f.0 t f.2))
+    (all_append IsInTable (begin_events left rest bytes.now) f.0 (begin_in_table left rest bytes.now)
+    (calls_in_table (left_by_bytes left rest bytes.now) (rest_behind rest bytes.now) calls f.0 t f.2))
 calls_in_table left rest (Feed bytes ∷ calls) events t f =
     subst (λ (es : List Event). AreInTable es) (sym f.1)
-    (all_append IsInTable (goes_by left (map one.Hear (lines_behind rest bytes.now))) f.0 (fed_in_table left (lines_behind rest bytes.now))
+    (all_append IsInTable (step_events left (map one.Hear (lines_completed rest bytes.now))) f.0 (fed_in_table left (lines_completed rest bytes.now))
     (calls_in_table left (rest_behind rest bytes.now) calls f.0 t f.2))
 calls_in_table left rest (Expire now ∷ calls) events t f =
     subst (λ (es : List Event). AreInTable es) (sym f.1)
-    (all_append IsInTable (goes_by left (one.Expire now ∷ [])) f.0 (expired_in_table left now) (calls_in_table left rest calls f.0 t f.2))
+    (all_append IsInTable (step_events left (one.Expire now ∷ [])) f.0 (expired_in_table left now) (calls_in_table left rest calls f.0 t f.2))
 calls_in_table left rest (Restart ∷ calls) events t f =
     subst (λ (es : List Event). AreInTable es) (sym f.1)
-    (all_append IsInTable (goes_by left (one.Restart ∷ [])) f.0 (restarted_in_table left) (calls_in_table (anew left) [] calls f.0 t f.2))
+    (all_append IsInTable (step_events left (one.Restart ∷ [])) f.0 (restarted_in_table left) (calls_in_table (left_by_restart left) [] calls f.0 t f.2))
 
 -- moves of the field whose events ask for calls of the table send nothing else
-table_moves : {State : Type 0} (ms : List (Move State)) → AreInTable (map Went (seen ms)) → AsksTheTable ms
+table_moves : {State : Type 0} (ms : List (Move State)) → AreInTable (map Stepped (seen ms)) → AsksTheTable ms
 table_moves [] h = tt
 table_moves (Sends target call deadline ∷ ms) h = (h.0, table_moves ms h.1)
 table_moves (Tells now ∷ ms) h = table_moves ms h.1
@@ -124,19 +114,19 @@ module _ {State : Type 0} (width : ℕ) (ends : Ends State) (Good : State → Ty
   alike_safe alike [] = tt
   alike_safe alike (p ∷ ps) = ((λ m command went. inr (inl alike)), alike_safe alike ps)
 
-  -- runs whose events ask for calls of the table are safe
+  -- runs whose events ask for nothing but calls of the table are safe
   table_safe : (rs : List (Run State)) (u : UnderWay State) → AreInTable (events_over width ends u rs)
       → AllByRecursion (IsSafeRun width ends Good kept) (parts width ends u rs)
   table_safe [] u h = tt
   table_safe (r ∷ []) u h =
-      let own = rest_in_table (events_of ends (begins u) r.turns) (map Went (seen r.moves)) h in
+      let own = all_behind IsInTable (events_of ends (begins u) r.turns) (map Stepped (seen r.moves)) h in
       ((λ m command went. inl (table_moves r.moves own)), tt)
   table_safe (r ∷ next ∷ others) u h =
       let after = left_by_run width ends u r in
-      let later = Went one.Restart ∷ events_over width ends after (next ∷ others) in
-      let rest = rest_in_table (events_of ends (begins u) r.turns) (map Went (seen r.moves) ++ later) h in
-      let own = first_in_table (map Went (seen r.moves)) later rest in
-      ((λ m command went. inl (table_moves r.moves own)), table_safe (next ∷ others) after (rest_in_table (map Went (seen r.moves)) later rest).1)
+      let later = Stepped one.Restart ∷ events_over width ends after (next ∷ others) in
+      let rest = all_behind IsInTable (events_of ends (begins u) r.turns) (map Stepped (seen r.moves) ++ later) h in
+      let own = all_front IsInTable (map Stepped (seen r.moves)) later rest in
+      ((λ m command went. inl (table_moves r.moves own)), table_safe (next ∷ others) after (all_behind IsInTable (map Stepped (seen r.moves)) later rest).1)
 
   -- if each call on a state sends what is in the table, the runs whose events these calls are are safe
   pub calls_safe : (calls : List Step) (u : UnderWay State) (rs : List (Run State)) → AreOfTheTable calls

@@ -7,62 +7,57 @@ use Rattle.gc_lines.specs.Frames.{is_line_feed, frame_of, rest_behind}
 use Rattle.gc_lines.specs.declared.frame.Frame.{Frame}
 use Rattle.gc_lines.specs.declared.frame.Frame.TheVariants.{Line, Cleared, Overlong, More}
 use Rattle.gc_client.specs.Beginning.{the_word, asks, left_by}
+pub use Rattle.gc_client.specs.Beginning.{unanswered_after}
 use Rattle.gc_catalogue.specs.declared.asked.Asked.{Asked}
 use Rattle.gc_client.specs.Rule.{Windowed, heard}
-use Rattle.geocom_c.specs.Rest.{IsRest, lines_behind}
+use Rattle.geocom_c.specs.Rest.{IsRest, lines_completed}
 use Rattle.geocom_c.specs.State.{StandsFor, left_of}
 use Rattle.geocom_c.specs.declared.answers.GeocomBeginning.{GeocomBeginning}
 use Rattle.geocom_c.specs.declared.rest.GeocomRest.{GeocomRest}
 use Rattle.geocom_c.specs.declared.state.GeocomClient.{GeocomClient}
 
--- what isn't answered of a word after these lines, which are heard in order: a line that doesn't answer is discarded, and so is
--- each after the last answer
-abbrev pub left_by_all : List ℕ → List (List ℕ) → List ℕ
-left_by_all left [] = left
-left_by_all left (line ∷ lines) = left_by_all (left_by left (heard line)) lines
+-- the ids that aren't answered after these bytes, where `left` weren't before: each line that the bytes end, after the bytes `rest`
+-- since the last line feed, is heard
+abbrev pub left_by_bytes : (left rest bytes : List ℕ) → List ℕ
+left_by_bytes left rest bytes = unanswered_after left (lines_completed rest bytes)
 
--- what isn't answered of a word after these bytes: each line that they end, with the bytes since the last line feed, is
--- heard
-abbrev pub left_behind : List ℕ → List ℕ → List ℕ → List ℕ
-left_behind left rest bytes = left_by_all left (lines_behind rest bytes)
-
--- what isn't answered of a word after a frame
-abbrev pub left_past : List ℕ → Frame → List ℕ
+-- the ids that aren't answered after a frame, where `left` weren't before: a line is heard
+abbrev pub left_past : (left : List ℕ) → Frame → List ℕ
 left_past left (Line line) = left_by left (heard line.items)
 left_past left Cleared = left
 left_past left Overlong = left
 left_past left More = left
 
--- the line that is sent, where `after` are the ids that aren't answered: none while a reply is still waited for (`true`), or
--- once all ids are answered
-abbrev pub given_if : Bool → List ℕ → Option (List ℕ)
-given_if true after = None
-given_if false after = asks after
+-- the line that is sent, where `after` are the ids that aren't answered: none while a reply is still waited for
+-- (`is_waiting`), or once all ids are answered
+abbrev pub given_unless : (is_waiting : Bool) → (after : List ℕ) → Option (List ℕ)
+given_unless true after = None
+given_unless false after = asks after
 
 -- the line that is sent after these bytes, by the ids that aren't answered before and after them. Without bytes it is the null
 -- procedure that is asked for, the first time or again; if one was answered, it is the next one; otherwise, and once the client
 -- has synchronized, none is sent
-abbrev pub given : List ℕ → List ℕ → List ℕ → Option (List ℕ)
+abbrev pub given : (bytes before after : List ℕ) → Option (List ℕ)
 given [] before after = asks after
-given (byte ∷ bytes) before after = given_if (nat_eq (length before) (length after)) after
+given (byte ∷ bytes) before after = given_unless (nat_eq (length before) (length after)) after
 
 -- the line is, with its CR LF, at the front of `room`, and `told` has the count of these bytes; if there is none the count is 0
-abbrev pub IsGiven : Option (List ℕ) → GeocomBeginning → List ℕ → Type 0
+abbrev pub IsGiven : Option (List ℕ) → (told : GeocomBeginning) → (room : List ℕ) → Type 0
 IsGiven None told room = told.count ≡ 0
 IsGiven (Some line) told room = (told.count ≡ length (with_end line)) × (take told.count room ≡ with_end line)
 
 -- what isn't answered of the word after a restart: all of it for a client that had synchronized; for one that hadn't, what
 -- wasn't answered before
-abbrev pub anew : List ℕ → List ℕ
-anew [] = the_word
-anew (asked ∷ later) = asked ∷ later
+abbrev pub left_by_restart : List ℕ → List ℕ
+left_by_restart [] = the_word
+left_by_restart (asked ∷ later) = asked ∷ later
 
 -- these bytes were handed to the synchronization of a client in the state `old`: the fault is 0, and in the state `new` the client is
 -- the same, each line that the bytes end is heard, and the bytes since the last line feed are kept
 abbrev pub HearsBytes : (bytes : List ℕ) → (old new : GeocomClient) → (fault : ℕ) → Type 0
 HearsBytes bytes old new fault =
     (c : Windowed Asked) (rest : List ℕ) → StandsFor old c rest
-    → (fault ≡ 0) × StandsFor new c (rest_behind rest bytes) × (left_of new ≡ left_behind (left_of old) rest bytes)
+    → (fault ≡ 0) × StandsFor new c (rest_behind rest bytes) × (left_of new ≡ left_by_bytes (left_of old) rest bytes)
 
 -- if the call that returned `told` had no fault, `room` has the line that is sent after these bytes, where `old` and `new` are the
 -- states before and after the call
@@ -70,8 +65,8 @@ abbrev pub GivesLine : (bytes : List ℕ) → (old new : GeocomClient) → Geoco
 GivesLine bytes old new told room = told.fault ≡ 0 → IsGiven (given bytes (left_of old) (left_of new)) told room
 
 -- if there is no fault, `told` says that the client has synchronized if and only if no id is unanswered in this state
-abbrev pub TellsBegun : GeocomBeginning → GeocomClient → Type 0
-TellsBegun told state = told.fault ≡ 0 → (told.has_begun ≡ 1) ↔ (left_of state ≡ [])
+abbrev pub ReportsBegun : GeocomBeginning → GeocomClient → Type 0
+ReportsBegun told state = told.fault ≡ 0 → (told.has_begun ≡ 1) ↔ (left_of state ≡ [])
 
 -- what is returned with this fault if the synchronization heard nothing
 abbrev pub unbegun_with : (fault : ℕ) → GeocomBeginning

@@ -22,9 +22,10 @@ HasExpired c rest now state told targets =
 abbrev pub Expires : (now : ℕ) → (old new : GeocomClient) → (told : GeocomCount) → (targets : List ℕ) → Type 0
 Expires now old new told targets = (c : Windowed Asked) (rest : List ℕ) → StandsFor old c rest → HasExpired c rest now new told targets
 
--- for a client's state the fault is 0, and the deadline that was returned is the earliest of the client's requests, if it has one
-abbrev pub TellsEarliest : GeocomClient → GeocomDeadline → Type 0
-TellsEarliest state told =
+-- for a client's state the fault is 0, and the deadline that was returned is the earliest of the client's requests that
+-- haven't timed out, if there is one
+abbrev pub ReportsEarliest : GeocomClient → GeocomDeadline → Type 0
+ReportsEarliest state told =
     (c : Windowed Asked) (rest : List ℕ) → StandsFor state c rest → (told.fault ≡ 0) × IsEarliest (deadlines c.ids.waiting) (earliest_in told)
 
 -- a record of plain fields that holds no deadline has 0 in both
@@ -32,5 +33,5 @@ abbrev pub IsBlankIfUnset : GeocomDeadline → Type 0
 IsBlankIfUnset told = told.is_set ≢ 1 → (told.is_set ≡ 0) × (told.deadline ≡ 0)
 
 -- for a client's state the fault is 0, and the count that was returned is that of the client's outstanding requests
-abbrev pub TellsWaiting : GeocomClient → GeocomCount → Type 0
-TellsWaiting state told = (c : Windowed Asked) (rest : List ℕ) → StandsFor state c rest → (told.fault ≡ 0) × (told.count ≡ length c.ids.waiting)
+abbrev pub ReportsWaiting : GeocomClient → GeocomCount → Type 0
+ReportsWaiting state told = (c : Windowed Asked) (rest : List ℕ) → StandsFor state c rest → (told.fault ≡ 0) × (told.count ≡ length c.ids.waiting)

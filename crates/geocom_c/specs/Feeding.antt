@@ -26,7 +26,7 @@ pub record HasRoom (settlements : List GeocomSettlement) (text : List ℕ) : Typ
   pub for_text : TEXT_ROOM ≤ length text
 
 -- the kind of a line, by how it reads as a reply and by whether it fits an outstanding request
-abbrev pub line_kind : Result ReplyFields LineFault → Bool → ℕ
+abbrev pub line_kind : Result ReplyFields LineFault → (fit : Bool) → ℕ
 line_kind (Ok reply) true = SETTLED
 line_kind (Ok reply) false = STRAY
 line_kind (Err fault) fit = UNREAD
@@ -39,13 +39,13 @@ frame_kind c Overlong = OVERLONG
 frame_kind c More = MORE
 
 -- the number of a line's fault if it is no reply, else 0
-abbrev pub number_in : Result ReplyFields LineFault → ℕ
-number_in (Ok reply) = 0
-number_in (Err fault) = fault_number fault
+abbrev pub fault_number_in : Result ReplyFields LineFault → ℕ
+fault_number_in (Ok reply) = 0
+fault_number_in (Err fault) = fault_number fault
 
 -- the number of a frame's line fault; 0 for a frame without one
 abbrev pub frame_fault : Frame → ℕ
-frame_fault (Line line) = number_in (reply_at line.items)
+frame_fault (Line line) = fault_number_in (reply_at line.items)
 frame_fault Cleared = 0
 frame_fault Overlong = 0
 frame_fault More = 0
@@ -58,14 +58,14 @@ settled_by c Overlong = []
 settled_by c More = []
 
 -- the client after a frame
-abbrev pub behind : Windowed Asked → Frame → Windowed Asked
-behind c (Line line) = record c { ids = (hears c.ids line.items (heard line.items)).client }
-behind c Cleared = c
-behind c Overlong = c
-behind c More = c
+abbrev pub client_past : Windowed Asked → Frame → Windowed Asked
+client_past c (Line line) = record c { ids = (hears c.ids line.items (heard line.items)).client }
+client_past c Cleared = c
+client_past c Overlong = c
+client_past c More = c
 
 -- if a line settled at least one request, by this count, it is at the front of the text
-abbrev pub IsInFront : Frame → ℕ → List ℕ → Type 0
+abbrev pub IsInFront : Frame → (count : ℕ) → (text : List ℕ) → Type 0
 IsInFront (Line line) count text = 0 < count → take (length line.items) text ≡ line.items
 IsInFront Cleared count text = Unit {0}
 IsInFront Overlong count text = Unit {0}
@@ -78,7 +78,7 @@ pub record IsFed (c : Windowed Asked) (frame : Frame) (r : GeocomHeard) (records
   pub kind : r.kind ≡ frame_kind c frame
   pub line_fault : r.line_fault ≡ frame_fault frame
   pub count : r.count ≡ length (settled_by c frame)
-  pub told : FirstAre (IsRecord text) records (settled_by c frame)
+  pub recorded : FirstAre (IsRecord text) records (settled_by c frame)
   pub front : IsInFront frame r.count text
 
 -- what a feed returns for bytes without a line feed, all of which it used
@@ -87,7 +87,7 @@ unended used = record { used = used; fault = 0; count = 0; kind = MORE; line_fau
 
 -- a frame was fed, by this many bytes, and after it no byte is left of a line
 abbrev pub FeedsFrame : Windowed Asked → Frame → (used : ℕ) → (state : GeocomClient) → GeocomHeard → (records : List GeocomSettlement) → (text : List ℕ) → Type 0
-FeedsFrame c frame used state r records text = (r.used ≡ used) × IsFed c frame r records text × StandsFor state (behind c frame) []
+FeedsFrame c frame used state r records text = (r.used ≡ used) × IsFed c frame r records text × StandsFor state (client_past c frame) []
 
 -- a client was restarted: the state is then the rule's, and each request that was outstanding has a record
 abbrev pub HasRestarted : Windowed Asked → (state : GeocomClient) → (told : GeocomCount) → (records : List GeocomSettlement) → Type 0

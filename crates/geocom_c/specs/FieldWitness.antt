@@ -1,4 +1,4 @@
--- Some calls meet all premises of the laws, this project's own. An old reply is in flight, with the id that the first
+-- Some calls meet all premises of `EachAnswerIsOwn`, this project's own. An old reply is in flight, with the id that the first
 -- command has. It is discarded, the eight null procedures are answered, two commands are sent at once, and a moment passes;
 -- both are answered. Over the instrument that counts the second command is for a procedure that isn't in the table, whichever
 -- it is. Then the client restarts, and resynchronizes.
@@ -51,7 +51,7 @@ begin_calls (reply ∷ replies) later = Begin (record { ref_ptr = (0, 0); now = 
 -- the calls: a first one of the synchronization without bytes, then one with the old reply and one with each of these replies;
 -- two commands, the second of which is this call; a moment; the lines `one` and `other` as the replies to the commands; a
 -- restart; and a resynchronization
-abbrev pub calls : List (List ℕ) → Step → List ℕ → List ℕ → List Step
+abbrev pub calls : (replies : List (List ℕ)) → (second : Step) → (one other : List ℕ) → List Step
 calls replies second one other =
     Begin (record { ref_ptr = (0, 0); now = [] })
     ∷ begin_calls (old ∷ replies)
@@ -76,31 +76,31 @@ abbrev pub raw_second : RawCall → Step
 raw_second raw = SendRaw 8 9 raw.rpc (record { ref_ptr = (0, 0); now = raw_params raw })
 
 -- the moves of the field for these calls: each command reaches the instrument, and its reply comes
-abbrev pub moves : {State : Type 0} → Asked → List ℕ → List ℕ → List (Move State)
+abbrev pub moves : {State : Type 0} → Asked → (one other : List ℕ) → List (Move State)
 moves asked one other = Sends 7 (Table InstrumentNo) 9 ∷ Sends 8 asked 9 ∷ Tells 5 ∷ OnLine Up_deliver ∷ OnLine Up_deliver ∷ field.Comes one ∷ field.Comes other ∷ []
 
 -- the runs of the field for these calls: one with these moves, and after the restart one that has only asked
-abbrev pub runs : {State : Type 0} → Asked → List ℕ → List ℕ → List (Run State)
+abbrev pub runs : {State : Type 0} → Asked → (one other : List ℕ) → List (Run State)
 runs asked one other = record { turns = beginning; moves = moves asked one other } ∷ record { turns = Asks ∷ []; moves = [] } ∷ []
 
 -- the stage that the calls come to
-abbrev pub reached : {State : Type 0} → Ends State → State → Asked → List ℕ → List ℕ → Stage
-reached ends state asked one other = record { reached = course WINDOW begun (steps_among (events_over WINDOW ends (before state) (runs asked one other))); rest = []; left = the_word }
+abbrev pub end_stage : {State : Type 0} → Ends State → State → Asked → (one other : List ℕ) → Stage
+end_stage ends state asked one other = record { reached = course WINDOW begun (steps_among (events_over WINDOW ends (before state) (runs asked one other))); rest = []; left = the_word }
 
--- all premises of the laws hold of these calls at once; both commands are answered, and the first answer was made on executing its
+-- all premises of `EachAnswerIsOwn` hold of these calls at once; both commands are answered, and the first answer was made on executing its
 -- request
 pub record AreInField {State : Type 0} (ends : Ends State) (Good : State → Type 0) (kept : State → Option KeptReply) (state : State)
     (replies : List (List ℕ)) (second : Step) (asked : Asked) (one other : List ℕ) : Type 0 where
   pub instrument : IsAnInstrument ends Good kept
   pub width : IsWidth WINDOW
-  pub follows : CallsReach WINDOW opened (calls replies second one other) (reached ends state asked one other)
+  pub follows : CallsReach WINDOW opened (calls replies second one other) (end_stage ends state asked one other)
   pub lines : IsWellFormed Good (before state)
   pub may : MayBegin (before state)
   pub are : AreEvents the_word [] (calls replies second one other) (events_over WINDOW ends (before state) (runs asked one other))
   pub possible : ArePossibleRuns WINDOW ends Good kept (before state) (runs asked one other)
   pub safe : AllByRecursion (IsSafeRun WINDOW ends Good kept) (parts WINDOW ends (before state) (runs asked one other))
   pub settlements :
-      (reached ends state asked one other).reached.settlements
+      (end_stage ends state asked one other).reached.settlements
       ≡ record { target = 7; call = Table InstrumentNo; outcome = Answered one } ∷ record { target = 8; call = asked; outcome = Answered other } ∷ []
   pub made_on : WasMadeOn WINDOW ends (leaves (turned ends beginning (begins (before state)))) (moves asked one other) 8 (Table InstrumentNo) one
 

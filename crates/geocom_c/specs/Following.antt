@@ -10,8 +10,8 @@ use Rattle.gc_catalogue.specs.Calls.{IsCall}
 use Rattle.gc_client.specs.Beginning.{the_word}
 use Rattle.gc_client.specs.OneForOne.{Course, begun, course_after, course}
 use Rattle.gc_client.specs.OneForOne as one
-use Rattle.geocom_c.specs.Beginning.{anew, left_behind}
-use Rattle.geocom_c.specs.Rest.{lines_behind}
+use Rattle.geocom_c.specs.Beginning.{left_by_restart, left_by_bytes}
+use Rattle.geocom_c.specs.Rest.{lines_completed}
 use Rattle.geocom_c.specs.State.{StandsFor, left_of}
 use Rattle.geocom_c.specs.declared.state.GeocomClient.{GeocomClient}
 use Rattle.geocom_c.specs.declared.following.Step.{Step}
@@ -19,18 +19,18 @@ use Rattle.geocom_c.specs.declared.following.Step.TheVariants.{Send, SendRaw, Be
 
 -- the course of a client that hears, in order, each line that these bytes end, where `rest` came before them since the last
 -- line feed
-abbrev pub hearing : ℕ → Course Asked → List ℕ → List ℕ → Course Asked
-hearing width x rest bytes = course width x (map one.Hear (lines_behind rest bytes))
+abbrev pub hearing : (width : ℕ) → Course Asked → (rest bytes : List ℕ) → Course Asked
+hearing width x rest bytes = course width x (map one.Hear (lines_completed rest bytes))
 
 -- no part of a promise: a client of the course `x`, with the bytes `rest` since the last line feed, was fed all of `bytes` but
--- the last ones, `left`. The state stands for the client as it is then: of the course `reached`, with the bytes `now` since the
--- last line feed. If that client hears `left`, too, it comes to the same as a client of the course `x` that hears all of `bytes`
-pub record FedTo (width : ℕ) (x : Course Asked) (rest bytes : List ℕ) (state : GeocomClient) (left : List ℕ) : Type 0 where
+-- the last ones, `unfed`. The state stands for the client as it is then: of the course `reached`, with the bytes `now` since the
+-- last line feed. If that client hears `unfed`, too, it comes to the same as a client of the course `x` that hears all of `bytes`
+pub record FedTo (width : ℕ) (x : Course Asked) (rest bytes : List ℕ) (state : GeocomClient) (unfed : List ℕ) : Type 0 where
   pub reached : Course Asked
   pub now : List ℕ
   pub stands : StandsFor state (record { width = width; ids = reached.client }) now
-  pub same : hearing width reached now left ≡ hearing width x rest bytes
-  pub behind : rest_behind now left ≡ rest_behind rest bytes
+  pub same : hearing width reached now unfed ≡ hearing width x rest bytes
+  pub behind : rest_behind now unfed ≡ rest_behind rest bytes
 
 -- how far calls have brought a client: its course, the bytes since the last line feed, and the ids of the synchronization that
 -- aren't answered
@@ -51,7 +51,7 @@ pub record IsAt (width : ℕ) (s : Stage) (state : GeocomClient) : Type 0 where
 -- over these calls, in order, the client comes from the stage s to the stage t. A send is sent only once the client has
 -- synchronized; the lines of a begin are heard by the synchronization, and not by the client; a restart of a client that has
 -- synchronized has it resynchronize
-abbrev pub CallsReach : ℕ → Stage → List Step → Stage → Type 0
+abbrev pub CallsReach : (width : ℕ) → (s : Stage) → List Step → (t : Stage) → Type 0
 CallsReach width s [] t = t ≡ s
 CallsReach width s (Send target deadline procedure params ∷ steps) t =
     ((call : Call) × (s.left ≡ []) × IsCall procedure params.now call
@@ -61,10 +61,10 @@ CallsReach width s (SendRaw target deadline procedure params ∷ steps) t =
     ((raw : RawCall) × (s.left ≡ []) × IsAsked procedure params.now (Raw raw)
     × CallsReach width (record s { reached = course_after width s.reached (one.Send target (Raw raw) deadline) }) steps t)
     ⊎ ((s.left ≡ [] → (raw : RawCall) → IsAsked procedure params.now (Raw raw) → ⊥) × CallsReach width s steps t)
-CallsReach width s (Begin bytes ∷ steps) t = CallsReach width (record s { rest = rest_behind s.rest bytes.now; left = left_behind s.left s.rest bytes.now }) steps t
+CallsReach width s (Begin bytes ∷ steps) t = CallsReach width (record s { rest = rest_behind s.rest bytes.now; left = left_by_bytes s.left s.rest bytes.now }) steps t
 CallsReach width s (Feed bytes ∷ steps) t = CallsReach width (record s { reached = hearing width s.reached s.rest bytes.now; rest = rest_behind s.rest bytes.now }) steps t
 CallsReach width s (Expire now ∷ steps) t = CallsReach width (record s { reached = course_after width s.reached (one.Expire now) }) steps t
-CallsReach width s (Restart ∷ steps) t = CallsReach width (record { reached = course_after width s.reached one.Restart; rest = []; left = anew s.left }) steps t
+CallsReach width s (Restart ∷ steps) t = CallsReach width (record { reached = course_after width s.reached one.Restart; rest = []; left = left_by_restart s.left }) steps t
 
 -- no part of a promise: the state is at some stage. Whatever the calls `later`, which are left, come to from that stage, all
 -- the calls `steps` come to from the stage s
@@ -73,11 +73,11 @@ pub record Reached (width : ℕ) (s : Stage) (steps : List Step) (state : Geocom
   pub at : IsAt width stage state
   pub on : (t : Stage) → CallsReach width stage later t → CallsReach width s steps t
 
--- no part of a promise: all these bytes but the last ones, `left`, were fed to a client, whatever its course, which changed its state
+-- no part of a promise: all these bytes but the last ones, `unfed`, were fed to a client, whatever its course, which changed its state
 -- from `old` to `new` as `FedTo` says
-abbrev pub FeedsBut : (bytes left : List ℕ) → (old new : GeocomClient) → Type 0
-FeedsBut bytes left old new =
-    (width : ℕ) (x : Course Asked) (rest : List ℕ) → StandsFor old (record { width = width; ids = x.client }) rest → FedTo width x rest bytes new left
+abbrev pub FeedsBut : (bytes unfed : List ℕ) → (old new : GeocomClient) → Type 0
+FeedsBut bytes unfed old new =
+    (width : ℕ) (x : Course Asked) (rest : List ℕ) → StandsFor old (record { width = width; ids = x.client }) rest → FedTo width x rest bytes new unfed
 
 -- no part of a promise: all these bytes were fed to a client, whatever its course, which has heard each line that they end, and changed
 -- its state from `old` to `new`

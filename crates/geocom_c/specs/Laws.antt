@@ -14,7 +14,7 @@ use Rattle.gc_field.specs.Simulator.{ends}
 use Rattle.gc_world.specs.Record.{IsReplyTo}
 use Rattle.gc_field.specs.World.{Ends, Sent}
 use Rattle.gc_field.specs.Begin.{IsWellFormed, UnderWay, ids_under_way, leaves}
-use Rattle.gc_field.specs.Beginnings.{AreFewKilled, AreRuns, IsOwnIf, IsRow, Run}
+use Rattle.gc_field.specs.Beginnings.{AreFewKilled, AreRuns, IsOwnIf, HasRisingIds, Run}
 use Rattle.gc_field.specs.Begun.{IsSafe, WasMadeOn}
 use Rattle.gc_field.specs.Instrument.{IsAnInstrument, AnyState, TreatsRawsAlike}
 use Rattle.gc_field.specs.Laws.{WasExecuted, asked, kept_of}
@@ -98,12 +98,12 @@ AnswersAreTheirOwn State = (ends : Ends State) (kept : State → Option KeptRepl
 abbrev pub SimulatorsAnswersAreTheirOwn : Type 0
 SimulatorsAnswersAreTheirOwn = EachAnswerIsOwn ends IsFittingState kept_of
 
--- after a run that had synchronized, or over a line with nothing in flight (`IsRow`): as long as fewer than six runs in a row
--- ended while they synchronized, the next one may begin
+-- after a run that had synchronized, or over a line with nothing in flight (`HasRisingIds`): as long as fewer than six runs in a
+-- row ended while they synchronized, the next one may begin
 abbrev pub FewKilledMayBegin : Type 0 → Type 0
 FewKilledMayBegin State =
     (ends : Ends State) (kept : State → Option KeptReply) → IsAnInstrument ends AnyState kept →
-    (width : ℕ) → IsWidth width → (u : UnderWay State) → IsWellFormed AnyState u → IsRow u →
+    (width : ℕ) → IsWidth width → (u : UnderWay State) → IsWellFormed AnyState u → HasRisingIds u →
     (rs : List (Run State)) → AreRuns width ends AnyState kept u rs → AreFewKilled width ends 0 u rs → MayBegin (left_by_runs width ends u rs)
 
 -- no call on a state asks for a procedure that isn't in the table

@@ -1,7 +1,8 @@
 -- The bytes of an incomplete line, this project's own: what a state keeps of those since the last line feed.
-use Rattle.std.specs.Prelude.{◌≡◌, ◌≢◌, ◌<◌, ◌≤◌, ◌+◌, ℕ, List, ◌++◌, length, take, All, map, Some, None}
-use Rattle.std.specs.List.{filter_map, position}
-use Rattle.gc_lines.specs.Frames.{is_line_feed, frame_of, line_in, pieces_behind}
+use Rattle.std.specs.Prelude.{◌≡◌, ◌≢◌, ◌<◌, ◌≤◌, ◌+◌, ℕ, List, ◌++◌, length, take, All, Some, None}
+use Rattle.std.specs.List.{position}
+use Rattle.gc_lines.specs.Frames.{is_line_feed, frame_of}
+pub use Rattle.gc_lines.specs.Passing.{lines_completed}
 use Rattle.gc_lines.specs.declared.frame.Frame.{Frame}
 use Rattle.gc_lines.specs.declared.frame.Frame.TheVariants.{More}
 use Rattle.geocom_c.specs.declared.rest.GeocomRest.{GeocomRest}
@@ -18,12 +19,8 @@ pub record IsValid (r : GeocomRest) : Type 0 where
 -- the bytes `rest` came since the last line feed: whatever follows, the next line feed makes the same frame of the kept bytes
 -- as of `rest`
 pub record IsRest (r : GeocomRest) (rest : List ℕ) : Type 0 where
-  pub cut : IsValid r
+  pub valid : IsValid r
   pub same : (more : List ℕ) → frame_of (kept r ++ more) ≡ frame_of (rest ++ more)
-
--- the lines that the line feeds of `bytes` end, if the bytes `rest` came before them since the last line feed
-abbrev pub lines_behind : List ℕ → List ℕ → List (List ℕ)
-lines_behind rest bytes = filter_map line_in (map frame_of (pieces_behind rest bytes))
 
 -- `used` is the number of some of these bytes, or of all, and not 0 if there are any
 abbrev pub UsesBytes : (used : ℕ) → (bytes : List ℕ) → Type 0

@@ -15,8 +15,8 @@ abbrev pub IsWritten : {A : Type 0} → (at : ℕ) → (text before after : List
 IsWritten at text before after = take (at + length text) after ≡ take at before ++ text
 
 -- what is after the first `count` items of a list is the same `after` as `before`
-abbrev pub LeavesRest : {A : Type 0} → (count : ℕ) → (before after : List A) → Type 0
-LeavesRest count before after = drop count after ≡ drop count before
+abbrev pub KeepsAfter : {A : Type 0} → (count : ℕ) → (before after : List A) → Type 0
+KeepsAfter count before after = drop count after ≡ drop count before
 
 -- the list `after` is the list `before` with more items at its end, or with none
 abbrev pub IsExtended : {A : Type 0} → (before after : List A) → Type 0
@@ -27,12 +27,12 @@ abbrev pub FitsTheWindow : (count : ℕ) → Type 0
 FitsTheWindow count = count ≤ WINDOW
 
 -- the fault is that of too little room if and only if the list `room` has fewer than `least` items
-abbrev pub TellsNoRoom : {A : Type 0} → (room : List A) → (least fault : ℕ) → Type 0
-TellsNoRoom room least fault = (fault ≡ NO_ROOM) ↔ (length room < least)
+abbrev pub ReportsNoRoom : {A : Type 0} → (room : List A) → (least fault : ℕ) → Type 0
+ReportsNoRoom room least fault = (fault ≡ NO_ROOM) ↔ (length room < least)
 
 -- the fault is that of a state that is no client's if and only if the state is none, and the list `room` has at least `least` items
-abbrev pub TellsNoClient : {A : Type 0} → (room : List A) → (least : ℕ) → GeocomClient → (fault : ℕ) → Type 0
-TellsNoClient room least state fault = (fault ≡ NO_CLIENT) ↔ ((least ≤ length room) × IsAstray state)
+abbrev pub ReportsNoClient : {A : Type 0} → (room : List A) → (least : ℕ) → GeocomClient → (fault : ℕ) → Type 0
+ReportsNoClient room least state fault = (fault ≡ NO_CLIENT) ↔ ((least ≤ length room) × IsAstray state)
 
 -- a call that returned `told`: after a fault the count is 0, the state is `new` as it was `old`, and its room is `after` as it was
 -- `before`

@@ -13,24 +13,24 @@ use Rattle.gc_field.specs.Begin.{InFlight, AreTurns, Asks, Comes, Foreign, Reach
 use Rattle.gc_field.specs.Beginnings.{Run, left_by_run, after_turns}
 use Rattle.gc_field.specs.Begun.{behind, ids_begun}
 use Rattle.gc_field.specs.Field.{ArePossible, seen}
-use Rattle.geocom_c.specs.Steps.{Event, Null, Came, Went}
+use Rattle.geocom_c.specs.Steps.{Event, Null, Came, Stepped}
 
 -- What a run is to the library.
 
 -- the event that a null procedure is sent, where these ids of the word aren't answered; none once all are answered
-abbrev pub asked_of : List ℕ → List Event
-asked_of [] = []
-asked_of (asked ∷ later) = Null ∷ []
+abbrev pub null_of : List ℕ → List Event
+null_of [] = []
+null_of (asked ∷ later) = Null ∷ []
 
 -- the event that the front one of these replies comes; none if there is no reply
-abbrev pub front_of : List (InFlight (List ℕ)) → List Event
-front_of [] = []
-front_of (x ∷ rest) = Came x.line ∷ []
+abbrev pub came_of : List (InFlight (List ℕ)) → List Event
+came_of [] = []
+came_of (x ∷ rest) = Came x.line ∷ []
 
 -- the event that a turn of a synchronization is to the library: a turn of the line or of the instrument is none
 abbrev pub event_of : {State : Type 0} → Model State → Turn State → List Event
-event_of s Asks = asked_of s.left
-event_of s Comes = front_of s.down
+event_of s Asks = null_of s.left
+event_of s Comes = came_of s.down
 event_of s (Foreign line) = Came line ∷ []
 event_of s Reaches = []
 event_of s (Up_lose k) = []
@@ -59,8 +59,8 @@ module _ {State : Type 0} (width : ℕ) (ends : Ends State) where
   -- the events that runs are to the library: the client restarts between them
   abbrev pub events_over : UnderWay State → List (Run State) → List Event
   events_over u [] = []
-  events_over u (r ∷ []) = events_of ends (begins u) r.turns ++ map Went (seen r.moves)
-  events_over u (r ∷ next ∷ others) = events_of ends (begins u) r.turns ++ (map Went (seen r.moves) ++ Went one.Restart ∷ events_over (left_by_run width ends u r) (next ∷ others))
+  events_over u (r ∷ []) = events_of ends (begins u) r.turns ++ map Stepped (seen r.moves)
+  events_over u (r ∷ next ∷ others) = events_of ends (begins u) r.turns ++ (map Stepped (seen r.moves) ++ Stepped one.Restart ∷ events_over (left_by_run width ends u r) (next ∷ others))
 
   -- Runs, one after the other.
 

@@ -19,7 +19,7 @@ use Rattle.geocom_c.specs.declared.header.TheConstants.{WINDOW_FULL, NO_ROOM, NO
 use Rattle.geocom_c.specs.declared.state.GeocomClient.{GeocomClient}
 
 -- the state and the room for the line before and after a send, and what the send returned
-pub record Sent : Type 0 where
+pub record SendEffect : Type 0 where
   pub old : GeocomClient
   pub new : GeocomClient
   pub before : List ℕ
@@ -29,7 +29,7 @@ pub record Sent : Type 0 where
 -- what a send of `asked` did and returned is what the client's rule says of it (None: the rule refuses it), where `c` is the client
 -- before the send and `rest` are the bytes since the last line feed. A send that is refused returns that the window is full, and
 -- changes nothing; otherwise the line was written with its CR LF, and the state is the rule's
-abbrev pub SendMeets : (c : Windowed Asked) (rest : List ℕ) (asked : Asked) → Option (Sending (ById Asked)) → Sent → Type 0
+abbrev pub SendMeets : (c : Windowed Asked) (rest : List ℕ) (asked : Asked) → Option (Sending (ById Asked)) → SendEffect → Type 0
 SendMeets c rest asked None sent = (sent.told.fault ≡ WINDOW_FULL) × (sent.new ≡ sent.old) × (sent.after ≡ sent.before)
 SendMeets c rest asked (Some s) sent =
     (sent.told.fault ≡ 0) × StandsFor sent.new (record c { ids = s.client }) rest
@@ -37,7 +37,7 @@ SendMeets c rest asked (Some s) sent =
 
 -- a client that has synchronized sends `to x`, for each x of which `Is` holds, to this target and with this deadline, or refuses it
 -- where the window is full (`SendMeets`)
-abbrev pub SendsEach : {X : Type 0} → (to : X → Asked) → (Is : X → Type 0) → (target deadline : ℕ) → Sent → Type 0
+abbrev pub SendsEach : {X : Type 0} → (to : X → Asked) → (Is : X → Type 0) → (target deadline : ℕ) → SendEffect → Type 0
 SendsEach {X = X} to Is target deadline sent =
     (c : Windowed Asked) (rest : List ℕ) (x : X) → StandsFor sent.old c rest → left_of sent.old ≡ [] → Is x
     → SendMeets c rest (to x) (sends c.width c.ids target (to x) deadline) sent
@@ -46,7 +46,8 @@ SendsEach {X = X} to Is target deadline sent =
 abbrev pub RefusesEach : {E : Type 0} → (Is : E → Type 0) → (number : E → ℕ) → GeocomClient → (fault : ℕ) → Type 0
 RefusesEach {E = E} Is number state fault = (c : Windowed Asked) (rest : List ℕ) (e : E) → StandsFor state c rest → left_of state ≡ [] → Is e → fault ≡ number e
 
--- a fault that is neither that of a full window nor one of the library's own is the number of a refusal e of which `Is` holds
+-- a fault is the number of a refusal e of which `Is` holds, unless it is that of a full window, of too little room, of a state that is
+-- no client's or of a client that hasn't synchronized
 abbrev pub IsRefusalNumber : {E : Type 0} → (Is : E → Type 0) → (number : E → ℕ) → (fault : ℕ) → Type 0
 IsRefusalNumber {E = E} Is number fault =
     fault ≢ 0 → fault ≢ WINDOW_FULL → fault ≢ NO_ROOM → fault ≢ NO_CLIENT → fault ≢ NOT_BEGUN → (e : E) × Is e × (fault ≡ number e)
@@ -57,7 +58,7 @@ RefusesUnbegun state fault = (c : Windowed Asked) (rest : List ℕ) → StandsFo
 
 -- the state is that of a client that has synchronized, it was asked for an x of which `Is` holds, and the number of its
 -- outstanding requests and its width meet `Fills`
-abbrev pub WasAsked : {X : Type 0} → (Is : X → Type 0) → (Fills : ℕ → ℕ → Type 0) → GeocomClient → Type 0
+abbrev pub WasAsked : {X : Type 0} → (Is : X → Type 0) → (Fills : (count width : ℕ) → Type 0) → GeocomClient → Type 0
 WasAsked {X = X} Is Fills state =
     (c : Windowed Asked) × (rest : List ℕ) × (x : X) × StandsFor state c rest × (left_of state ≡ []) × Is x × Fills (length c.ids.waiting) c.width
 
@@ -71,28 +72,28 @@ raw_number OpenQuote = of_value.fault_number value.OpenQuote
 raw_number TooMany = of_value.fault_number value.TooMany
 
 -- the send that found the state `old` and the room `before`, left `new` and `after`, and returned `told`
-abbrev pub sent_of : (old new : GeocomClient) → (before after : List ℕ) → (told : GeocomCount) → Sent
-sent_of old new before after told = record { old = old; new = new; before = before; after = after; told = told }
+abbrev pub send_effect : (old new : GeocomClient) → (before after : List ℕ) → (told : GeocomCount) → SendEffect
+send_effect old new before after told = record { old = old; new = new; before = before; after = after; told = told }
 
 -- no part of a promise: the client `c` sends `asked` to this target and with this deadline, or refuses it where the window is full
 -- (`SendMeets`), if the state before has a valid rest of a line and a valid count of answered null procedures
-abbrev pub SendsAsked : (c : Windowed Asked) → (asked : Asked) → (target deadline : ℕ) → Sent → Type 0
+abbrev pub SendsAsked : (c : Windowed Asked) → (asked : Asked) → (target deadline : ℕ) → SendEffect → Type 0
 SendsAsked c asked target deadline sent =
     (rest : List ℕ) → IsRest sent.old.rest rest → sent.old.answered ≤ 8 → SendMeets c rest asked (sends c.width c.ids target asked deadline) sent
 
 -- the fault that the client hasn't synchronized comes only of a state with ids that aren't answered
-abbrev pub TellsUnbegun : GeocomClient → (fault : ℕ) → Type 0
-TellsUnbegun state fault = fault ≡ NOT_BEGUN → left_of state ≢ []
+abbrev pub ReportsUnbegun : GeocomClient → (fault : ℕ) → Type 0
+ReportsUnbegun state fault = fault ≡ NOT_BEGUN → left_of state ≢ []
 
 -- the fault of a full window comes only of a client that has synchronized, for an x of which `Is` holds, where as many requests are
 -- outstanding as its width says
-abbrev pub TellsFull : {X : Type 0} → (Is : X → Type 0) → GeocomClient → (fault : ℕ) → Type 0
-TellsFull Is state fault = fault ≡ WINDOW_FULL → WasAsked Is (λ count width. count ≡ width) state
+abbrev pub ReportsFull : {X : Type 0} → (Is : X → Type 0) → GeocomClient → (fault : ℕ) → Type 0
+ReportsFull Is state fault = fault ≡ WINDOW_FULL → WasAsked Is (λ count width. count ≡ width) state
 
 -- a fault of 0 comes only of a client that has synchronized, for an x of which `Is` holds, where fewer requests are outstanding than its
 -- width says
-abbrev pub TellsDone : {X : Type 0} → (Is : X → Type 0) → GeocomClient → (fault : ℕ) → Type 0
-TellsDone Is state fault = fault ≡ 0 → WasAsked Is (λ count width. count < width) state
+abbrev pub ReportsDone : {X : Type 0} → (Is : X → Type 0) → GeocomClient → (fault : ℕ) → Type 0
+ReportsDone Is state fault = fault ≡ 0 → WasAsked Is (λ count width. count < width) state
 
 -- the raw call is of this number and these parameters
 abbrev pub IsRawOf : (procedure : ℕ) → (params : List ℕ) → RawCall → Type 0

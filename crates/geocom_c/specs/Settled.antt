@@ -1,5 +1,5 @@
 -- The records of settlements, this project's own: what a record says of a settlement.
-use Rattle.std.specs.Prelude.{◌≡◌, ◌≤◌, ◌+◌, ℕ, List, [], ◌∷◌, length, take, drop, map, All, None}
+use Rattle.std.specs.Prelude.{◌≡◌, ◌≤◌, ◌+◌, ℕ, List, [], ◌∷◌, length, take, drop, map, None}
 use Rattle.gc_values.specs.ValueFault.{fault_number}
 use Rattle.gc_values.specs.Params.{IsParams}
 use Rattle.gc_values.specs.Lists.{AreItems}
@@ -13,7 +13,7 @@ use Rattle.gc_catalogue.specs.Answers.{answer_fields}
 use Rattle.gc_catalogue.specs.Asked.{asked_request, IsAskedReading}
 use Rattle.gc_client.specs.Rule
 use Rattle.gc_client.specs.declared.pending.Pending.{Pending}
-use Rattle.gc_client.specs.Settlements.{IsReadBy, ReadsBy, settlement_seen}
+use Rattle.gc_client.specs.Settlements.{ReadsBy, settlement_seen}
 use Rattle.gc_client.specs.declared.settlement.Settlement.{Settlement}
 use Rattle.geocom_c.specs.FirstAre.{FirstAre}
 use Rattle.geocom_c.specs.declared.header.TheConstants.{ANSWERED, LATE, LOST, NONE, VALUE, REFUSED, COM_FAULT, UNREADABLE}
@@ -36,7 +36,8 @@ abbrev pub AreReadAs : Asked → Answer → List (List ℕ) → Type 0
 AreReadAs (Table call) answer items = AreItems items (answer_fields answer).values
 AreReadAs (Raw raw) answer items = Unit {0}
 
--- `count` items of an answer are listed: they are those of the parameters, and they are in the text
+-- `count` items of an answer are listed: they are those of the parameters, are in the text where `places` says, and, if a call of the
+-- table was asked, are the values of the answer (`AreReadAs`)
 pub record AreListed (asked : Asked) (answer : Answer) (count : ℕ) (places : List GeocomItem) (text params : List ℕ) : Type 0 where
   pub items : List (List ℕ)
   pub split : IsParams params items
@@ -44,8 +45,8 @@ pub record AreListed (asked : Asked) (answer : Answer) (count : ℕ) (places : L
   pub counted : count ≡ length items
   pub stand : StandIn text places items
 
--- the record has the kind and the code of this reading of what was asked, and for a value the items of the parameters
-abbrev pub HasReading : Asked → GeocomSettlement → List ℕ → List ℕ → Reading → Type 0
+-- the record has the kind and the code of this reading of what was asked; and for a value the items of the parameters, else none
+abbrev pub HasReading : Asked → GeocomSettlement → (text params : List ℕ) → Reading → Type 0
 HasReading asked r text params (Value answer) = (r.reading ≡ VALUE) × (r.code ≡ 0) × AreListed asked answer r.items r.places text params
 HasReading asked r text params (Refused code) = (r.reading ≡ REFUSED) × (r.code ≡ code) × (r.items ≡ 0)
 HasReading asked r text params (ComFault code) = (r.reading ≡ COM_FAULT) × (r.code ≡ code) × (r.items ≡ 0)
@@ -72,7 +73,7 @@ pub record IsUnanswered (r : GeocomSettlement) (outcome : ℕ) : Type 0 where
   pub items : r.items ≡ 0
 
 -- a record says that its request had this outcome
-abbrev pub HasOutcome : GeocomSettlement → List ℕ → Asked → Rule.Outcome → Type 0
+abbrev pub HasOutcome : GeocomSettlement → (text : List ℕ) → Asked → Rule.Outcome → Type 0
 HasOutcome r text asked (Rule.Answered line) = IsAnswered r text asked line
 HasOutcome r text asked Rule.Late = IsUnanswered r LATE
 HasOutcome r text asked Rule.Lost = IsUnanswered r LOST
@@ -88,8 +89,9 @@ pub record IsRecord (text : List ℕ) (r : GeocomSettlement) (s : Rule.Settlemen
   pub procedure : IsProcedureOf r.procedure s.call
   pub outcome : HasOutcome r text s.call s.outcome
 
--- no part of a promise: the number of a reading's kind, and its code
-abbrev pub IsKind : Reading → ℕ → ℕ → Type 0
+-- no part of a promise: `kind` is the number of a reading's kind, and `code` its code: 0 for a value, else that of the refusal or of
+-- the fault
+abbrev pub IsKind : Reading → (kind code : ℕ) → Type 0
 IsKind (Value answer) kind code = (kind ≡ VALUE) × (code ≡ 0)
 IsKind (Refused rc) kind code = (kind ≡ REFUSED) × (code ≡ rc)
 IsKind (ComFault rc_com) kind code = (kind ≡ COM_FAULT) × (code ≡ rc_com)
@@ -139,10 +141,6 @@ ListsAnswer told settlement = (line : List ℕ) × IsTextOf told line × AnswerH
 abbrev pub ListsAnswers : ListedLine → List (Settlement Asked) → Type 0
 ListsAnswers told settled = (line : List ℕ) × IsTextOf told line × AnswersHaveLine line (map settlement_seen settled)
 
--- no part of a promise: each answer among these settlements was read as a reply to what was asked
-abbrev pub AreRead : List (Settlement Asked) → Type 0
-AreRead settled = All (λ s. IsReadBy IsAskedReading s.call s.outcome) settled
-
 -- no part of a promise: these settlements are those of some requests that are lost
 abbrev pub AreLost : List (Settlement Asked) → Type 0
 AreLost settled = (ps : List (Pending Asked)) × (map settlement_seen settled ≡ map Rule.lost ps)
@@ -152,5 +150,5 @@ abbrev pub AreRecords : (text : List ℕ) → (records : List GeocomSettlement) 
 AreRecords text records settled = FirstAre (IsRecord text) records (map settlement_seen settled)
 
 -- no part of a promise: the record is that of an answer (`IsAnswered`) if the line has this reading as a reply to what was asked
-abbrev pub TellsReading : GeocomSettlement → (text : List ℕ) → Asked → (line : List ℕ) → Reading → Type 0
-TellsReading r text asked line reading = ReadsBy IsAskedReading asked line reading → IsAnswered r text asked line
+abbrev pub RecordsReading : GeocomSettlement → (text : List ℕ) → Asked → (line : List ℕ) → Reading → Type 0
+RecordsReading r text asked line reading = ReadsBy IsAskedReading asked line reading → IsAnswered r text asked line

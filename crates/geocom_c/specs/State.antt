@@ -37,9 +37,9 @@ HoldRequests places requests = FirstAre IsPlace places requests
 -- procedures are answered
 pub record HasHead (s : GeocomClient) : Type 0 where
   pub width : IsWidth s.width
-  pub digit : s.next < IDS
+  pub next : s.next < IDS
   pub few : s.waiting ≤ s.width
-  pub part : s.answered ≤ 8
+  pub answered : s.answered ≤ 8
 
 -- the ids of the synchronization's null procedures that aren't answered
 abbrev pub left_of : GeocomClient → List ℕ
@@ -52,7 +52,7 @@ pub record StandsFor (s : GeocomClient) (c : Windowed Asked) (rest : List ℕ) :
   pub waiting : s.waiting ≡ length c.ids.waiting
   pub head : HasHead s
   pub places : HoldRequests s.places c.ids.waiting
-  pub under_way : IsRest s.rest rest
+  pub incomplete : IsRest s.rest rest
 
 -- the bytes of a state are no client's
 abbrev pub IsAstray : GeocomClient → Type 0

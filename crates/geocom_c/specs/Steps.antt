@@ -12,9 +12,9 @@ use Rattle.gc_client.specs.Beginning.{the_word, left_by}
 use Rattle.gc_client.specs.OneForOne.{begun, course}
 use Rattle.gc_client.specs.OneForOne as one
 use Rattle.gc_client.specs.Rule.{heard}
-use Rattle.geocom_c.specs.Beginning.{anew, given, left_behind}
+use Rattle.geocom_c.specs.Beginning.{left_by_restart, given, left_by_bytes}
 use Rattle.geocom_c.specs.Following.{Stage}
-use Rattle.geocom_c.specs.Rest.{lines_behind}
+use Rattle.geocom_c.specs.Rest.{lines_completed}
 use Rattle.geocom_c.specs.declared.following.Step.{Step}
 use Rattle.geocom_c.specs.declared.following.Step.TheVariants.{Send, SendRaw, Begin, Feed, Expire, Restart}
 
@@ -23,52 +23,52 @@ use Rattle.geocom_c.specs.declared.following.Step.TheVariants.{Send, SendRaw, Be
 pub data Event : Type 0 where
   Null : Event
   Came : (line : List ℕ) → Event
-  Went : (step : one.Step Asked) → Event
+  Stepped : (step : one.Step Asked) → Event
 
 -- the event of a line that is sent while the client synchronizes: a null procedure is asked for. Without a line there is no
 -- event
-abbrev pub asked_by : Option (List ℕ) → List Event
-asked_by None = []
-asked_by (Some line) = Null ∷ []
+abbrev pub ask_events : Option (List ℕ) → List Event
+ask_events None = []
+ask_events (Some line) = Null ∷ []
 
 -- the events of a begin: while the client synchronizes, each line that the bytes end comes, and then a null procedure may be
 -- sent. Once it has synchronized there are none, and the lines are discarded
-abbrev pub begins_by : List ℕ → List ℕ → List ℕ → List Event
-begins_by [] rest bytes = []
-begins_by (asked ∷ later) rest bytes = map Came (lines_behind rest bytes) ++ asked_by (given bytes (asked ∷ later) (left_behind (asked ∷ later) rest bytes))
+abbrev pub begin_events : (left rest bytes : List ℕ) → List Event
+begin_events [] rest bytes = []
+begin_events (asked ∷ later) rest bytes = map Came (lines_completed rest bytes) ++ ask_events (given bytes (asked ∷ later) (left_by_bytes (asked ∷ later) rest bytes))
 
 -- the events of steps of the client: none while it synchronizes
-abbrev pub goes_by : List ℕ → List (one.Step Asked) → List Event
-goes_by [] steps = map Went steps
-goes_by (asked ∷ later) steps = []
+abbrev pub step_events : List ℕ → List (one.Step Asked) → List Event
+step_events [] steps = map Stepped steps
+step_events (asked ∷ later) steps = []
 
 -- these calls are these events, by the ids that aren't answered (`left`) and the bytes since the last line feed (`rest`). A send
 -- is a step if the client has synchronized, and its number and parameters are a call's, whether the window has room or not; a raw
 -- send is one if they are a raw call's; otherwise the send is no event. Each line that bytes end is a step, and so is a moment; a
 -- restart is one, too, and discards `rest`. Lines that are fed while the client synchronizes are discarded
-abbrev pub AreEvents : List ℕ → List ℕ → List Step → List Event → Type 0
+abbrev pub AreEvents : (left rest : List ℕ) → List Step → List Event → Type 0
 AreEvents left rest [] events = events ≡ []
 AreEvents left rest (Send target deadline procedure params ∷ calls) events =
-    ((call : Call) × (later : List Event) × (left ≡ []) × IsCall procedure params.now call × (events ≡ Went (one.Send target (Table call) deadline) ∷ later)
+    ((call : Call) × (later : List Event) × (left ≡ []) × IsCall procedure params.now call × (events ≡ Stepped (one.Send target (Table call) deadline) ∷ later)
     × AreEvents left rest calls later)
     ⊎ ((left ≡ [] → (call : Call) → IsCall procedure params.now call → ⊥) × AreEvents left rest calls events)
 AreEvents left rest (SendRaw target deadline procedure params ∷ calls) events =
-    ((raw : RawCall) × (later : List Event) × (left ≡ []) × IsAsked procedure params.now (Raw raw) × (events ≡ Went (one.Send target (Raw raw) deadline) ∷ later)
+    ((raw : RawCall) × (later : List Event) × (left ≡ []) × IsAsked procedure params.now (Raw raw) × (events ≡ Stepped (one.Send target (Raw raw) deadline) ∷ later)
     × AreEvents left rest calls later)
     ⊎ ((left ≡ [] → (raw : RawCall) → IsAsked procedure params.now (Raw raw) → ⊥) × AreEvents left rest calls events)
 AreEvents left rest (Begin bytes ∷ calls) events =
-    (later : List Event) × (events ≡ begins_by left rest bytes.now ++ later) × AreEvents (left_behind left rest bytes.now) (rest_behind rest bytes.now) calls later
+    (later : List Event) × (events ≡ begin_events left rest bytes.now ++ later) × AreEvents (left_by_bytes left rest bytes.now) (rest_behind rest bytes.now) calls later
 AreEvents left rest (Feed bytes ∷ calls) events =
-    (later : List Event) × (events ≡ goes_by left (map one.Hear (lines_behind rest bytes.now)) ++ later) × AreEvents left (rest_behind rest bytes.now) calls later
-AreEvents left rest (Expire now ∷ calls) events = (later : List Event) × (events ≡ goes_by left (one.Expire now ∷ []) ++ later) × AreEvents left rest calls later
-AreEvents left rest (Restart ∷ calls) events = (later : List Event) × (events ≡ goes_by left (one.Restart ∷ []) ++ later) × AreEvents (anew left) [] calls later
+    (later : List Event) × (events ≡ step_events left (map one.Hear (lines_completed rest bytes.now)) ++ later) × AreEvents left (rest_behind rest bytes.now) calls later
+AreEvents left rest (Expire now ∷ calls) events = (later : List Event) × (events ≡ step_events left (one.Expire now ∷ []) ++ later) × AreEvents left rest calls later
+AreEvents left rest (Restart ∷ calls) events = (later : List Event) × (events ≡ step_events left (one.Restart ∷ []) ++ later) × AreEvents (left_by_restart left) [] calls later
 
 -- the steps of the client among events
 abbrev pub steps_among : List Event → List (one.Step Asked)
 steps_among [] = []
 steps_among (Null ∷ events) = steps_among events
 steps_among (Came line ∷ events) = steps_among events
-steps_among (Went step ∷ events) = step ∷ steps_among events
+steps_among (Stepped step ∷ events) = step ∷ steps_among events
 
 -- the ids that aren't answered after a step: all of them if it is a restart, and else none
 abbrev pub left_by_step : one.Step Asked → List ℕ
@@ -82,14 +82,14 @@ abbrev pub left_among : List ℕ → List Event → List ℕ
 left_among left [] = left
 left_among left (Null ∷ events) = left_among left events
 left_among left (Came line ∷ events) = left_among (left_by left (heard line)) events
-left_among left (Went step ∷ events) = left_among (left_by_step step) events
+left_among left (Stepped step ∷ events) = left_among (left_by_step step) events
 
 -- no step of the client comes before all of the word is answered, at first and after each restart
 abbrev pub AreInTurn : List ℕ → List Event → Type 0
 AreInTurn left [] = Unit {0}
 AreInTurn left (Null ∷ events) = AreInTurn left events
 AreInTurn left (Came line ∷ events) = AreInTurn (left_by left (heard line)) events
-AreInTurn left (Went step ∷ events) = (left ≡ []) × AreInTurn (left_by_step step) events
+AreInTurn left (Stepped step ∷ events) = (left ≡ []) × AreInTurn (left_by_step step) events
 
 -- these calls are one list of events, and no other, each in its turn; and they bring the client to what its rule makes of the
 -- steps among those events

@@ -6,7 +6,7 @@ ghost use Rattle.geocom_c.specs.declared.header.TheConstants.{MORE};
 
 use crate::header::MORE;
 
-/// A fault or 0, and a count of bytes, targets, records or requests, as the call says.
+/// A fault or 0, and a count of bytes, targets, records or requests, as the call says: 0 after a fault.
 #[repr(C)]
 #[derive(Clone, Copy)]
 pub struct GeocomCount {
@@ -14,7 +14,8 @@ pub struct GeocomCount {
     pub count: u32,
 }
 
-/// A fault or 0, and the earliest deadline where `is_set` is 1.
+/// A fault or 0, and the earliest deadline, a moment by the caller's clock, where `is_set` is 1. Otherwise `is_set`
+/// and `deadline` are 0.
 #[repr(C)]
 #[derive(Clone, Copy)]
 pub struct GeocomDeadline {
@@ -23,7 +24,8 @@ pub struct GeocomDeadline {
     pub is_set: u32,
 }
 
-/// What a `geocom_client_begin` returns: a fault or 0, how many bytes of a line are to be sent, and how far the synchronization is.
+/// What `geocom_client_begin` returns: a fault or 0, how many bytes of a line are to be sent, and how far the synchronization is.
+/// After a fault all other fields are 0.
 #[repr(C)]
 #[derive(Clone, Copy)]
 pub struct GeocomBeginning {
@@ -36,10 +38,12 @@ pub struct GeocomBeginning {
     pub has_begun: u32,
 }
 
-/// What came of a feed: a fault or 0, how many bytes were used, what they ended, and how many requests that settled.
+/// What came of a feed: a fault or 0, how many bytes were used, what they ended, and how many requests that settled. After a fault all
+/// other fields are 0.
 #[repr(C)]
 #[derive(Clone, Copy)]
 pub struct GeocomHeard {
+    /// How many bytes were used: those through the first line feed, or all if there is none.
     pub used: usize,
     pub fault: u32,
     /// How many records were written.
@@ -93,7 +97,7 @@ pub(crate) fn unbegun(fault: u32) -> GeocomBeginning
     }
 }
 
-// Success of a feed whose bytes ended a frame of this kind, and which wrote `count` records. `line_fault` is the number of what is
+// Success of a feed of this kind (`MORE` to `OVERLONG`), which wrote `count` records. `line_fault` is the number of what is
 // wrong with the line, or 0. `used` is 0 here; `using` sets it.
 pub(crate) fn heard(kind: u32, line_fault: u32, count: u32) -> GeocomHeard
     ensures { result ≡ record { used = 0; fault = 0; count = count; kind = kind; line_fault = line_fault } }

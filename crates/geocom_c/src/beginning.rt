@@ -4,10 +4,10 @@
 ghost use Rattle.std.specs.Prelude.{◌≡◌, ◌≤◌, ℕ, List, length, drop};
 ghost use Rattle.gc_lines.specs.Frames.{rest_behind};
 ghost use Rattle.gc_client.specs.Beginning.{asks};
-ghost use Rattle.geocom_c.specs.Beginning.{given, given_if, left_behind, left_past, BeginFaultLeavesAll, GivesLine, HearsBytes, HearsFirst, IsGiven, KeepsUnended, TellsBegun};
+ghost use Rattle.geocom_c.specs.Beginning.{given, given_unless, left_by_bytes, left_past, BeginFaultLeavesAll, GivesLine, HearsBytes, HearsFirst, IsGiven, KeepsUnended, ReportsBegun};
 ghost use Rattle.gc_client.specs.Beginning.{the_word};
 ghost use Rattle.geocom_c.specs.Rest.{IsValid, IsRest, UsesBytes};
-ghost use Rattle.geocom_c.specs.Rooms.{KeepsLength, LeavesRest, TellsNoClient, TellsNoRoom};
+ghost use Rattle.geocom_c.specs.Rooms.{KeepsLength, KeepsAfter, ReportsNoClient, ReportsNoRoom};
 ghost use Rattle.geocom_c.specs.State.{IsClients};
 ghost use Rattle.geocom_c.specs.declared.header.TheConstants.{LINE_ROOM};
 
@@ -56,7 +56,7 @@ fn hear_line(rest: &mut GeocomRest, beginning: &mut Beginning, bytes: &[u8]) -> 
 fn hear_all(rest: &mut GeocomRest, beginning: &mut Beginning, bytes: &[u8])
     requires { IsValid rest.old }
     ensures { (r : List ℕ) → IsRest rest.old r
-        → IsRest rest.new (rest_behind r bytes.now) × (beginning.new ≡ left_behind beginning.old r bytes.now) }
+        → IsRest rest.new (rest_behind r bytes.now) × (beginning.new ≡ left_by_bytes beginning.old r bytes.now) }
 {
     let mut left = bytes;
     while !left.is_empty() {
@@ -65,12 +65,12 @@ fn hear_all(rest: &mut GeocomRest, beginning: &mut Beginning, bytes: &[u8])
     }
 }
 
-// Writes the line of the null procedure that is asked for, with CR LF, and returns its length: 0 once the client has
-// synchronized.
+// Writes the line of the null procedure that is asked for, with CR LF, and returns how many bytes these are. Once the client has
+// synchronized, it writes nothing and returns 0.
 fn ask(beginning: &Beginning, line: &mut [u8]) -> u32
     requires { LINE_ROOM ≤ length line.old }
     ensures asked { (told : GeocomBeginning) → told.count ≡ result → IsGiven (asks beginning.now) told line.new }
-    ensures untouched { LeavesRest result line.old line.new }
+    ensures untouched { KeepsAfter result line.old line.new }
     ensures length { KeepsLength line.old line.new }
 {
     match beginning.ask() {
@@ -83,12 +83,12 @@ fn ask(beginning: &Beginning, line: &mut [u8]) -> u32
     }
 }
 
-// Writes the line of the null procedure that is asked for, as `ask` does, unless its reply is still waited for: then nothing
-// is written.
-fn ask_if(is_waiting: bool, beginning: &Beginning, line: &mut [u8]) -> u32
+// Writes the line of the null procedure that is asked for, as `ask` does, unless its reply is still waited for: then it writes nothing
+// and returns 0.
+fn ask_unless(is_waiting: bool, beginning: &Beginning, line: &mut [u8]) -> u32
     requires { LINE_ROOM ≤ length line.old }
-    ensures asked { (told : GeocomBeginning) → told.count ≡ result → IsGiven (given_if is_waiting beginning.now) told line.new }
-    ensures untouched { LeavesRest result line.old line.new }
+    ensures asked { (told : GeocomBeginning) → told.count ≡ result → IsGiven (given_unless is_waiting beginning.now) told line.new }
+    ensures untouched { KeepsAfter result line.old line.new }
     ensures length { KeepsLength line.old line.new }
 {
     if is_waiting {
@@ -97,24 +97,25 @@ fn ask_if(is_waiting: bool, beginning: &Beginning, line: &mut [u8]) -> u32
     ask(beginning, line)
 }
 
-// Whether the null procedure that was sent is still waited for: bytes came, and answered none. `before` and `after` are how many null
-// procedures were answered before and after these bytes.
+// Whether the reply of the null procedure that is asked for is still waited for: bytes came, and answered none. `before` and `after` are
+// how many null procedures were answered before and after these bytes. Once all eight are, none is asked for, and any bytes give `true`.
 fn is_waiting(bytes: &[u8], before: u8, after: u8) -> bool
     requires before { before ≤ 8 }
     requires after { after ≤ 8 }
-    ensures { (given_if result (drop after the_word)) ≡ given bytes.now (drop before the_word) (drop after the_word) }
+    ensures { (given_unless result (drop after the_word)) ≡ given bytes.now (drop before the_word) (drop after the_word) }
 {
     !bytes.is_empty() && before == after
 }
 
-/// Begins: takes what came, and gives the line of the null procedure that is to be sent next, with CR LF: `count` bytes of
-/// `line`. Eight null procedures are asked, one after the other, with ids 6, 5, 4, 3, 2, 1, 0 and 7. A reply with the id of the
-/// one that is asked answers it, whatever its codes and parameters. All else that comes is discarded, so no old reply is taken
-/// for the answer to a later request. Once the eighth is answered, `has_begun` is 1, and requests are sent.
+/// Synchronizes: takes bytes that came, and writes the line of the null procedure that is to be sent next into `line`, with CR LF. These
+/// are `count` bytes; nothing is written after them. Eight null procedures are asked, one after the other, with ids 6, 5, 4, 3, 2, 1, 0
+/// and 7. A reply with the id of the one that is asked answers it, whatever its codes and parameters. All else that comes is discarded,
+/// so no old reply is taken for the answer to a later request. Once the eighth is answered, `has_begun` is 1, and requests can be sent.
 ///
-/// Call it without bytes for the first line, and again if nothing came in time: it gives the same line again. If bytes came,
-/// and answered nothing, `count` is 0: read on. All bytes are used; what comes after the eighth answer is discarded, too. Once
-/// the client has synchronized, the call gives no line, and discards what it is handed: then bytes go to `geocom_client_feed`.
+/// Call it without bytes for the first line, and again if nothing came in time: it writes the same line again. If bytes came that
+/// answered nothing, `count` is 0: read on. All bytes are used; the bytes of a line that hasn't ended are kept, and a line that ends
+/// after the eighth answer is discarded, too. Once the client has synchronized, the call writes no line, and discards each line that
+/// ends: then bytes go to `geocom_client_feed`.
 ///
 /// Faults: 62, `line` has fewer than 514 bytes; 63, the state is no client's. After a fault nothing has changed.
 #[unsafe(no_mangle)]
@@ -125,13 +126,13 @@ pub extern "C" fn geocom_client_begin(
 ) -> GeocomBeginning
     ensures heard { LINE_ROOM ≤ length line.old → HearsBytes bytes.now state.old state.new result.fault }
     ensures given { GivesLine bytes.now state.old state.new result line.new }
-    ensures begun { TellsBegun result state.new }
+    ensures begun { ReportsBegun result state.new }
     ensures answered { result.fault ≡ 0 → result.answered ≡ state.new.answered }
-    ensures room { TellsNoRoom line.old LINE_ROOM result.fault }
-    ensures astray { TellsNoClient line.old LINE_ROOM state.old result.fault }
+    ensures room { ReportsNoRoom line.old LINE_ROOM result.fault }
+    ensures astray { ReportsNoClient line.old LINE_ROOM state.old result.fault }
     ensures done { result.fault ≡ 0 → IsClients state.old }
     ensures refused { BeginFaultLeavesAll result state.old state.new line.old line.new }
-    ensures untouched { LeavesRest result.count line.old line.new }
+    ensures untouched { KeepsAfter result.count line.old line.new }
     ensures length { KeepsLength line.old line.new }
 {
     if line.len() < LINE_ROOM {
@@ -145,6 +146,6 @@ pub extern "C" fn geocom_client_begin(
     hear_all(&mut state.rest, &mut beginning, bytes);
     state.answered = beginning.answered() as u8;
     let waits = is_waiting(bytes, before, state.answered);
-    let count = ask_if(waits, &beginning, line);
+    let count = ask_unless(waits, &beginning, line);
     begun(count, state.answered)
 }

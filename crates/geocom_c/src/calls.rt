@@ -5,8 +5,8 @@ ghost use Rattle.gc_client.specs.Rule.{IsWidth};
 ghost use Rattle.gc_client.specs.Rule;
 ghost use Rattle.gc_client.specs.Beginning.{the_word};
 ghost use Rattle.geocom_c.specs.State.{StandsFor, IsAstray, IsClients, KeepsAnswered, left_of};
-ghost use Rattle.geocom_c.specs.Rooms.{FaultLeavesAll, FitsTheWindow, KeepsLength, LeavesRest, TellsNoClient, TellsNoRoom};
-ghost use Rattle.geocom_c.specs.Deadlines.{Expires, IsBlankIfUnset, TellsEarliest, TellsWaiting};
+ghost use Rattle.geocom_c.specs.Rooms.{FaultLeavesAll, FitsTheWindow, KeepsLength, KeepsAfter, ReportsNoClient, ReportsNoRoom};
+ghost use Rattle.geocom_c.specs.Deadlines.{Expires, IsBlankIfUnset, ReportsEarliest, ReportsWaiting};
 ghost use Rattle.geocom_c.specs.declared.header.TheConstants.{VERSION, NO_WIDTH, NO_CLIENT};
 ghost use Rattle.gc_client.specs.declared.window.TheConstants.{WINDOW};
 
@@ -50,14 +50,15 @@ pub extern "C" fn geocom_client_init(state: &mut GeocomClient, width: u8) -> u32
 fn put_targets(targets: &mut [u32], due: &[u32])
     requires { length due.now ≤ length targets.old }
     ensures targets { take (length due.now) targets.new ≡ due.now }
-    ensures untouched { LeavesRest (length due.now) targets.old targets.new }
+    ensures untouched { KeepsAfter (length due.now) targets.old targets.new }
     ensures length { KeepsLength targets.old targets.new }
 {
     targets[..due.len()].copy_from_slice(due);
 }
 
-/// Times out each request whose deadline is at most `now`, and writes the targets of those that hadn't timed out before to the
-/// front of `targets`: `count` of them, and nothing after these.
+/// Times out each request whose deadline is at most `now`, a moment by the caller's clock. The targets of those that hadn't timed out
+/// before are written to the front of `targets`, oldest request first: `count` of them, and nothing after these. A request that has timed
+/// out stays outstanding: its reply settles it as late.
 ///
 /// Faults: 62, `targets` has fewer than seven places; 63, the state is no client's. After a fault nothing has changed.
 #[unsafe(no_mangle)]
@@ -67,13 +68,13 @@ pub extern "C" fn geocom_client_expire(
     targets: &mut [u32],
 ) -> GeocomCount
     ensures expired { WINDOW ≤ length targets.old → Expires now state.old state.new result targets.new }
-    ensures room { TellsNoRoom targets.old WINDOW result.fault }
-    ensures astray { TellsNoClient targets.old WINDOW state.old result.fault }
+    ensures room { ReportsNoRoom targets.old WINDOW result.fault }
+    ensures astray { ReportsNoClient targets.old WINDOW state.old result.fault }
     ensures done { result.fault ≡ 0 → IsClients state.old }
     ensures refused { FaultLeavesAll result state.old state.new targets.old targets.new }
     ensures few { FitsTheWindow result.count }
     ensures answered { KeepsAnswered state.old state.new }
-    ensures untouched { LeavesRest result.count targets.old targets.new }
+    ensures untouched { KeepsAfter result.count targets.old targets.new }
     ensures length { KeepsLength targets.old targets.new }
 {
     if targets.len() < WINDOW {
@@ -89,12 +90,12 @@ pub extern "C" fn geocom_client_expire(
 }
 
 /// The earliest deadline of the outstanding requests that haven't timed out, if there is one; otherwise `is_set` and `deadline`
-/// are 0.
+/// are 0. It is a moment by the caller's clock.
 ///
-/// Fault 63: the state is no client's.
+/// Fault 63: the state is no client's. `is_set` and `deadline` are 0 then.
 #[unsafe(no_mangle)]
 pub extern "C" fn geocom_client_next_deadline(state: &GeocomClient) -> GeocomDeadline
-    ensures earliest { TellsEarliest state.now result }
+    ensures earliest { ReportsEarliest state.now result }
     ensures astray { (result.fault ≡ NO_CLIENT) ↔ IsAstray state.now }
     ensures done { result.fault ≡ 0 → IsClients state.now }
     ensures refused { result.fault ≢ 0 → result.is_set ≡ 0 }
@@ -118,10 +119,10 @@ pub extern "C" fn geocom_client_next_deadline(state: &GeocomClient) -> GeocomDea
 
 /// How many requests are outstanding, those that timed out included.
 ///
-/// Fault 63: the state is no client's.
+/// Fault 63: the state is no client's. The count is 0 then.
 #[unsafe(no_mangle)]
 pub extern "C" fn geocom_client_waiting(state: &GeocomClient) -> GeocomCount
-    ensures waiting { TellsWaiting state.now result }
+    ensures waiting { ReportsWaiting state.now result }
     ensures astray { (result.fault ≡ NO_CLIENT) ↔ IsAstray state.now }
     ensures done { result.fault ≡ 0 → IsClients state.now }
     ensures refused { result.fault ≢ 0 → result.count ≡ 0 }

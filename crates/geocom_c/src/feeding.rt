@@ -5,11 +5,11 @@ ghost use Rattle.gc_catalogue.specs.declared.asked.Asked.{Asked};
 ghost use Rattle.gc_client.specs.Rule.{Windowed};
 ghost use Rattle.gc_client.specs.Beginning.{the_word};
 ghost use Rattle.gc_client.specs.declared.window.TheConstants.{WINDOW};
-ghost use Rattle.geocom_c.specs.Beginning.{anew};
+ghost use Rattle.geocom_c.specs.Beginning.{left_by_restart};
 ghost use Rattle.geocom_c.specs.Rest.{IsValid, UsesBytes};
 ghost use Rattle.geocom_c.specs.State.{Becomes, IsAstray, IsClients, KeepsAnswered, StandsFor, left_of};
-ghost use Rattle.geocom_c.specs.Rooms.{FaultLeavesAll, FitsTheWindow, KeepsLength, LeavesRest, TellsNoClient, TellsNoRoom};
-ghost use Rattle.geocom_c.specs.Feeding.{FeedFaultLeavesState, FeedsFirst, FeedsUnended, HasRoom, IsFed, IsSilent, Restarts, behind};
+ghost use Rattle.geocom_c.specs.Rooms.{FaultLeavesAll, FitsTheWindow, KeepsLength, KeepsAfter, ReportsNoClient, ReportsNoRoom};
+ghost use Rattle.geocom_c.specs.Feeding.{FeedFaultLeavesState, FeedsFirst, FeedsUnended, HasRoom, IsFed, IsSilent, Restarts, client_past};
 ghost use Rattle.geocom_c.specs.declared.header.TheConstants.{NO_ROOM, NO_CLIENT};
 
 use crate::answers::{GeocomCount, GeocomHeard, counted, heard, refused, unheard, using};
@@ -31,8 +31,8 @@ fn has_room(settlements: &[GeocomSettlement], text: &[u8]) -> bool
     settlements.len() >= WINDOW && text.len() >= TEXT_ROOM
 }
 
-// Hands a line to the client, writes the text and a record for each request that the line settled, and returns what came of the
-// line.
+// Hands a line to `client`, which is the client of `state`, stores the client in `state`, and returns what came of the line, with 0 as
+// `used`. If the line settled requests, the text of the line is written, and a record for each of them; otherwise nothing is.
 fn hear(
     state: &mut GeocomClient,
     mut client: Client<SlotsOf<Asked>>,
@@ -42,9 +42,9 @@ fn hear(
 ) -> GeocomHeard
     requires { HasRoom settlements.old text.old }
     ensures fed { IsFed client (Frame.Line line.now) result settlements.new text.new }
-    ensures state { Becomes state.old state.new (behind client (Frame.Line line.now)) }
+    ensures state { Becomes state.old state.new (client_past client (Frame.Line line.now)) }
     ensures answered { KeepsAnswered state.old state.new }
-    ensures untouched { LeavesRest result.count settlements.old settlements.new }
+    ensures untouched { KeepsAfter result.count settlements.old settlements.new }
     ensures records { KeepsLength settlements.old settlements.new }
     ensures text { KeepsLength text.old text.new }
     ensures few { FitsTheWindow result.count }
@@ -64,7 +64,8 @@ fn hear(
     }
 }
 
-// Hands the client the line that a frame is, if it is one, and returns what came of the frame.
+// Hands the client the line that a frame is, if it is one, as `hear` does, and returns what came of the frame, with 0 as `used`. Any other
+// frame changes nothing.
 fn feed_frame(
     state: &mut GeocomClient,
     client: Client<SlotsOf<Asked>>,
@@ -74,9 +75,9 @@ fn feed_frame(
 ) -> GeocomHeard
     requires { HasRoom settlements.old text.old }
     ensures fed { IsFed client frame.now result settlements.new text.new }
-    ensures state { (rest : List ℕ) → StandsFor state.old client rest → StandsFor state.new (behind client frame.now) rest }
+    ensures state { (rest : List ℕ) → StandsFor state.old client rest → StandsFor state.new (client_past client frame.now) rest }
     ensures answered { KeepsAnswered state.old state.new }
-    ensures untouched { LeavesRest result.count settlements.old settlements.new }
+    ensures untouched { KeepsAfter result.count settlements.old settlements.new }
     ensures records { KeepsLength settlements.old settlements.new }
     ensures text { KeepsLength text.old text.new }
     ensures few { FitsTheWindow result.count }
@@ -90,7 +91,8 @@ fn feed_frame(
     }
 }
 
-// Takes bytes through the first line feed, and hands the client the frame that it ends. Without a line feed all bytes are kept.
+// Takes bytes through the first line feed, hands the client the frame that it ends, and returns what came of it. Without a line feed all
+// bytes are used and kept.
 fn feed(
     state: &mut GeocomClient,
     client: Client<SlotsOf<Asked>>,
@@ -105,7 +107,7 @@ fn feed(
     ensures fault { result.fault ≡ 0 }
     ensures answered { KeepsAnswered state.old state.new }
     ensures used { UsesBytes result.used bytes.now }
-    ensures untouched { LeavesRest result.count settlements.old settlements.new }
+    ensures untouched { KeepsAfter result.count settlements.old settlements.new }
     ensures records { KeepsLength settlements.old settlements.new }
     ensures text { KeepsLength text.old text.new }
     ensures few { FitsTheWindow result.count }
@@ -127,8 +129,11 @@ fn feed(
 /// Takes bytes as they come, through the first line feed, and writes a record for each request that the line settles.
 ///
 /// `used` says how many bytes were used: those through the first line feed, or all if there is none. If some are left, call
-/// again with these. A line settles at most seven requests. If it settles any, it is written to the front of `text`, with the
-/// items of its parameters after it; otherwise nothing is written. After the `count` records nothing is written.
+/// again with these. `kind` says what the bytes ended. A line settles at most seven requests; their records are in the order in which
+/// the requests were sent. If it settles any, it is written to the front of `text`, with the items of its parameters after it;
+/// otherwise nothing is written. After the `count` records nothing is written.
+///
+/// While the client synchronizes, no request is outstanding, and bytes belong to `geocom_client_begin`: here no reply settles anything.
 ///
 /// Faults: 62, `settlements` has fewer than seven places or `text` fewer than 1024 bytes; 63, the state is no client's.
 /// After a fault nothing has changed, and nothing was used.
@@ -150,7 +155,7 @@ pub extern "C" fn geocom_client_feed(
     ensures few { FitsTheWindow result.count }
     ensures silent { IsSilent result.count settlements.old settlements.new text.old text.new }
     ensures answered { KeepsAnswered state.old state.new }
-    ensures untouched { LeavesRest result.count settlements.old settlements.new }
+    ensures untouched { KeepsAfter result.count settlements.old settlements.new }
     ensures records { KeepsLength settlements.old settlements.new }
     ensures text { KeepsLength text.old text.new }
 {
@@ -164,8 +169,8 @@ pub extern "C" fn geocom_client_feed(
 }
 
 // How many null procedures count as answered after a restart: none if the client had synchronized, else those that were.
-fn answered_anew(answered: u8) -> u8
-    ensures left { drop result the_word ≡ anew (drop answered the_word) }
+fn answered_after_restart(answered: u8) -> u8
+    ensures left { drop result the_word ≡ left_by_restart (drop answered the_word) }
     ensures within { result ≤ 8 }
 {
     let has_begun = answered >= 8;
@@ -175,8 +180,8 @@ fn answered_anew(answered: u8) -> u8
     answered
 }
 
-/// Settles all outstanding requests as lost, in order, and writes a record for each: `count` of them, and nothing after these.
-/// The next id is 0, the bytes of a line that hasn't ended are discarded, and the width stays. A client that had synchronized
+/// Settles all outstanding requests as lost, in the order of sending, and writes a record for each: `count` of them, and nothing after
+/// these. The next id is 0, the bytes of a line that hasn't ended are discarded, and the width stays. A client that had synchronized
 /// has to synchronize again (`geocom_client_begin`). One that hadn't continues with the null procedure that it was at, so it
 /// may be restarted any number of times.
 ///
@@ -187,13 +192,13 @@ pub extern "C" fn geocom_client_restart(
     settlements: &mut [GeocomSettlement],
 ) -> GeocomCount
     ensures restarted { WINDOW ≤ length settlements.old → Restarts state.old state.new result settlements.new }
-    ensures begins { result.fault ≡ 0 → left_of state.new ≡ anew (left_of state.old) }
-    ensures room { TellsNoRoom settlements.old WINDOW result.fault }
-    ensures astray { TellsNoClient settlements.old WINDOW state.old result.fault }
+    ensures begins { result.fault ≡ 0 → left_of state.new ≡ left_by_restart (left_of state.old) }
+    ensures room { ReportsNoRoom settlements.old WINDOW result.fault }
+    ensures astray { ReportsNoClient settlements.old WINDOW state.old result.fault }
     ensures done { result.fault ≡ 0 → IsClients state.old }
     ensures refused { FaultLeavesAll result state.old state.new settlements.old settlements.new }
     ensures few { FitsTheWindow result.count }
-    ensures untouched { LeavesRest result.count settlements.old settlements.new }
+    ensures untouched { KeepsAfter result.count settlements.old settlements.new }
     ensures length { KeepsLength settlements.old settlements.new }
 {
     if settlements.len() < WINDOW {
@@ -204,7 +209,7 @@ pub extern "C" fn geocom_client_restart(
     };
     let settled = client.restart();
     state.rest = GeocomRest::new();
-    state.answered = answered_anew(state.answered);
+    state.answered = answered_after_restart(state.answered);
     store(state, client);
     put_lost(settlements, settled.as_slice());
     counted(settled.len() as u32)

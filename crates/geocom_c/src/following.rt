@@ -56,7 +56,8 @@ const VACANT: GeocomSettlement = GeocomSettlement {
     reading: NONE,
 };
 
-// Feeds bytes through the first line feed, and returns how many were used: all if there is none, or if the feed has a fault.
+// Feeds bytes through the first line feed, or all if there is none, and returns how many these are. If the feed has a fault, none is fed,
+// and all count as used.
 fn feed_line(state: &mut GeocomClient, bytes: &[u8]) -> usize
     ensures used { UsesBytes result bytes.now }
     ensures fed { FeedsBut bytes.now (drop result bytes.now) state.old state.new }
@@ -71,7 +72,7 @@ fn feed_line(state: &mut GeocomClient, bytes: &[u8]) -> usize
     heard.used
 }
 
-// Feeds bytes until all are used.
+// Feeds bytes until all are used. If the state is no client's, nothing changes.
 fn feed_all(state: &mut GeocomClient, bytes: &[u8])
     ensures fed { FeedsBytes bytes.now state.old state.new }
     ensures answered { KeepsAnswered state.old state.new }
@@ -83,7 +84,7 @@ fn feed_all(state: &mut GeocomClient, bytes: &[u8])
     }
 }
 
-// Makes the call that a step is, with ample room.
+// Makes the call that a step is, with ample room. What it returns and writes is dropped; a fault leaves the state as it is.
 fn call(state: &mut GeocomClient, step: &Step<'_>)
     ensures { (width : ℕ) (s : Stage) (steps : List Step) → IsAt width s state.old
         → Reached width s (step.now ∷ steps) state.new steps }
@@ -133,9 +134,10 @@ fn step_at<'a>(steps: &[Step<'a>], k: usize) -> Step<'a>
     steps[k]
 }
 
-/// Makes a client of this width, and then these calls, each with ample room. Whatever the calls are, the state stands for the
+/// Makes a client of this width, 1 to 7, and then these calls, each with ample room. Whatever the calls are, the state stands for the
 /// client that the rule makes of them, for the bytes that came since the last line feed, and for how far its synchronization
-/// came. What was settled, and after it the outstanding requests, are the sends that weren't refused, in order, each once.
+/// came. What was settled, and after it the outstanding requests, are the sends that weren't refused, in order, each once. With
+/// another width no client is made, and nothing is said of the state.
 pub fn follow(state: &mut GeocomClient, width: u8, steps: &[Step<'_>])
     ensures { IsWidth width → (t : Stage) × CallsReach width opened steps.now t × IsAt width t state.new × IsOneForOne t.reached }
 {

@@ -4,8 +4,8 @@ ghost use Rattle.geocom_c.specs.FieldWitness.{SomeCallsAreInField};
 ghost use Rattle.geocom_c.specs.Laws.{AnswersAreTheirOwn, CallsAreEvents, CallsAreSafe, FewKilledMayBegin, SimulatorsAnswersAreTheirOwn, SimulatorsCallsAreSafe};
 
 /// Any calls on a state are one list of events: the null procedures of a synchronization and the lines that arrive during it,
-/// and then the client's steps: a send whose parameters are a call's, each line that bytes end, a time, a restart. No step
-/// comes before the eighth answer. What `follow` reaches is what the client's rule makes of these steps.
+/// and then the client's steps: a send whose number and parameters are a call's or a raw call's, each line that bytes end, a
+/// time, a restart. No step comes before the eighth answer. What `follow` reaches is what the client's rule makes of these steps.
 pub fn calls_are_events()
     ensures { CallsAreEvents }
 {}
@@ -24,8 +24,8 @@ pub fn simulators_answers_are_their_own()
 {}
 
 /// What is sent is safe over an instrument that retains its own reply, or none, after every request, and over any instrument if
-/// no call sends a raw request. A request is also safe if one of the seven requests before it is a call of the table that a reply
-/// ended.
+/// no call sends a raw request. Otherwise the caller has to see to it: a request is safe, too, if one of the seven requests before
+/// it is a call of the table that a reply ended (`IsSafeRun`).
 pub fn calls_are_safe<State>()
     ensures { CallsAreSafe State }
 {}
@@ -42,8 +42,8 @@ pub fn few_killed_may_begin<State>()
     ensures { FewKilledMayBegin State }
 {}
 
-/// Some calls meet every premise of these laws: over an instrument that counts what it executes, with a request for any procedure
-/// that isn't in the table, and over the simulator.
+/// Some calls meet every premise of `answers_are_their_own`, over an instrument that counts what it executes and with a request for
+/// any procedure that isn't in the table; and some every premise of `simulators_answers_are_their_own`.
 pub fn some_calls_are_in_the_field()
     ensures { SomeCallsAreInField }
 {}

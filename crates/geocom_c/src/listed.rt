@@ -52,7 +52,8 @@ fn put_items(text: &mut ArrayVec<u8, TEXT_ROOM>, places: &mut [GeocomItem], item
     }
 }
 
-// Appends the items of parameters, if these are a list, and notes how many there are and where each is.
+// Appends the items of parameters, if these are a list of at most 16 items, and notes how many there are and where each is. Of
+// other parameters nothing is appended.
 fn list(told: &mut ListedLine, params: &[u8])
     requires { array_vec_len told.old.text + length params.now ≤ TEXT_ROOM }
     ensures front { IsExtended told.old.text.items told.new.text.items }
@@ -67,7 +68,8 @@ fn list(told: &mut ListedLine, params: &[u8])
     }
 }
 
-// The text of a line: the line, and the items of its parameters after it if it is a reply; otherwise no items.
+// The text of a line: the line, and after it the items of its parameters, if it is a reply whose parameters are a list of at most 16
+// items; otherwise no items.
 pub(crate) fn list_line(line: &Line) -> ListedLine
     ensures { IsTextOf result line.now.items }
 {

@@ -6,8 +6,8 @@ ghost use Rattle.gc_lines.specs.Requests.{request_text};
 ghost use Rattle.gc_catalogue.specs.declared.asked.Asked.TheVariants.{Raw};
 ghost use Rattle.gc_catalogue.specs.Raws.{IsRawRefusal};
 ghost use Rattle.geocom_c.specs.State.{KeepsAnswered};
-ghost use Rattle.geocom_c.specs.Rooms.{FaultLeavesAll, KeepsLength, LeavesRest, TellsNoClient, TellsNoRoom, WritesText};
-ghost use Rattle.geocom_c.specs.Sending.{IsRawOf, IsRefusalNumber, RefusesEach, RefusesUnbegun, SendsEach, TellsDone, TellsFull, TellsUnbegun, raw_number, sent_of};
+ghost use Rattle.geocom_c.specs.Rooms.{FaultLeavesAll, KeepsLength, KeepsAfter, ReportsNoClient, ReportsNoRoom, WritesText};
+ghost use Rattle.geocom_c.specs.Sending.{IsRawOf, IsRefusalNumber, RefusesEach, RefusesUnbegun, SendsEach, ReportsDone, ReportsFull, ReportsUnbegun, raw_number, send_effect};
 ghost use Rattle.geocom_c.specs.declared.header.TheConstants.{LINE_ROOM};
 
 use crate::answers::{GeocomCount, refused};
@@ -31,8 +31,8 @@ fn number_of(fault: RawFault) -> u32
     }
 }
 
-/// Sends a request for a procedure that isn't in the table, of a client that has synchronized, and writes its line with CR LF
-/// into `line`: `count` bytes, and nothing after these. The parameters are in the line exactly as they are given.
+/// Sends a request for a procedure that isn't in the table, as `geocom_client_send` sends one for a procedure of the table: `target`,
+/// `deadline`, `line` and `count` are as there. `params` is put into the line exactly as it is given.
 ///
 /// An instrument that doesn't know a procedure may refuse it and still retain its reply to an earlier request. Ids repeat after
 /// eight requests, so that old reply could answer a later request. With such an instrument let one of the seven requests before
@@ -52,20 +52,20 @@ pub extern "C" fn geocom_client_send_raw(
     line: &mut [u8],
 ) -> GeocomCount
     ensures sent { LINE_ROOM ≤ length line.old → SendsEach Raw (IsRawOf procedure params.now) target deadline
-        (sent_of state.old state.new line.old line.new result) }
+        (send_effect state.old state.new line.old line.new result) }
     ensures given { WritesText result line.new
         (with_end (request_text (record { rpc = procedure; id = Some state.old.next; params = params.now }))) }
     ensures raw { LINE_ROOM ≤ length line.old → RefusesEach (IsRawRefusal procedure params.now) raw_number state.old result.fault }
     ensures begins { LINE_ROOM ≤ length line.old → RefusesUnbegun state.old result.fault }
-    ensures begun { TellsUnbegun state.old result.fault }
-    ensures room { TellsNoRoom line.old LINE_ROOM result.fault }
-    ensures astray { TellsNoClient line.old LINE_ROOM state.old result.fault }
-    ensures full { TellsFull (IsRawOf procedure params.now) state.old result.fault }
-    ensures done { TellsDone (IsRawOf procedure params.now) state.old result.fault }
+    ensures begun { ReportsUnbegun state.old result.fault }
+    ensures room { ReportsNoRoom line.old LINE_ROOM result.fault }
+    ensures astray { ReportsNoClient line.old LINE_ROOM state.old result.fault }
+    ensures full { ReportsFull (IsRawOf procedure params.now) state.old result.fault }
+    ensures done { ReportsDone (IsRawOf procedure params.now) state.old result.fault }
     ensures refusal { IsRefusalNumber (IsRawRefusal procedure params.now) raw_number result.fault }
     ensures refused { FaultLeavesAll result state.old state.new line.old line.new }
     ensures answered { KeepsAnswered state.old state.new }
-    ensures untouched { LeavesRest result.count line.old line.new }
+    ensures untouched { KeepsAfter result.count line.old line.new }
     ensures length { KeepsLength line.old line.new }
 {
     if line.len() < LINE_ROOM {

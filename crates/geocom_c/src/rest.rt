@@ -4,7 +4,7 @@ ghost use Rattle.std.specs.Prelude.{◌≡◌, ◌≢◌, ◌≤◌, ◌↔◌, 
 ghost use Rattle.std.specs.List.{position};
 ghost use Rattle.gc_lines.specs.Frames.{is_line_feed};
 ghost use Rattle.geocom_c.specs.Rest.{IsValid, IsRest, UsesBytes, UsesFrame, UsesUnended};
-ghost use Rattle.geocom_c.specs.Rooms.{IsWritten, KeepsLength, LeavesRest};
+ghost use Rattle.geocom_c.specs.Rooms.{IsWritten, KeepsLength, KeepsAfter};
 
 use gc_lines::{Assembler, Frame};
 
@@ -40,8 +40,8 @@ impl GeocomRest {
         length <= KEPT && has_no_line_feed(&self.bytes[..length])
     }
 
-    // How many bytes a piece has through its first line feed, and the frame that this line feed ends: of the kept bytes, and these
-    // after them. Without a line feed: the length of the piece, and `More`.
+    // Returns how many bytes of a piece are used, those through its first line feed, and the frame that this line feed ends, of the kept
+    // bytes and then these. Without a line feed all bytes are used, and the frame is `More`.
     pub(crate) fn frame(&self, piece: &[u8]) -> (usize, Frame)
         requires { IsValid self.now }
         ensures used { UsesBytes result.0 piece.now }
@@ -78,18 +78,18 @@ fn has_no_line_feed(bytes: &[u8]) -> bool
     bytes.iter().all(|b| *b != b'\n')
 }
 
-/// Writes a text over the bytes from place `at` on.
+/// Writes a text over the bytes from place `at` on, counted from 0. There is room for all of it.
 pub(crate) fn put(bytes: &mut [u8], at: usize, text: &[u8])
     requires { at + length text.now ≤ length bytes.old }
     ensures text { IsWritten at text.now bytes.old bytes.new }
-    ensures untouched { LeavesRest (at + length text.now) bytes.old bytes.new }
+    ensures untouched { KeepsAfter (at + length text.now) bytes.old bytes.new }
     ensures length { KeepsLength bytes.old bytes.new }
     ensures fits { at + length text.now ≤ length bytes.new }
 {
     bytes[at..at + text.len()].copy_from_slice(text);
 }
 
-/// The bytes from place `at` on.
+/// The bytes from place `at` on, counted from 0. `at` is at most their number.
 pub(crate) fn bytes_from(bytes: &[u8], at: usize) -> &[u8]
     requires { at ≤ length bytes.now }
     ensures { result.now ≡ drop at bytes.now }

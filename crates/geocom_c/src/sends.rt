@@ -7,8 +7,8 @@ ghost use Rattle.gc_catalogue.specs.Asked.{asked_line};
 ghost use Rattle.gc_catalogue.specs.CallFault.{refusal_number};
 ghost use Rattle.gc_catalogue.specs.Calls.{IsCall, IsRefusal};
 ghost use Rattle.geocom_c.specs.State.{KeepsAnswered};
-ghost use Rattle.geocom_c.specs.Rooms.{FaultLeavesAll, KeepsLength, LeavesRest, TellsNoClient, TellsNoRoom, WritesText};
-ghost use Rattle.geocom_c.specs.Sending.{IsRefusalNumber, RefusesEach, RefusesUnbegun, SendsAsked, SendsEach, TellsDone, TellsFull, TellsUnbegun, sent_of};
+ghost use Rattle.geocom_c.specs.Rooms.{FaultLeavesAll, KeepsLength, KeepsAfter, ReportsNoClient, ReportsNoRoom, WritesText};
+ghost use Rattle.geocom_c.specs.Sending.{IsRefusalNumber, RefusesEach, RefusesUnbegun, SendsAsked, SendsEach, ReportsDone, ReportsFull, ReportsUnbegun, send_effect};
 ghost use Rattle.geocom_c.specs.declared.header.TheConstants.{LINE_ROOM, WINDOW_FULL};
 
 use crate::answers::{GeocomCount, counted, refused};
@@ -19,8 +19,9 @@ use gc_catalogue::{Asked, decode_call};
 use gc_client::{Client, SlotsOf};
 use gc_lines::Request;
 
-// Sends a request, writes its line with CR LF to the front of `line`, and returns how many bytes these are. If the window is
-// full, the fault is 31, and nothing has changed.
+// Sends a request of `client`, which is the client of `state`, for what `asked` says. Stores the client in `state`, writes the request's
+// line with CR LF to the front of `line`, and returns how many bytes these are. If the window is full, the fault is 31, and nothing has
+// changed.
 pub(crate) fn send_asked(
     state: &mut GeocomClient,
     mut client: Client<SlotsOf<Asked>>,
@@ -30,9 +31,9 @@ pub(crate) fn send_asked(
     line: &mut [u8],
 ) -> GeocomCount
     requires { LINE_ROOM ≤ length line.old }
-    ensures sent { SendsAsked client asked target deadline (sent_of state.old state.new line.old line.new result) }
+    ensures sent { SendsAsked client asked target deadline (send_effect state.old state.new line.old line.new result) }
     ensures given { WritesText result line.new (with_end (asked_line (Some client.ids.next) asked)) }
-    ensures untouched { LeavesRest result.count line.old line.new }
+    ensures untouched { KeepsAfter result.count line.old line.new }
     ensures length { KeepsLength line.old line.new }
     ensures answered { KeepsAnswered state.old state.new }
     ensures full { result.fault ≡ WINDOW_FULL → length client.ids.waiting ≡ client.width }
@@ -51,8 +52,12 @@ pub(crate) fn send_asked(
     }
 }
 
-/// Sends a request of a client that has synchronized, and writes its line with CR LF into `line`: `count` bytes, and nothing
-/// after these.
+/// Sends a request of a client that has synchronized: it is outstanding from now on, and its line is written into `line`, with CR LF,
+/// for the caller to write to the connection. These are `count` bytes; nothing is written after them.
+///
+/// `target` is any number of the caller's, which the settlement has. `deadline` is a moment by the caller's clock, in the unit in which
+/// `geocom_client_expire` gets moments. `params` is the text of the parameters, with commas between them, as `5000,1`; it is empty if
+/// the procedure has none.
 ///
 /// Faults: 62, `line` has fewer than 514 bytes; 63, the state is no client's; 67, the client hasn't synchronized; 21, no
 /// procedure has the number; 11 to 15, the parameters don't read; 31, as many requests wait as the width allows. After a fault
@@ -67,18 +72,18 @@ pub extern "C" fn geocom_client_send(
     line: &mut [u8],
 ) -> GeocomCount
     ensures sent { LINE_ROOM ≤ length line.old → SendsEach Table (IsCall procedure params.now) target deadline
-        (sent_of state.old state.new line.old line.new result) }
+        (send_effect state.old state.new line.old line.new result) }
     ensures call { LINE_ROOM ≤ length line.old → RefusesEach (IsRefusal procedure params.now) refusal_number state.old result.fault }
     ensures begins { LINE_ROOM ≤ length line.old → RefusesUnbegun state.old result.fault }
-    ensures begun { TellsUnbegun state.old result.fault }
-    ensures room { TellsNoRoom line.old LINE_ROOM result.fault }
-    ensures astray { TellsNoClient line.old LINE_ROOM state.old result.fault }
-    ensures full { TellsFull (IsCall procedure params.now) state.old result.fault }
-    ensures done { TellsDone (IsCall procedure params.now) state.old result.fault }
+    ensures begun { ReportsUnbegun state.old result.fault }
+    ensures room { ReportsNoRoom line.old LINE_ROOM result.fault }
+    ensures astray { ReportsNoClient line.old LINE_ROOM state.old result.fault }
+    ensures full { ReportsFull (IsCall procedure params.now) state.old result.fault }
+    ensures done { ReportsDone (IsCall procedure params.now) state.old result.fault }
     ensures refusal { IsRefusalNumber (IsRefusal procedure params.now) refusal_number result.fault }
     ensures refused { FaultLeavesAll result state.old state.new line.old line.new }
     ensures answered { KeepsAnswered state.old state.new }
-    ensures untouched { LeavesRest result.count line.old line.new }
+    ensures untouched { KeepsAfter result.count line.old line.new }
     ensures length { KeepsLength line.old line.new }
 {
     if line.len() < LINE_ROOM {

@@ -2,9 +2,9 @@
 
 ghost use Rattle.std.specs.Prelude.{◌≡◌, ◌≤◌, [], length};
 ghost use Rattle.gc_catalogue.specs.Asked.{IsAskedReading};
-ghost use Rattle.gc_client.specs.Settlements.{IsReadBy, settlement_seen};
-ghost use Rattle.geocom_c.specs.Rooms.{KeepsLength, LeavesRest};
-ghost use Rattle.geocom_c.specs.Settled.{AreLost, AreRead, AreRecords, IsKind, IsProcedureOf, IsRecord, IsTextOf, IsUnanswered, ListsAnswer, ListsAnswers, TellsReading};
+ghost use Rattle.gc_client.specs.Settlements.{AreReadBy, IsReadBy, settlement_seen};
+ghost use Rattle.geocom_c.specs.Rooms.{KeepsLength, KeepsAfter};
+ghost use Rattle.geocom_c.specs.Settled.{AreLost, AreRecords, IsKind, IsProcedureOf, IsRecord, IsTextOf, IsUnanswered, ListsAnswer, ListsAnswers, RecordsReading};
 
 use crate::header::{ANSWERED, COM_FAULT, LATE, LOST, NONE, REFUSED, UNREADABLE, VALUE};
 use crate::listed::{GeocomItem, ListedLine, NOWHERE};
@@ -24,9 +24,9 @@ pub struct GeocomSettlement {
     /// The return code of a refusal, the communication code of a fault of communication, or the number of what is wrong with
     /// the parameters; otherwise 0.
     pub code: u16,
-    /// How many bytes at the front of the text are the answer's line; 0 if there is no answer.
+    /// How many bytes at the front of the feed's text are the answer's line; 0 if there is no answer.
     pub line_length: u16,
-    /// How many items the answer's value has, or the parameters of an answer to a raw request.
+    /// How many items the answer's value has, or the parameters of an answer to a raw request; 0 for every other reading.
     pub items: u16,
     /// Where these items are in the text: the first `items` places.
     pub places: [GeocomItem; MOST_ITEMS],
@@ -76,7 +76,7 @@ fn answered(
     requires { IsTextOf told.now line.now.items }
     ensures target { result.target ≡ settlement.now.target }
     ensures procedure { IsProcedureOf result.procedure settlement.now.call }
-    ensures answered { TellsReading result told.now.text.items settlement.now.call line.now.items reading.now }
+    ensures answered { RecordsReading result told.now.text.items settlement.now.call line.now.items reading.now }
 {
     let (kind, code) = kind_of(reading);
     GeocomSettlement {
@@ -112,9 +112,9 @@ pub(crate) fn put_records(
 )
     requires room { length settled.now ≤ length records.old }
     requires told { ListsAnswers told.now settled.now }
-    requires read { AreRead settled.now }
+    requires read { AreReadBy IsAskedReading settled.now }
     ensures records { AreRecords told.now.text.items records.new settled.now }
-    ensures untouched { LeavesRest (length settled.now) records.old records.new }
+    ensures untouched { KeepsAfter (length settled.now) records.old records.new }
     ensures length { KeepsLength records.old records.new }
 {
     for k in 0..settled.len() {
@@ -127,7 +127,7 @@ pub(crate) fn put_lost(records: &mut [GeocomSettlement], settled: &[Settlement<A
     requires room { length settled.now ≤ length records.old }
     requires lost { AreLost settled.now }
     ensures records { AreRecords [] records.new settled.now }
-    ensures untouched { LeavesRest (length settled.now) records.old records.new }
+    ensures untouched { KeepsAfter (length settled.now) records.old records.new }
     ensures length { KeepsLength records.old records.new }
 {
     for k in 0..settled.len() {

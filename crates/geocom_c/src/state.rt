@@ -20,7 +20,7 @@ use gc_lines::{Line, Request, read_request};
 #[repr(C)]
 #[derive(Clone, Copy)]
 pub struct GeocomWaiting {
-    /// When it times out, by the caller's clock.
+    /// The moment at which it times out, by the caller's clock and in the caller's unit.
     pub deadline: u64,
     /// Whom it is for, as it was handed to `geocom_client_send` or `geocom_client_send_raw`.
     pub target: u32,
@@ -89,7 +89,8 @@ fn asked_of(request: &Request<'_>) -> Option<Asked>
     decode_asked(request)
 }
 
-// What a request line without an id asks for. `None`: the line is no such line.
+// What a request line without an id asks for. `None`: the line is no such line, or it asks for neither a call of the table nor a raw
+// call.
 fn asked_in(line: &[u8]) -> Option<Asked>
     ensures found { IfSome result (λ asked. IsLineOf line.now asked) }
     ensures only { (asked : Asked) → IsLineOf line.now asked → result ≡ Some asked }
@@ -100,7 +101,7 @@ fn asked_in(line: &[u8]) -> Option<Asked>
     }
 }
 
-// What a place's line asks for. `None`: the length is above 512, or the line is no request line without an id.
+// What a place's line asks for. `None`: the length is above 512, or the line is no request line without an id that asks for something.
 fn asked_at(place: &GeocomWaiting) -> Option<Asked>
     ensures within { IfSome result (λ _. place.now.length ≤ 512) }
     ensures found { IfSome result (λ asked. IsLineOf (take place.now.length place.now.line) asked) }
@@ -115,9 +116,9 @@ fn asked_at(place: &GeocomWaiting) -> Option<Asked>
 }
 
 // The flag that a byte stands for: 0 is `false` and 1 is `true`. `None`: any other byte.
-fn mark_of(byte: u8) -> Option<bool>
-    ensures found { IfSome result (λ mark. byte ≡ (if mark then 1 else 0)) }
-    ensures only { (mark : Bool) → byte ≡ (if mark then 1 else 0) → result ≡ Some mark }
+fn flag_of(byte: u8) -> Option<bool>
+    ensures found { IfSome result (λ flag. byte ≡ (if flag then 1 else 0)) }
+    ensures only { (flag : Bool) → byte ≡ (if flag then 1 else 0) → result ≡ Some flag }
 {
     match byte {
         0 => Some(false),
@@ -134,7 +135,7 @@ fn read_place(place: &GeocomWaiting) -> Option<Pending<Asked>>
     let Some(call) = asked_at(place) else {
         return None;
     };
-    let Some(given_up) = mark_of(place.given_up) else {
+    let Some(given_up) = flag_of(place.given_up) else {
         return None;
     };
     Some(Pending {
@@ -145,7 +146,7 @@ fn read_place(place: &GeocomWaiting) -> Option<Pending<Asked>>
     })
 }
 
-// The bytes of a line, and zeros after them, 512 bytes in all.
+// The bytes of a line, and after them zeros, of which the contract says nothing: 512 bytes in all.
 fn padded(line: &Line) -> [u8; 512]
     ensures { take (length line.now.items) result ≡ line.now.items }
 {
@@ -224,7 +225,7 @@ pub(crate) fn load(state: &GeocomClient) -> Option<Client<SlotsOf<Asked>>>
     Some(Client::resume(window, state.width, state.next))
 }
 
-// Writes a client into a state. The bytes of an incomplete line and the number of null procedures that are answered stay as they
+// Stores a client in a state. The bytes of an incomplete line and the number of null procedures that are answered stay as they
 // are.
 pub(crate) fn store(state: &mut GeocomClient, client: Client<SlotsOf<Asked>>)
     ensures client { Becomes state.old state.new client }

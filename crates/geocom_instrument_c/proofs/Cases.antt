@@ -1,24 +1,24 @@
--- What the code does in each case is what the definitions say.
+-- What the code does in each case is what the definitions say: a feed with and without a reply, and calls of an instrument that is there.
 use Rattle.std.proofs.Common.{◌≡◌, ℕ, Bool, true, false, List, [], ◌∷◌, ◌++◌, Option, Some, None, refl, sym, ap, ◌∙◌, subst}
 use Rattle.gc_lines.specs.Answering.{AppendsAnswer}
 use Rattle.gc_lines.specs.Lines.{with_end}
 use Rattle.gc_lines.specs.declared.frame.Frame.{Frame}
 use Rattle.gc_lines.specs.declared.frame.Frame.TheVariants.{Line}
-use Rattle.gc_scenes.specs.Slow.{SlowState, Hears, HearsFrame}
+use Rattle.gc_scenes.specs.Slow.{SlowState, HearsLine, HearsFrame}
 use Rattle.geocom_instrument_c.specs.Bench.{BenchState}
 use Rattle.geocom_instrument_c.specs.Feeding.{Answers, IsFed, IsFedTo, IsNothing, IsSent}
-use Rattle.geocom_instrument_c.specs.Setting.{IsAnew, IsRestarted}
+use Rattle.geocom_instrument_c.specs.Setting.{IsBenchRestarted, IsRestarted}
 use Rattle.geocom_instrument_c.specs.declared.replied.GeocomReplied.{GeocomReplied}
 
 -- if the instrument hears a line and has no reply, a result that says so (`IsNothing`) meets `Answers`
 pub unanswered : (s n : SlowState) (frame : Frame) (line old new : List ℕ) (now used : ℕ) (r : GeocomReplied) → frame ≡ Line (record { items = line })
-    → AppendsAnswer (Hears s line now n) old new false → IsNothing used r → Answers s frame now n used r
+    → AppendsAnswer (HearsLine s line now n) old new false → IsNothing used r → Answers s frame now n used r
 unanswered s n frame line old new now used r is heard nothing =
     subst (λ (f : Frame). Answers s f now n used r) (sym is) (record { text = None; hears = (None, heard.0, refl); says = nothing })
 
 -- if the instrument hears a line and has a reply, a result with that reply and its CR LF (`IsSent`) meets `Answers`
 pub answered : (s n : SlowState) (frame : Frame) (line old new sent : List ℕ) (now used : ℕ) (r : GeocomReplied) → frame ≡ Line (record { items = line })
-    → AppendsAnswer (Hears s line now n) old new true → old ≡ [] → sent ≡ new ++ 13 ∷ 10 ∷ [] → IsSent sent used n.free_from r → Answers s frame now n used r
+    → AppendsAnswer (HearsLine s line now n) old new true → old ≡ [] → sent ≡ new ++ 13 ∷ 10 ∷ [] → IsSent sent used n.free_from r → Answers s frame now n used r
 answered s n frame line old new sent now used r is heard empty ends told =
     let whole : sent ≡ with_end heard.0 = ends ∙ ap (λ (x : List ℕ). x ++ 13 ∷ 10 ∷ []) (heard.2 ∙ ap (λ (x : List ℕ). x ++ heard.0) empty) in
     subst (λ (f : Frame). Answers s f now n used r) (sym is)
@@ -31,9 +31,9 @@ fed o b n bytes now r is so = record {
   present = λ d e. let both : Some b ≡ Some d = sym is ∙ e in let same : b ≡ d = cc in (n, refl, subst (λ (x : BenchState). IsFedTo x bytes now n r) same so);
 }
 
--- if an instrument is there, what `IsAnew` says of it is what `IsRestarted` says, with no fault
-pub restarted : (o : Option BenchState) (b n : BenchState) → o ≡ Some b → IsAnew b n → IsRestarted o (Some n) 0
+-- if an instrument is there, what `IsBenchRestarted` says of it is what `IsRestarted` says, with no fault
+pub restarted : (o : Option BenchState) (b n : BenchState) → o ≡ Some b → IsBenchRestarted b n → IsRestarted o (Some n) 0
 restarted o b n is so = record {
   absent = λ none. let bad : Some b ≡ None = sym is ∙ none in cc;
-  present = λ d e. let both : Some b ≡ Some d = sym is ∙ e in let same : b ≡ d = cc in (n, refl, subst (λ (x : BenchState). IsAnew x n) same so, refl);
+  present = λ d e. let both : Some b ≡ Some d = sym is ∙ e in let same : b ≡ d = cc in (n, refl, subst (λ (x : BenchState). IsBenchRestarted x n) same so, refl);
 }

@@ -11,28 +11,28 @@ use Rattle.geocom_instrument_c.specs.declared.replied.GeocomReplied.{GeocomRepli
 
 -- there is no reply, and this many bytes were used
 pub record IsNothing (used : ℕ) (r : GeocomReplied) : Type 0 where
-  pub well : r.fault ≡ 0
-  pub used_are : r.used ≡ used
+  pub no_fault : r.fault ≡ 0
+  pub used_bytes : r.used ≡ used
   pub none : r.count ≡ 0
-  pub unset : r.due ≡ 0
+  pub not_due : r.due ≡ 0
 
 -- no instrument is there, and no byte was used
 pub record IsUnheard (r : GeocomReplied) : Type 0 where
   pub refused : r.fault ≡ NO_INSTRUMENT
-  pub used_are : r.used ≡ 0
+  pub used_bytes : r.used ≡ 0
   pub none : r.count ≡ 0
-  pub unset : r.due ≡ 0
+  pub not_due : r.due ≡ 0
 
 -- the text is the reply, which goes out at the moment `due`, and this many bytes were used
 pub record IsSent (text : List ℕ) (used due : ℕ) (r : GeocomReplied) : Type 0 where
-  pub well : r.fault ≡ 0
-  pub used_are : r.used ≡ used
+  pub no_fault : r.fault ≡ 0
+  pub used_bytes : r.used ≡ used
   pub counted : r.count ≡ length text
   pub reply : take r.count r.reply ≡ text
-  pub goes_out : r.due ≡ due
+  pub is_due : r.due ≡ due
 
 -- the result of a feed that used this many bytes: the text, if there is one, is the reply, which goes out at the moment `due`
-abbrev pub CarriesReply : Option (List ℕ) → ℕ → ℕ → GeocomReplied → Type 0
+abbrev pub CarriesReply : Option (List ℕ) → (used due : ℕ) → GeocomReplied → Type 0
 CarriesReply None used due r = IsNothing used r
 CarriesReply (Some text) used due r = IsSent text used due r
 
@@ -47,20 +47,21 @@ pub record Answers (before : SlowState) (frame : Frame) (now : ℕ) (after : Slo
 pub record IsKept (before : BenchState) (bytes : List ℕ) (after : BenchState) (r : GeocomReplied) : Type 0 where
   pub says : IsNothing (length bytes) r
   pub same : after.slow ≡ before.slow
-  pub more : (rest : List ℕ) → StandsFor before.under_way rest → StandsFor after.under_way (rest ++ bytes)
+  pub more : (rest : List ℕ) → StandsFor before.incomplete rest → StandsFor after.incomplete (rest ++ bytes)
 
 -- bytes whose first line feed is at this place: the instrument hears the frame that the line feed ends, at the moment `now`, and the
 -- result has its reply, if there is one. All bytes through the line feed were used, and no byte of a line is left
 pub record HearsFirstFrame (before : BenchState) (bytes : List ℕ) (at now : ℕ) (after : BenchState) (r : GeocomReplied) : Type 0 where
-  pub answers : (rest : List ℕ) → StandsFor before.under_way rest → Answers before.slow (frame_of (rest ++ take at bytes)) now after.slow (at + 1) r
-  pub start : StandsFor after.under_way []
+  pub answers : (rest : List ℕ) → StandsFor before.incomplete rest → Answers before.slow (frame_of (rest ++ take at bytes)) now after.slow (at + 1) r
+  pub start : StandsFor after.incomplete []
 
 -- bytes were fed to an instrument at the moment `now`: through the first line feed, or all if there is none
 pub record IsFedTo (before : BenchState) (bytes : List ℕ) (now : ℕ) (after : BenchState) (r : GeocomReplied) : Type 0 where
   pub none : position is_line_feed bytes ≡ None → IsKept before bytes after r
   pub some : (at : ℕ) → position is_line_feed bytes ≡ Some at → HearsFirstFrame before bytes at now after r
 
--- bytes were fed at the moment `now` where there may be no instrument: without one no byte was used, and the result says so
+-- bytes were fed at the moment `now` where there may be no instrument: without one no byte was used, and the result says so; with one
+-- they were fed to it (`IsFedTo`)
 pub record IsFed (before : Option BenchState) (bytes : List ℕ) (now : ℕ) (after : Option BenchState) (r : GeocomReplied) : Type 0 where
   pub absent : before ≡ None → (after ≡ None) × IsUnheard r
   pub present : (b : BenchState) → before ≡ Some b → (c : BenchState) × (after ≡ Some c) × IsFedTo b bytes now c r

@@ -11,14 +11,15 @@ use Rattle.geocom_instrument_c.specs.declared.header.TheConstants.{NO_INSTRUMENT
 use Rattle.geocom_instrument_c.specs.declared.replied.GeocomMade.{GeocomMade}
 
 -- the instrument is restarted, and no byte of a line is left
-pub record IsAnew (before after : BenchState) : Type 0 where
+pub record IsBenchRestarted (before after : BenchState) : Type 0 where
   pub slow : after.slow ≡ slow_restarted before.slow
-  pub start : StandsFor after.under_way []
+  pub start : StandsFor after.incomplete []
 
--- a restart where there may be no instrument: without one the fault is that there is none
+-- a restart where there may be no instrument: without one the fault is that there is none, and nothing has changed; with one the
+-- fault is 0, and it is restarted (`IsBenchRestarted`)
 pub record IsRestarted (before after : Option BenchState) (fault : ℕ) : Type 0 where
   pub absent : before ≡ None → (after ≡ None) × (fault ≡ NO_INSTRUMENT)
-  pub present : (b : BenchState) → before ≡ Some b → (c : BenchState) × (after ≡ Some c) × IsAnew b c × (fault ≡ 0)
+  pub present : (b : BenchState) → before ≡ Some b → (c : BenchState) × (after ≡ Some c) × IsBenchRestarted b c × (fault ≡ 0)
 
 -- the number of the scene's line that a fault names; 0 if it names none
 abbrev pub line_of : RunFault → ℕ
@@ -28,5 +29,5 @@ line_of other = 0
 -- the scene of this text was set up: the instrument is in its opening state, at the start of a stream. Or the scene was refused, by a
 -- fault of its text, and there is no instrument
 pub record IsSetUp (text : List ℕ) (after : Option BenchState) (r : GeocomMade) : Type 0 where
-  pub present : (b : BenchState) → after ≡ Some b → (r.fault ≡ 0) × (r.line ≡ 0) × IsTimedScene text b.slow × StandsFor b.under_way []
+  pub present : (b : BenchState) → after ≡ Some b → (r.fault ≡ 0) × (r.line ≡ 0) × IsTimedScene text b.slow × StandsFor b.incomplete []
   pub absent : after ≡ None → (e : RunFault) × TimedFault text e × (r.fault ≡ run_fault_number e) × (r.line ≡ line_of e)

@@ -1,11 +1,11 @@
-//! An instrument over bytes: that of a scene, and the bytes of an incomplete line. What a call does is here; `exports.rt` hands
-//! it to C.
+//! An instrument over bytes: that of a scene, and the bytes of an incomplete line. What a feed and a restart do is here, and what
+//! setting up does in `setting.rt`; `exports.rt` makes them callable from C.
 
 ghost use Rattle.std.specs.Prelude.{◌≡◌, [], None};
 ghost use Rattle.gc_lines.specs.Assembler.{StandsFor};
 ghost use Rattle.gc_lines.specs.Lent.{lent_seen};
 ghost use Rattle.geocom_instrument_c.specs.Feeding.{Answers, IsFed, IsFedTo};
-ghost use Rattle.geocom_instrument_c.specs.Setting.{IsRestarted, IsAnew};
+ghost use Rattle.geocom_instrument_c.specs.Setting.{IsRestarted, IsBenchRestarted};
 
 use crate::header::{NO_INSTRUMENT, REPLY_ROOM};
 use crate::replied::GeocomReplied;
@@ -26,14 +26,14 @@ impl Model for Bench {
 
     ghost Value = { BenchState };
 
-    ghost view = { λ b. record { slow = b.slow; under_way = b.assembler } };
+    ghost view = { λ b. record { slow = b.slow; incomplete = b.assembler } };
 }
 
 impl Bench {
     /// The instrument at the start of a stream.
     pub(crate) fn new(slow: SlowInstrument) -> Bench
         ensures slow { result.slow ≡ slow }
-        ensures start { StandsFor result.under_way [] }
+        ensures start { StandsFor result.incomplete [] }
     {
         Bench {
             slow,
@@ -41,8 +41,8 @@ impl Bench {
         }
     }
 
-    // Takes bytes that came at the moment `now`, through the first line feed, and gives the reply to the line that it ends, if there
-    // is one. Without a line feed all bytes are used, and there is no reply.
+    // Takes bytes that came at the moment `now`, in milliseconds, through the first line feed, and returns the reply to the line that it
+    // ends, if there is one. Without a line feed all bytes are used and kept, and there is no reply.
     fn feed(&mut self, bytes: &[u8], now: u64) -> GeocomReplied
         ensures { IsFedTo self.old bytes.now now self.new result }
     {
@@ -53,15 +53,15 @@ impl Bench {
 
     // Restarts the instrument, and discards the bytes of an incomplete line.
     fn restart(&mut self)
-        ensures { IsAnew self.old self.new }
+        ensures { IsBenchRestarted self.old self.new }
     {
         self.slow.restart();
         self.assembler = Assembler::new();
     }
 }
 
-// Hands the instrument a frame that came at the moment `now`, and gives its reply, if there is one, with CR LF. `used` is how many
-// bytes of the feed were used.
+// Passes the instrument the line that a frame is, if it is one, at the moment `now`, in milliseconds. Returns what the feed returns, which
+// used this many bytes (`used`): the instrument's reply with CR LF, if there is one, and when it goes out.
 fn answer(slow: &mut SlowInstrument, frame: Lent<'_>, now: u64, used: usize) -> GeocomReplied
     ensures { Answers slow.old (lent_seen frame.entry) now slow.new used result }
 {
@@ -76,7 +76,7 @@ fn answer(slow: &mut SlowInstrument, frame: Lent<'_>, now: u64, used: usize) -> 
     GeocomReplied::sent(used, text.as_slice(), slow.free_from())
 }
 
-/// An instrument over bytes. There is none where its scene was refused.
+/// An instrument over bytes, or none if its scene was refused.
 #[derive(Drop)]
 pub struct GeocomInstrument {
     pub(crate) bench: Option<Bench>,
@@ -99,8 +99,8 @@ impl GeocomInstrument {
         GeocomInstrument { bench: None }
     }
 
-    /// Takes bytes that came at the moment `now`, through the first line feed, and gives the reply to the line that it ends, if there
-    /// is one. Without an instrument no byte is used, and the result has the fault that there is none.
+    /// Takes bytes that came at the moment `now`, in milliseconds, through the first line feed, and returns the reply to the line that
+    /// it ends, if there is one. Without an instrument no byte is used, and the result has the fault that there is none.
     pub(crate) fn feed(&mut self, bytes: &[u8], now: u64) -> GeocomReplied
         ensures { IsFed self.old bytes.now now self.new result }
     {

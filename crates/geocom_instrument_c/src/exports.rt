@@ -1,4 +1,4 @@
-//! The calls for C: an instrument lies in memory of the caller's, at a pointer. What a call does with it is in `bench.rt` and
+//! The calls for C: an instrument is in memory of the caller's, at a pointer. What a call does with it is in `bench.rt` and
 //! `setting.rt`; only this file handles pointers.
 
 ghost use Rattle.std.specs.Borrow.{full_share, sem};
@@ -13,16 +13,18 @@ use crate::bench::GeocomInstrument;
 use crate::replied::{GeocomMade, GeocomReplied};
 use std::alloc::Global;
 
-/// How many bytes an instrument takes. They must be aligned to 16 bytes, as those that `malloc` returns are.
+/// How many bytes of memory an instrument needs. They must be aligned to 16 bytes, as those that `malloc` returns are.
 #[unsafe(no_mangle)]
 pub extern "C" fn geocom_instrument_size() -> usize {
     std::mem::size_of::<GeocomInstrument>()
 }
 
-/// Sets up the instrument of a scene's text in the room at `at`. The call takes memory while it reads, and gives it back.
+/// Sets up the instrument of a scene's text, in its opening state, in the memory at `at`: `geocom_instrument_size` bytes, aligned to 16
+/// bytes. The call allocates memory while it reads the scene, and frees it.
 ///
-/// Faults: 41, more targets, faults, replies or delays than an instrument has; 51, the scene's line number `line` doesn't read; 52,
-/// memory was refused; 53, more than 65,536 bytes. After a fault no instrument is there, and each call returns fault 69.
+/// Faults: 41, more targets, faults, replies or delays than an instrument can have; 51, the scene's line number `line`, counted from 1,
+/// can't be read; 52, memory was refused; 53, more than 65,536 bytes. After a fault no instrument is there, and `geocom_instrument_feed`
+/// and `geocom_instrument_restart` return fault 69.
 #[unsafe(no_mangle)]
 pub unsafe extern "C" fn geocom_instrument_init(
     alloc: Global,
@@ -36,10 +38,11 @@ pub unsafe extern "C" fn geocom_instrument_init(
     GeocomInstrument::set_up(&mut *(at as *mut GeocomInstrument), alloc, scene)
 }
 
-/// Takes bytes that came at the moment `now`, in milliseconds, through the first line feed, and gives the reply to the line that it
-/// ends, if there is one, with the moment at which it goes out. Call it again until all bytes are used.
+/// Takes bytes that came at the moment `now`, through the first line feed, and returns the reply to the line that it ends, if there is
+/// one, with the moment at which it goes out. Call it again with the bytes that are left until all are used. `at` points to an
+/// instrument that `geocom_instrument_init` wrote. Moments are milliseconds of the caller's clock, which never runs backwards.
 ///
-/// Fault 69: no instrument is there.
+/// Fault 69: no instrument is there. No byte was used, and there is no reply.
 #[unsafe(no_mangle)]
 pub unsafe extern "C" fn geocom_instrument_feed(
     at: *mut u8,
@@ -54,9 +57,10 @@ pub unsafe extern "C" fn geocom_instrument_feed(
 }
 
 /// Restarts the instrument, and discards the bytes of an incomplete line. The scene goes on: its counts, its targets and its
-/// noise stay. Returns 0.
+/// noise stay, and the instrument is busy for as long as before. `at` points to an instrument that `geocom_instrument_init` wrote.
+/// Returns 0.
 ///
-/// Fault 69: no instrument is there.
+/// Fault 69: no instrument is there; nothing has changed.
 #[unsafe(no_mangle)]
 pub unsafe extern "C" fn geocom_instrument_restart(at: *mut u8) -> u32
     ghost before: { Option BenchState }

@@ -1,4 +1,4 @@
-//! The numbers of the calls for an instrument that `library/include/geocom.h` has too. Those of the client are geocom_c's.
+//! The numbers of the calls for an instrument, which `library/include/geocom.h` has, too. Those of the client are geocom_c's.
 
 ghost use Rattle.std.specs.Prelude.{◌≡◌, ℕ};
 ghost use Rattle.gc_texts.specs.Faults.{run_fault_number};

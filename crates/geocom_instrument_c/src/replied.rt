@@ -1,11 +1,11 @@
-//! What the calls for an instrument answer.
+//! What the calls for an instrument return, in plain fields.
 
 ghost use Rattle.std.specs.Prelude.{◌≡◌, ◌≤◌, length};
 ghost use Rattle.geocom_instrument_c.specs.Feeding.{IsNothing, IsSent, IsUnheard};
 
 use crate::header::{NO_INSTRUMENT, REPLY_ROOM};
 
-/// What came of setting an instrument up.
+/// What `geocom_instrument_init` returns.
 #[repr(C)]
 #[derive(Clone, Copy)]
 pub struct GeocomMade {
@@ -15,13 +15,13 @@ pub struct GeocomMade {
     pub line: u32,
 }
 
-/// What came of a feed.
+/// What `geocom_instrument_feed` returns. After a fault all other fields are 0.
 #[repr(C)]
 #[derive(Clone, Copy)]
 pub struct GeocomReplied {
     /// How many bytes of the feed were used.
     pub used: usize,
-    /// The moment at which the reply goes out, in milliseconds; 0 if there is no reply.
+    /// The moment at which the reply goes out, in milliseconds of the caller's clock; 0 if there is no reply.
     pub due: u64,
     /// 0, or the fault that no instrument is there.
     pub fault: u32,
@@ -58,7 +58,8 @@ impl GeocomReplied {
         }
     }
 
-    /// The result of a feed that used this many bytes, and got this reply, which goes out at the moment `due`.
+    /// The result of a feed that used this many bytes, and got this reply of at most 514 bytes, with its CR LF, which goes out at the
+    /// moment `due`, in milliseconds.
     pub(crate) fn sent(used: usize, text: &[u8], due: u64) -> GeocomReplied
         requires { length text.now ≤ 514 }
         ensures { IsSent text.now used due result }

@@ -1,4 +1,4 @@
-//! A scene's text, set up.
+//! Setting up the instrument of a scene's text.
 
 ghost use Rattle.std.specs.Prelude.{◌≡◌};
 ghost use Rattle.geocom_instrument_c.specs.Setting.{IsSetUp, line_of};
@@ -11,7 +11,7 @@ use std::alloc::Global;
 
 impl GeocomInstrument {
     /// Sets up the instrument of a scene's text, in its opening state. If the scene is refused, no instrument is there afterwards, and
-    /// the result has the fault, and the scene's line that it names, if it names one.
+    /// the result has the fault, and the number of the scene's line that it names, from 1 on, or 0 if it names none.
     pub(crate) fn set_up(&mut self, alloc: Global, scene: &[u8]) -> GeocomMade
         ensures { IsSetUp scene.now self.new result }
     {

@@ -23,8 +23,9 @@ impl Player for Engines {
     }
 }
 
-// Runs a set-up, and compares what came with what the case expects. If the set-up gives no sizes of pieces, the input comes in other
-// pieces, too, and in which of these the run comes to something else (`differing`) is appended to how it ended.
+// Runs a set-up, and compares what came of it with what the case expects. If the set-up gives no sizes of pieces, the run is repeated with
+// the input in single bytes, and with `cuts each` cut in two at each place. If one of these runs comes to something else, the words of
+// `differing` are appended to how the run ended.
 fn play_setup(alloc: Global, case: &Case<'_>, setup: &Setup, wrong: &mut Told) {
     let whole = setup.run(alloc, setup.sizes.as_slice());
     let otherwise = if setup.sizes.is_empty() {
@@ -35,19 +36,19 @@ fn play_setup(alloc: Global, case: &Case<'_>, setup: &Setup, wrong: &mut Told) {
     whole.compare(alloc, case, otherwise, wrong);
 }
 
-/// In words, in which pieces the input comes to something else than `whole`, which it came to in one piece: in single bytes, or, if
-/// `is_each`, cut in two somewhere. Empty if in none.
+/// In which pieces the input comes to something else than in one piece, where it came to `whole`, in words that begin with a comma: in
+/// single bytes, or else, if `is_each`, cut in two at some place. Empty: in none of these.
 pub fn differing(alloc: Global, setup: &Setup, whole: &Came, is_each: bool) -> &'static str {
-    if !setup.is_same_single(alloc, whole) {
+    if !setup.is_same_in_single_bytes(alloc, whole) {
         return ", and otherwise in single bytes";
     }
-    if is_each && !setup.is_same_cut(alloc, whole) {
+    if is_each && !setup.is_same_cut_in_two(alloc, whole) {
         return ", and otherwise cut in two";
     }
     ""
 }
 
-/// Appends the size 1 for each byte of an input, so that it comes in single bytes.
+/// Appends the size 1 for each byte of an input, so that it comes in single bytes. `Err`: memory ran out, and some of them may be appended.
 pub fn push_single(sizes: &mut Vec<usize>, input: &[u8]) -> Result<(), AllocError> {
     for _ in input {
         sizes.push(1)?;

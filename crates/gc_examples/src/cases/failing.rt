@@ -31,14 +31,14 @@ impl Player for Failing {
     }
 }
 
-// Takes the set-up that a case says, with the input in single bytes.
+// Takes the set-up that a case says, with the input in single bytes after the sizes that the case names. `Err`: memory ran out.
 fn take_single(alloc: Global, case: &Case<'_>, setup: &mut Setup) -> Result<(), AllocError> {
     setup.take(alloc, case)?;
     push_single(&mut setup.sizes, setup.input.as_slice())
 }
 
-// Runs a set-up with its port failing at call k, for each k until a run ends well, and compares the groups of runs with those that
-// the case expects.
+// Runs a set-up with its port failing at call k, for each k from 0 until a run ends well, at most `MOST_CALLS` times, and compares the
+// groups of runs with those that the case expects.
 fn play_calls(alloc: Global, case: &Case<'_>, setup: &mut Setup, wrong: &mut Told) {
     let whole = setup.run(alloc, &[]);
     let mut groups = Groups::new(alloc);
@@ -51,8 +51,8 @@ fn play_calls(alloc: Global, case: &Case<'_>, setup: &mut Setup, wrong: &mut Tol
     groups.finish(alloc, case, wrong);
 }
 
-// Plays a run whose port fails at call k, adds it to the groups, and returns whether it went well. `whole` is what the run without a fault
-// came to.
+// Plays the run that is set up, whose port fails at call k, adds it to the groups, and returns whether it went well. `whole` is what the
+// run without a fault came to. Where a group ends that isn't what the case expects, a line is appended to `wrong`.
 fn play_call(
     alloc: Global,
     case: &Case<'_>,
@@ -80,26 +80,27 @@ fn append_output(came: &Came, whole: &Came, port: &str, k: u64, output: &mut Tol
     }
 }
 
-// Appends how a run with a failing call ended, and what it wrote (`output`). `place` is the run's place in its group, counted from 0.
+// Appends how a run with a failing call ended, and what it wrote (`output`). `place` is the run's place in its group, counted from 0: a
+// number of bytes that equals it is appended as `byte +`, so that the text is the same for each run of the group.
 fn append_call(end: &End, output: &Told, place: u64, text: &mut Told) {
-    text.told(&end.text);
+    text.append(&end.text);
     match end.bytes {
         Some(bytes) if bytes as u64 == place => text.text(" byte +"),
         Some(bytes) => text.titled(" byte ", &bytes),
         None => {}
     }
     text.text(": ");
-    text.told(output);
+    text.append(output);
 }
 
-// The last group of runs in a row that came to the same.
+// The groups of runs in a row that came to the same. Only the last one is kept: each earlier one was compared as it ended.
 #[derive(Drop)]
 struct Groups {
-    // How many groups were before it.
+    // How many groups have ended.
     before: usize,
-    // What each of its runs came to.
+    // What each run of the last group came to.
     text: Told,
-    // How many runs it has.
+    // How many runs the last group has. 0: there is no group yet.
     count: u64,
 }
 
@@ -147,15 +148,17 @@ impl Groups {
         }
     }
 
-    // Compares the group, how many runs it has and what they came to, with what the case has under the group's key.
+    // Compares the last group, how many runs it has and what they came to, with what the case has under the group's key. A sixth group has
+    // none, and is compared with the value under `?`.
     fn compare(&self, alloc: Global, case: &Case<'_>, wrong: &mut Told) {
         let mut told = Told::new(alloc);
         told.counted(&self.count, " calls: ");
-        told.told(&self.text);
+        told.append(&self.text);
         case.tell_told(KEYS.get(self.before).copied().unwrap_or("?"), &told, wrong);
     }
 
-    // Compares the last group, and then an empty text for each later key, so that no group which the case expects is missed.
+    // Ends the last group, and compares an empty text with the value under each later key, so that no group which the case expects is
+    // missed.
     fn finish(&mut self, alloc: Global, case: &Case<'_>, wrong: &mut Told) {
         self.close(alloc, case, wrong);
         for key in KEYS.iter().skip(self.before) {

@@ -34,7 +34,8 @@ impl Came {
         }
     }
 
-    /// Whether another run ended in the same way and wrote the same bytes, in however many writes.
+    /// Whether another run ended in the same way, and wrote and sent the same bytes, in however many writes. `false`, too, if memory ran
+    /// out for the text of how this one ended.
     pub fn is_same_as(&self, other: &Came) -> bool {
         self.end.is_same_as(&other.end)
             && self.output.bytes.as_slice() == other.output.bytes.as_slice()
@@ -51,8 +52,9 @@ impl Came {
         front.len() as u64 == count && self.output.bytes.starts_with(front)
     }
 
-    /// Compares how the run ended, what it wrote, and the sizes of its writes with what the case has under its keys. `otherwise`, in
-    /// which pieces of the input it came to something else, is appended to the end.
+    /// Compares how the run ended, what it wrote and what it sent with what the case has under `end`, `output` and `sent`, and, if the case
+    /// has `writes`, the sizes of its writes with that. `otherwise`, in which pieces of the input it came to something else, is appended to
+    /// how it ended.
     pub fn compare(&self, alloc: Global, case: &Case<'_>, otherwise: &str, wrong: &mut Told) {
         self.end.compare(alloc, case, otherwise, wrong);
         case.tell("output", self.output.bytes.as_slice(), wrong);
@@ -83,7 +85,7 @@ impl End {
         }
     }
 
-    /// Whether the run went well.
+    /// Whether the run went well; `false` before its end is stored.
     pub fn is_done(&self) -> bool {
         self.text.as_bytes().starts_with(b"done")
     }
@@ -95,10 +97,10 @@ impl End {
             && self.bytes == other.bytes
     }
 
-    // Compares the text, with the bytes if there are any, and `otherwise` after them, with the case's `end`.
+    // Compares the text, with the bytes if a write failed, and `otherwise` after them, with the case's `end`.
     fn compare(&self, alloc: Global, case: &Case<'_>, otherwise: &str, wrong: &mut Told) {
         let mut told = Told::new(alloc);
-        told.told(&self.text);
+        told.append(&self.text);
         if let Some(bytes) = self.bytes {
             told.titled(" byte ", &bytes);
         }
@@ -107,15 +109,15 @@ impl End {
     }
 
     // Stores the end of a run whose write failed: `replies` lines were written whole, and `bytes` bytes of the next.
-    fn fall_short(&mut self, replies: u64, bytes: usize) {
+    fn set_write_failed(&mut self, replies: u64, bytes: usize) {
         self.text.titled("fault 43 reply ", &replies);
         self.bytes = Some(bytes);
     }
 
-    /// Stores the end of a run of an engine that counts the lines that it writes.
+    /// Stores the end of a run of an engine that counts the lines that it writes, with the count. To be called once.
     pub fn set_served(&mut self, end: Result<Served, ServeFault>) {
         match end {
-            Err(ServeFault::Write { replies, bytes }) => self.fall_short(replies, bytes),
+            Err(ServeFault::Write { replies, bytes }) => self.set_write_failed(replies, bytes),
             Ok(Served { replies }) => self.text.titled("done ", &replies),
             Err(ServeFault::Read { replies }) => self.text.titled("fault 42 behind ", &replies),
             Err(ServeFault::TooManyReads { replies }) => {
@@ -124,11 +126,11 @@ impl End {
         }
     }
 
-    /// Stores the end of a run of an engine that doesn't count the lines that it writes.
+    /// Stores the end of a run of an engine that doesn't count the lines that it writes. To be called once.
     pub fn set_run(&mut self, end: Result<(), RunFault>) {
         match end {
             Ok(()) => self.text.text("done"),
-            Err(RunFault::Write { replies, bytes }) => self.fall_short(replies, bytes),
+            Err(RunFault::Write { replies, bytes }) => self.set_write_failed(replies, bytes),
             Err(fault) => self.text.display(&fault),
         }
     }

@@ -47,23 +47,24 @@ fn form_of(word: &str) -> Option<Form> {
     }
 }
 
-// Writes the record of a case; without a command, the head that is written before all records.
+// Appends the record of a case to `written`; for a case without a command, the head that is written before all records.
 fn write_case(alloc: Global, case: &Case<'_>, form: Form, written: &mut Told) {
     if case.has("command", "") {
         let _ = write_head(&mut ToWriter::new(written.writer()), form);
         return;
     }
     match bytes_of(alloc, case.value("name")) {
-        Ok(name) => write_named(alloc, case, form, name.as_slice(), written),
+        Ok(name) => write_with_name(alloc, case, form, name.as_slice(), written),
         Err(_) => written.lack(),
     }
 }
 
-// Writes the record of a case for a target of this name.
-fn write_named(alloc: Global, case: &Case<'_>, form: Form, name: &[u8], written: &mut Told) {
+// Appends the record of a case for a target of this name to `written`. If memory runs out for the reply, `written` notes that it lacks a
+// part.
+fn write_with_name(alloc: Global, case: &Case<'_>, form: Form, name: &[u8], written: &mut Told) {
     let command = command_of(alloc, case.value("command").as_bytes());
     match bytes_of(alloc, case.value("reply")) {
-        Ok(reply) => write_ending(
+        Ok(reply) => write_with_reply(
             case,
             form,
             name,
@@ -75,8 +76,9 @@ fn write_named(alloc: Global, case: &Case<'_>, form: Form, name: &[u8], written:
     }
 }
 
-// Writes the record of a command with this reply, for a target of this name, of which at most 64 bytes are used.
-fn write_ending(
+// Writes the record of a command with this reply, or with the ending that the case has under `ending`, for a target of this name, of which
+// the first 64 bytes are used.
+fn write_with_reply(
     case: &Case<'_>,
     form: Form,
     name: &[u8],
@@ -89,12 +91,13 @@ fn write_ending(
     let reading = reading_of(&command.call, &line);
     let zeroed = reading_as_zero(&command.call, &line);
     let ending = ending_of(case.value("ending"), &reading, &zeroed, &line);
+    // (always; `put_record` has to know it)
     if name.len() <= 64 {
         put_record(form, &when_of(case), name, command, ending, written);
     }
 }
 
-// Writes a record. A write that fails is ignored.
+// Writes a record. A write that fails is ignored: the record then lacks its end, which no case expects.
 fn put_record(
     form: Form,
     when: &When,
@@ -115,7 +118,8 @@ fn put_record(
     );
 }
 
-// The moments of a record: when its request was sent, if it was, and when its command ended.
+// The moments of a record, in milliseconds since 1970: when its run began, when its request was sent (none if the case's `sent` is no
+// number), and when its command ended; and its cycle and its turn.
 fn when_of(case: &Case<'_>) -> When {
     When {
         run: RUN_BEGIN,
@@ -130,7 +134,8 @@ fn when_of(case: &Case<'_>) -> When {
     }
 }
 
-// Which command of a station's text a record is of, and in which attempt: place 3 and the first attempt, where the case doesn't say.
+// Which command of a station's text a record is of, and in which attempt: place 3, counted from 0, and the first attempt, where the case
+// doesn't say.
 fn turn_of(case: &Case<'_>) -> Turn {
     Turn {
         place: size(case, "place", 3),
@@ -147,7 +152,7 @@ fn line_of(reply: &[u8]) -> Line {
     line
 }
 
-// The first command of a text; the null procedure where it gives none.
+// The first command of a station's text; the null procedure, asked of target 0, if the text has none or doesn't read.
 fn command_of(alloc: Global, text: &[u8]) -> Wish {
     let none = Wish {
         target: 0,
@@ -159,7 +164,7 @@ fn command_of(alloc: Global, text: &[u8]) -> Wish {
     }
 }
 
-// What a reply says of what was asked; a refusal with code 0 if the line is no reply.
+// What a reply's line says in answer to what was asked; a refusal with code 0 if the line is no reply.
 fn reading_of(asked: &Asked, line: &Line) -> Reading {
     let mut reading = Reading::Refused(0);
     if let Ok(reply) = read_reply(line.as_slice()) {
@@ -168,8 +173,8 @@ fn reading_of(asked: &Asked, line: &Line) -> Reading {
     reading
 }
 
-// How a command ended: as `word` says, or, if it says nothing, as its reply reads. `zeroed` is what the reply says if its return code
-// is taken as 0, as that of a reply is whose return code is accepted.
+// How a command ended: as `word` says, or, if it is none of these words, as its reply reads. `reading` is what the reply in `line` says,
+// and `zeroed` what it says if its return code is taken as 0, as an accepted return code is.
 fn ending_of<'a>(
     word: &str,
     reading: &'a Reading,
@@ -200,7 +205,7 @@ fn quality_of(reading: &Reading) -> Quality {
     }
 }
 
-// The answer in what a reply says. `None`: it is a refusal, or doesn't read.
+// The answer in what a reply says. `None`: it is a refusal or a communication fault, or its values don't read.
 fn answer_in(reading: &Reading) -> Option<&Answer> {
     match reading {
         Reading::Value(answer) => Some(answer),

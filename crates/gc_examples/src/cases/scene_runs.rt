@@ -12,8 +12,9 @@ use gc_texts::{RunFault, before, behind, number_of};
 use itoa::Buffer;
 use std::alloc::Global;
 
-// Writes the instrument's reply to a line, which may have a CR at its end. Returns whether there was a reply, and was written.
-fn answers_line(instrument: &mut SceneInstrument, line: &[u8], output: &mut Taking) -> bool {
+// Writes the instrument's reply to a line, which may have a CR at its end, with CR LF. Returns whether there is a reply and the output took
+// all of it.
+fn answer_line(instrument: &mut SceneInstrument, line: &[u8], output: &mut Taking) -> bool {
     let mut text = Outgoing::new();
     if !instrument.reply_onto(line.strip_suffix(b"\r").unwrap_or(line), &mut text) {
         return false;
@@ -31,7 +32,8 @@ fn without_instrument<T: Drop>(read: Result<T, RunFault>) -> Result<(), RunFault
 }
 
 impl Setup {
-    // Has the instrument of the scene, which has no rules, answer the requests of `source`.
+    // Has the instrument of the scene, which has no rules, answer the requests of `source`, and stores in `came` how the run ended: with
+    // the fault of the scene if it can't be read.
     pub(crate) fn serve(&self, alloc: Global, source: &mut PieceSource<'_>, came: &mut Came) {
         match read_scene(alloc, self.scene.as_slice()) {
             Ok(mut instrument) => {
@@ -42,8 +44,8 @@ impl Setup {
         }
     }
 
-    // Has the instrument of the scene, which has rules, answer the requests of `source`; if the case has moments, those of the input,
-    // each at its moment.
+    // Has the instrument of the scene, which has rules, answer the requests of `source`; if the case has moments, the lines of the input
+    // instead, each at its moment. Stores in `came` how the run ended: with the fault of the scene if it can't be read.
     pub(crate) fn serve_rules(&self, alloc: Global, source: &mut PieceSource<'_>, came: &mut Came) {
         match read_rule_scene(alloc, self.scene.as_slice()) {
             Ok(mut instrument) if self.moments.is_empty() => {
@@ -55,13 +57,14 @@ impl Setup {
         }
     }
 
-    // Has the instrument answer as many lines of the input as there are moments, each at its own moment.
+    // Has the instrument answer as many lines of the input as there are moments, each at its own, in milliseconds. The run always ends
+    // well, with the count of the replies that were written.
     fn serve_by_moments(&self, instrument: &mut SceneInstrument, came: &mut Came) {
         let mut left = self.input.as_slice();
         let mut replies = 0u64;
         for moment in self.moments.iter() {
             instrument.set_moment(*moment as u64);
-            if answers_line(instrument, before(b'\n', left), &mut came.output) {
+            if answer_line(instrument, before(b'\n', left), &mut came.output) {
                 replies = replies.saturating_add(1);
             }
             left = behind(b'\n', left);
@@ -69,8 +72,8 @@ impl Setup {
         came.end.set_served(Ok(Served { replies }));
     }
 
-    // Reads the input as a scene of the kind that the engine names, without rules for any other engine. The error is the fault of the
-    // input's text.
+    // Reads the input as a scene of the kind that the engine names, and as one without rules if it names none. `Err` is the fault with
+    // which the text is refused.
     pub(crate) fn read_input_scene(&self, alloc: Global) -> Result<(), RunFault> {
         let text = self.input.as_slice();
         match self.engine {
@@ -81,8 +84,8 @@ impl Setup {
         }
     }
 
-    // Gives the lines of the input to the scene's instrument, whose replies take time. A line begins with the moment at which it
-    // arrives, and a reply with the one at which it is sent.
+    // Gives the lines of the input to the scene's instrument, whose replies take time, as `serve_row` does. The run ends well, also where
+    // the output fails, or with the fault of the scene if it can't be read.
     pub(crate) fn serve_slow(&self, alloc: Global, came: &mut Came) {
         match read_timed_scene(alloc, self.scene.as_slice()) {
             Ok(mut slow) => {
@@ -96,8 +99,9 @@ impl Setup {
     }
 }
 
-// Gives an instrument the line of a row, which begins with its moment in milliseconds, and writes the moment at which the reply is
-// sent, and the reply. Without a reply nothing is written.
+// Gives an instrument the line of a row, which follows the moment of its arrival and a space, and writes the moment at which the reply is
+// sent, a space and the reply. Both are in milliseconds; the first is 0 if it is no number up to 4294967295. Without a reply nothing is
+// written.
 fn serve_row(slow: &mut SlowInstrument, row: &[u8], output: &mut Taking) {
     let at = number_of(before(b' ', row), 4_294_967_295).unwrap_or(0);
     let mut reply = Line::new();

@@ -7,7 +7,7 @@ use crate::cases::engines::push_single;
 use crate::cases::outcome::Came;
 use crate::cases::sink::Taking;
 use gc_ask::{Duplex, run_ask, run_loop_on};
-use gc_cases::{Case, input_of, number_or, push_all};
+use gc_cases::{Case, input_of, number_or, push_bytes_of};
 use gc_engines::{
     read_scene, read_still_scene, run_check, run_check_log, run_drill_on, run_drill_scene, run_exec,
 };
@@ -96,7 +96,7 @@ pub struct Setup {
     pub width: u64,
 }
 
-// The engine that a word names; `Engine::None` if it names none.
+// The engine that a word names; `Engine::None` if it names none. `totals` is a drill that prints its totals, which `take_numbers` sees.
 fn engine_of(word: &str) -> Engine {
     match word {
         "exec" => Engine::Exec,
@@ -127,8 +127,8 @@ pub(crate) fn size(case: &Case<'_>, key: &str, or: usize) -> usize {
     case.value(key).parse::<usize>().unwrap_or(or)
 }
 
-// Appends the sizes of a text, which has a space between two sizes. `N x M` stands for N times the size M. A word
-// that is no number is skipped.
+// Appends the sizes, or moments, of a text: numbers with a space between two, of which a word that is no number is skipped; or `N x M`, N
+// times the number M. `Err`: memory ran out, and some of them may be appended.
 fn push_sizes(sizes: &mut Vec<usize>, text: &str) -> Result<(), AllocError> {
     if let Some((times, size)) = text.split_once(" x ") {
         return push_times(sizes, times, size);
@@ -141,7 +141,7 @@ fn push_sizes(sizes: &mut Vec<usize>, text: &str) -> Result<(), AllocError> {
     Ok(())
 }
 
-// Appends the size that `size` writes as many times as `times` says. Each is 0 if it is no number.
+// Appends the size that `size` writes as many times as `times` says. Each is 0 if it is no number. `Err`: as `push_sizes`.
 fn push_times(sizes: &mut Vec<usize>, times: &str, size: &str) -> Result<(), AllocError> {
     let size = size.parse::<usize>().unwrap_or(0);
     for _ in 0..number_or(times, 0) {
@@ -151,7 +151,8 @@ fn push_times(sizes: &mut Vec<usize>, times: &str, size: &str) -> Result<(), All
 }
 
 impl Setup {
-    /// A run of an engine over an input, with ports that don't fail.
+    /// A run of an engine over an input, which comes in one piece, with ports that don't fail: a write of the output takes at most 5 bytes,
+    /// one of the link 1000. The link gives nothing, the scene is an empty text, and a drill prints its totals and has a window of 7.
     pub fn new(alloc: Global, engine: Engine, input: Vec<u8>) -> Setup {
         Setup {
             engine,
@@ -182,25 +183,27 @@ impl Setup {
         Setup::new(alloc, Engine::None, Vec::new(alloc))
     }
 
-    /// Sets the run up as a case says. The error is that memory ran out.
+    /// Sets up a run that is unset, as a case says. `Err`: memory ran out.
     pub fn take(&mut self, alloc: Global, case: &Case<'_>) -> Result<(), AllocError> {
         self.engine = engine_of(case.value("engine"));
         self.take_numbers(case);
         self.input = input_of(alloc, case)?;
-        self.take_bytes(case)
+        self.take_lists(case)
     }
 
-    // Takes from a case the sizes of the input's pieces, what the link gives and in which pieces, the moments, and the scene.
-    fn take_bytes(&mut self, case: &Case<'_>) -> Result<(), AllocError> {
+    // Takes from a case the sizes of the input's pieces, what the link gives and in which pieces, the moments, and the scene. `Err`: memory
+    // ran out.
+    fn take_lists(&mut self, case: &Case<'_>) -> Result<(), AllocError> {
         push_sizes(&mut self.sizes, case.value("sizes"))?;
-        push_all(&mut self.link, case.value("link"))?;
+        push_bytes_of(&mut self.link, case.value("link"))?;
         push_sizes(&mut self.link_sizes, case.value("link-sizes"))?;
         push_sizes(&mut self.moments, case.value("moments"))?;
-        push_all(&mut self.scene, case.value("scene"))
+        push_bytes_of(&mut self.scene, case.value("scene"))
     }
 
-    // Takes from a case how many reads are allowed, how many calls each port answers, how many bytes a write takes, and of a drill
-    // whether it prints totals, and its width.
+    // Takes from a case how many reads are allowed, how many calls of the input, the output and the client's link are answered, how many
+    // bytes a write takes, whether a drill prints its totals (the engine `totals`), and its width. Where the case has no number, it is that
+    // of `new`. How many calls of the instrument's ports are answered, only `fail_at` says.
     fn take_numbers(&mut self, case: &Case<'_>) {
         self.allowed = small_number(case, "allowed", u32::MAX);
         self.answers.input = case.number("reads", u64::MAX);
@@ -228,7 +231,7 @@ impl Setup {
         }
     }
 
-    // How many requests of a drill may be outstanding: 1 if the case says so, otherwise 7.
+    // How many requests of a drill may be outstanding: 1 if the case says so, and 7 for any other width.
     fn width(&self) -> u8
         ensures least { 1 ≤ result }
         ensures most { result ≤ WINDOW }
@@ -236,15 +239,15 @@ impl Setup {
         if self.width == 1 { 1 } else { 7 }
     }
 
-    /// Whether the input in single bytes comes to `whole`, which it came to in one piece; `false` if memory runs out.
-    pub fn is_same_single(&self, alloc: Global, whole: &Came) -> bool {
+    /// Whether the input in single bytes comes to `whole`, which it came to in one piece; `false`, too, if memory runs out for the sizes.
+    pub fn is_same_in_single_bytes(&self, alloc: Global, whole: &Came) -> bool {
         let mut ones = Vec::new(alloc);
         push_single(&mut ones, self.input.as_slice()).is_ok()
             && self.comes_to(alloc, ones.as_slice(), whole)
     }
 
     /// Whether the input, cut in two, comes to `whole` at each place of the cut.
-    pub fn is_same_cut(&self, alloc: Global, whole: &Came) -> bool {
+    pub fn is_same_cut_in_two(&self, alloc: Global, whole: &Came) -> bool {
         for place in 0..self.input.len() {
             if !self.comes_to(alloc, &[place], whole) {
                 return false;
@@ -253,12 +256,13 @@ impl Setup {
         true
     }
 
-    // Whether the input in pieces of these sizes comes to `whole`.
+    // Whether the input in pieces of these sizes comes to `whole`, as `Came::is_same_as` says.
     fn comes_to(&self, alloc: Global, sizes: &[usize], whole: &Came) -> bool {
         self.run(alloc, sizes).is_same_as(whole)
     }
 
-    /// Runs the engine over the input in pieces of these sizes, and returns how it ended and what it wrote.
+    /// Runs the engine over the input in pieces of these sizes, with what is behind the last one in as few pieces as the reads allow, and
+    /// returns how it ended, what it wrote and what it sent over the link.
     pub fn run(&self, alloc: Global, sizes: &[usize]) -> Came {
         let output = Taking::new(alloc, self.most, self.answers.output);
         let link = Taking::new(alloc, self.link_most, self.answers.link_out);
@@ -268,27 +272,28 @@ impl Setup {
         came
     }
 
-    // Runs the engine over this source, and stores in `came` how it ended and what it wrote: engines that read or serve a scene in
-    // scene_runs.rt, the other ones here.
+    // Runs the engine over this source, and stores in `came` how it ended, what it wrote and what it sent over the link. `Slow`, `Rules`
+    // with moments, and each engine that only reads a scene take the input as a whole, and nothing from the source. Without an engine
+    // the end is `no such engine`.
     fn run_on(&self, alloc: Global, source: &mut PieceSource<'_>, came: &mut Came) {
         match self.engine {
-            Engine::Exec | Engine::Check | Engine::CheckLog => self.answer(source, came),
+            Engine::Exec | Engine::Check | Engine::CheckLog => self.run_counting(source, came),
             Engine::Serve => self.serve(alloc, source, came),
             Engine::Rules => self.serve_rules(alloc, source, came),
             Engine::Slow => self.serve_slow(alloc, came),
             Engine::None => came.end.text.text("no such engine"),
-            _ => self.play(alloc, source, came),
+            _ => self.run_plain(alloc, source, came),
         }
     }
 
-    // Runs `exec`, `check` or `check` of a log, which count the lines that they write, and stores in `came` how it ended.
-    fn answer(&self, source: &mut PieceSource<'_>, came: &mut Came) {
-        let end = self.answer_to(source, &mut came.output);
+    // Runs `exec`, `check` or `check` of a log, which count the lines that they write, and stores in `came` how it ended, with the count.
+    fn run_counting(&self, source: &mut PieceSource<'_>, came: &mut Came) {
+        let end = self.run_counting_to(source, &mut came.output);
         came.end.set_served(end);
     }
 
-    // Runs `exec`, `check` or `check` of a log, and returns how it ended.
-    fn answer_to(
+    // Runs `exec`, `check` or, for any other engine, `check` of a log, and returns how it ended.
+    fn run_counting_to(
         &self,
         source: &mut PieceSource<'_>,
         output: &mut Taking,
@@ -301,13 +306,14 @@ impl Setup {
     }
 
     // Runs one of the engines that don't count the lines that they write, and stores in `came` how it ended.
-    fn play(&self, alloc: Global, source: &mut PieceSource<'_>, came: &mut Came) {
-        let end = self.play_to(alloc, source, &mut came.link, &mut came.output);
+    fn run_plain(&self, alloc: Global, source: &mut PieceSource<'_>, came: &mut Came) {
+        let end = self.run_plain_to(alloc, source, &mut came.link, &mut came.output);
         came.end.set_run(end);
     }
 
-    // Runs one of the engines that don't count the lines that they write, over this link and this output, and returns how it ended.
-    fn play_to(
+    // Runs one of the engines that don't count the lines that they write, over this link and this output, and returns how it ended. Any
+    // engine but `Drill`, `DrillRules`, `Ask` and `Loop` reads the input as a scene.
+    fn run_plain_to(
         &self,
         alloc: Global,
         source: &mut PieceSource<'_>,
@@ -323,7 +329,7 @@ impl Setup {
         }
     }
 
-    // Drills the input on the instrument of the scene, which has no rules.
+    // Drills the input on the instrument of the scene, which has no rules. `Err`: the fault of the scene, or of the drill.
     fn drill(
         &self,
         alloc: Global,
@@ -334,22 +340,18 @@ impl Setup {
         run_drill_on(alloc, instrument, source, output, self.totals, self.width())
     }
 
-    // Drills the input on the instrument of the scene, which has rules.
+    // Drills the input on the instrument of the scene, which has rules. `Err`: the fault of the scene, or of the drill.
     fn drill_rules(
         &self,
         alloc: Global,
         source: &mut PieceSource<'_>,
         output: &mut Taking,
     ) -> Result<(), RunFault> {
-        match read_still_scene(alloc, self.scene.as_slice()) {
-            Ok(instrument) => {
-                run_drill_scene(alloc, instrument, source, output, self.totals, self.width())
-            }
-            Err(fault) => Err(fault),
-        }
+        let instrument = read_still_scene(alloc, self.scene.as_slice())?;
+        run_drill_scene(alloc, instrument, source, output, self.totals, self.width())
     }
 
-    // Asks the commands of the input over a link that gives what the case says.
+    // Asks the commands of the input over a link that gives what the case says, whatever is sent to it. `Err`: as `run_ask` says.
     fn ask(
         &self,
         alloc: Global,
@@ -365,7 +367,7 @@ impl Setup {
         run_ask(alloc, source, &mut link_in, link, output, self.allowed)
     }
 
-    // Asks the commands of the input over two pipes, with the scene's instrument at their other end.
+    // Asks the commands of the input over two pipes, with the scene's instrument at their other end. `Err`: as `loop_over`.
     fn ask_in_a_loop(
         &self,
         alloc: Global,
@@ -377,7 +379,7 @@ impl Setup {
     }
 
     // Asks the commands of `source` over two pipes: the client writes to `up` and reads from `down`, and the scene's instrument does
-    // the reverse.
+    // the reverse. A write takes at least 1 byte, also if the case says 0. `Err`: the fault of the scene, or as `run_loop_on` says.
     fn loop_over(
         &self,
         alloc: Global,

@@ -9,7 +9,7 @@ use std::alloc::{AllocError, Global};
 const MOST_BYTES: usize = 514;
 
 /// These events, with deliveries of one byte in place of each delivery of a line: one for each byte of the line that isn't delivered
-/// yet, or one delivery if no line is in flight. `world` plays the events, to see how far a line is delivered.
+/// yet, or one delivery if no line is in flight. `world` plays the events, to see how far a line is delivered. `Err`: memory ran out.
 pub fn in_single_bytes(
     alloc: Global,
     world: &WorldRows,
@@ -20,7 +20,7 @@ pub fn in_single_bytes(
     Ok(pieces)
 }
 
-// Appends these events, each delivery in single bytes.
+// Appends these events, each delivery in single bytes. `Err`: memory ran out, and some of them may be appended.
 fn push_all(
     alloc: Global,
     world: &WorldRows,
@@ -33,7 +33,7 @@ fn push_all(
     Ok(())
 }
 
-// Appends an event: a delivery in single bytes, and any other event as it is.
+// Appends an event: a delivery of a line in single bytes, and any other event as it is. `Err`: as `push_all`.
 fn push_event(
     alloc: Global,
     world: &WorldRows,
@@ -41,20 +41,15 @@ fn push_event(
     pieces: &mut Vec<Event>,
 ) -> Result<(), AllocError> {
     match event {
-        Event::UpDeliver => deliver(alloc, world, Event::UpBytes(1), pieces),
-        Event::DownDeliver => deliver(alloc, world, Event::DownBytes(1), pieces),
-        _ => push(event, pieces),
+        Event::UpDeliver => push_deliveries(alloc, world, Event::UpBytes(1), pieces),
+        Event::DownDeliver => push_deliveries(alloc, world, Event::DownBytes(1), pieces),
+        _ => Ok(pieces.push(event)?),
     }
 }
 
-// Appends an event as it is.
-fn push(event: Event, pieces: &mut Vec<Event>) -> Result<(), AllocError> {
-    pieces.push(event)?;
-    Ok(())
-}
-
-// Appends `byte`, the delivery of one byte, until no line is half delivered in its direction, at most `MOST_BYTES` times.
-fn deliver(
+// Appends `byte`, the delivery of one byte in a direction: once, and again until no line is half delivered in this direction, at most
+// `MOST_BYTES` times in all. `Err`: as `push_all`.
+fn push_deliveries(
     alloc: Global,
     world: &WorldRows,
     byte: Event,
@@ -62,21 +57,21 @@ fn deliver(
 ) -> Result<(), AllocError> {
     for _ in 0..MOST_BYTES {
         pieces.push(byte)?;
-        if is_whole(alloc, world, pieces.as_slice(), byte)? {
+        if is_at_start(alloc, world, pieces.as_slice(), byte)? {
             break;
         }
     }
     Ok(())
 }
 
-// Whether after these events the direction of `byte` is at the start of a line. The error is that memory ran out.
-fn is_whole(
+// Whether after these events the direction of `byte`, the delivery of one byte, is at the start of a line. `Err`: memory ran out.
+fn is_at_start(
     alloc: Global,
     world: &WorldRows,
     events: &[Event],
     byte: Event,
 ) -> Result<bool, AllocError> {
-    let (report, _) = world.play(alloc, Slots::new(), events)?;
+    let (report, _) = world.play_events(alloc, Slots::new(), events)?;
     Ok(if byte == Event::UpBytes(1) {
         report.up.at_start()
     } else {

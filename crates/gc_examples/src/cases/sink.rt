@@ -5,12 +5,12 @@ ghost use Rattle.std.specs.Prelude.{None};
 use gc_lines::{PortFailed, Sink};
 use std::alloc::Global;
 
-/// Takes up to `most` bytes of each write, and fails after `answers` writes.
+/// Takes up to `most` bytes of each write, and fails after `answers` writes, or where memory runs out.
 #[derive(Drop)]
 pub struct Taking {
     /// What it took.
     pub bytes: Vec<u8>,
-    /// How many bytes came with each write, also of those that it didn't take.
+    /// How many bytes came with each write of which it took some, also those bytes that it didn't take.
     pub sizes: Vec<usize>,
     // The most bytes that it takes of a write.
     most: usize,
@@ -21,7 +21,7 @@ pub struct Taking {
 }
 
 impl Taking {
-    /// A sink that took nothing yet, and takes `most` bytes of each of `answers` writes.
+    /// A sink that took nothing yet, and takes at most `most` bytes of each of `answers` writes. It fails at the first write if one is 0.
     pub fn new(alloc: Global, most: usize, answers: u64) -> Taking {
         Taking {
             bytes: Vec::new(alloc),
@@ -33,8 +33,8 @@ impl Taking {
     }
 }
 
-// Appends the first `most` of these bytes to `kept`, and how many bytes came to `sizes`. Returns how many bytes were kept: 0 if memory
-// ran out.
+// Appends the first `most` of these bytes to `kept`, all if they are fewer, and how many they are in all to `sizes`. Returns how many were
+// appended to `kept`; 0 if memory ran out, also if it did so only for `sizes`.
 fn store(kept: &mut Vec<u8>, sizes: &mut Vec<usize>, most: usize, bytes: &[u8]) -> usize {
     let taken = bytes.get(..most).unwrap_or(bytes);
     let is_stored = kept.extend_from_slice(taken).is_ok();

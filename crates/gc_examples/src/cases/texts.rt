@@ -9,7 +9,7 @@ use gc_engines::read_schedule;
 use gc_lines::{Sink, ToWriter};
 use gc_links::place_of;
 use gc_texts::{
-    Command, LogBytes, LogLine, LogMark, RunFault, Task, Tasks, line_at, read_commands,
+    Codes, Command, LogBytes, LogLine, LogMark, RunFault, Task, Tasks, line_at, read_commands,
     read_log_line, read_tasks, trouble_of, write_log_line,
 };
 use gc_world::Event;
@@ -30,8 +30,8 @@ impl Player for Texts {
     }
 }
 
-// Compares what the text reads as with the case's value under `is`; and where the case has a value under `of`, which names a
-// target, also the name of that target. What differs goes to `wrong`.
+// Compares what comes of the text with the case's value under `is`; and where the case has a value under `of`, the number of a target, also
+// the name of that target with the value under `name`. What differs goes to `wrong`.
 fn play_text(alloc: Global, case: &Case<'_>, text: &[u8], wrong: &mut Told) {
     let mut came = Told::new(alloc);
     read(alloc, case, text, &mut came);
@@ -41,18 +41,20 @@ fn play_text(alloc: Global, case: &Case<'_>, text: &[u8], wrong: &mut Told) {
     }
 }
 
-// Appends what comes of a text that is read as the case's `as` says.
+// Appends what comes of a text, as the case's `as` says: its line with the number under `line`, counted from 1; what is printed of it as a
+// faulty line; the line that a log has of it; or the fault that it names. For any other word it is what `read_text` says.
 fn read(alloc: Global, case: &Case<'_>, text: &[u8], came: &mut Told) {
     match case.value("as") {
         "line" => came.bytes(line_at(text, small_number(case, "line", 0))),
-        "trouble" => tell_trouble(text, came),
+        "trouble" => append_trouble(text, came),
         "log" => write_as_log_line(text, came),
-        "fault" => print_fault(case, came),
+        "fault" => append_named_fault(case, came),
         word => read_text(alloc, word, case, text, came),
     }
 }
 
-// Appends what comes of a text that is read as this word says, which is none of those that `read` knows.
+// Appends what comes of a text that is read as this word says: as commands, a schedule, a station's tasks, the call of its first task, a
+// place, or a line of a log; for another word `no such text`.
 fn read_text(alloc: Global, word: &str, case: &Case<'_>, text: &[u8], came: &mut Told) {
     match word {
         "commands" => read_as_commands(alloc, text, came),
@@ -73,7 +75,7 @@ fn read_as_commands(alloc: Global, text: &[u8], came: &mut Told) {
     }
 }
 
-// Appends each command in a line: its target and its call.
+// Appends each command in a line: its target and its call, as `Debug` prints it.
 fn append_commands(commands: &[Command], came: &mut Told) {
     for command in commands {
         came.counted(&command.target, " ");
@@ -90,7 +92,7 @@ fn read_as_schedule(alloc: Global, text: &[u8], came: &mut Told) {
     }
 }
 
-// Appends each event in a line.
+// Appends each event in a line, as `Debug` prints it.
 fn append_events(events: &[Event], came: &mut Told) {
     for event in events {
         came.debug(event);
@@ -98,13 +100,14 @@ fn append_events(events: &[Event], came: &mut Told) {
     }
 }
 
-// Reads a station's text. Until a line says otherwise, its commands have the deadline and the mode that the case gives.
+// Reads a station's text. Until a line says otherwise, its commands have the case's `deadline` in milliseconds, 0 if it has none, and are
+// chained if its `mode` is `chained`. `Err`: the text is refused, or memory ran out.
 fn tasks_of(alloc: Global, case: &Case<'_>, text: &[u8]) -> Result<Tasks, RunFault> {
     let deadline = u64::from(small_number(case, "deadline", 0));
     read_tasks(alloc, text, deadline, case.has("mode", "chained"))
 }
 
-// Reads a station's text, and appends each of its tasks in a line, and how many names there are; or the fault.
+// Reads a station's text, and appends its tasks as `append_tasks` does; or the fault.
 fn read_as_tasks(alloc: Global, case: &Case<'_>, text: &[u8], came: &mut Told) {
     match tasks_of(alloc, case, text) {
         Ok(all) => append_tasks(case, &all, came),
@@ -112,14 +115,14 @@ fn read_as_tasks(alloc: Global, case: &Case<'_>, text: &[u8], came: &mut Told) {
     }
 }
 
-// Appends each task in a line, and then how many names there are. If the case says `turns told`, each task's turn is appended, too, and
-// how many tasks the setup has.
+// Appends each task in a line, and then how many targets have names. If the case says `turns told`, each line has the task's turn, too, and
+// at the end is how many tasks the setup has.
 fn append_tasks(case: &Case<'_>, all: &Tasks, came: &mut Told) {
     let turns = case.has("turns", "told");
     for task in all.tasks.as_slice() {
         append_task(task, came);
         append_near(task, came);
-        append_accepted(task, came);
+        append_codes(" accepting ", &task.accepted, came);
         if turns {
             append_turn(task, came);
         }
@@ -131,23 +134,19 @@ fn append_tasks(case: &Case<'_>, all: &Tasks, came: &mut Told) {
     }
 }
 
-// Appends a task's turn: its place, its attempt and its link; how many other tasks this attempt and those after it have; the rule by
-// which it is asked again; and whether it sets the clock.
+// Appends a task's turn: its place, its attempt and its link; its `others`, how many tasks this attempt and those after it have together;
+// after which return codes and other outcomes it is asked again; and whether it sets the clock.
 fn append_turn(task: &Task, came: &mut Told) {
     came.titled(" place ", &task.turn.place);
     came.titled(" attempt ", &task.turn.attempt);
     came.titled(" link ", &task.turn.link);
     came.titled(" others ", &task.others);
-    for code in &task.again.codes.codes {
-        if *code != 0 {
-            came.titled(" again ", code);
-        }
-    }
+    append_codes(" again ", &task.again.codes, came);
     append_outcomes(task, came);
     came.either(task.now, " now", "");
 }
 
-// Appends the outcomes after which a task is asked again.
+// Appends the outcomes, other than return codes, after which a task is asked again.
 fn append_outcomes(task: &Task, came: &mut Told) {
     came.either(task.again.unreadable, " unreadable", "");
     came.either(task.again.elsewhere, " elsewhere", "");
@@ -156,19 +155,25 @@ fn append_outcomes(task: &Task, came: &mut Told) {
     came.either(task.again.skipped, " skipped", "");
 }
 
-// Appends what the first task of a text asks for if it is sent at the moment under `utc`, in milliseconds since 1970; or `no task`, or the
-// fault.
+// Reads a station's text, and appends what its first task asks for if it is sent at the case's `utc`, in milliseconds since 1970, 0 if it
+// has none; or `no task`, or the fault.
 fn read_as_call(alloc: Global, case: &Case<'_>, text: &[u8], came: &mut Told) {
     match tasks_of(alloc, case, text) {
-        Ok(all) => match all.tasks.as_slice().first() {
-            Some(task) => came.debug(&task.call_at(case.number("utc", 0))),
-            None => came.text("no task"),
-        },
+        Ok(all) => append_call(all.tasks.as_slice(), case.number("utc", 0), came),
         Err(fault) => came.display(&fault),
     }
 }
 
-// Appends the target, the procedure and the deadline of a task, and whether it is chained.
+// Appends what the first of these tasks asks for if it is sent at the moment `utc`, in milliseconds since 1970; or `no task`.
+fn append_call(tasks: &[Task], utc: u64, came: &mut Told) {
+    match tasks.first() {
+        Some(task) => came.debug(&task.call_at(utc)),
+        None => came.text("no task"),
+    }
+}
+
+// Appends the target of a task, the number of its procedure, with the parameters if it isn't in the table, its deadline in milliseconds,
+// and whether it is chained.
 fn append_task(task: &Task, came: &mut Told) {
     came.display(&task.command.target);
     came.titled(" ", &task.command.call.number());
@@ -177,7 +182,7 @@ fn append_task(task: &Task, came: &mut Told) {
     came.either(task.chained, " chained", "");
 }
 
-// Appends the parameters of a procedure that isn't in the table, in brackets.
+// Appends the parameters of a procedure that isn't in the table, in brackets; for a call of the table nothing.
 fn append_raw(asked: &Asked, came: &mut Told) {
     if let Asked::Raw(raw) = asked {
         came.text(" [");
@@ -186,7 +191,8 @@ fn append_raw(asked: &Asked, came: &mut Told) {
     }
 }
 
-// Appends where the target of a task is, and the tolerance, if the text says them.
+// Appends where the target of a task is, its horizontal and its vertical angle, and the tolerance, all in radians; nothing if the text
+// doesn't say them.
 fn append_near(task: &Task, came: &mut Told) {
     if let Some(near) = task.near {
         came.titled(" near ", &near.place.hz);
@@ -195,38 +201,40 @@ fn append_near(task: &Task, came: &mut Told) {
     }
 }
 
-// Appends the return codes that a task accepts beside 0.
-fn append_accepted(task: &Task, came: &mut Told) {
-    for code in &task.accepted.codes {
+// Appends each of these return codes, with `title` before it. A 0 stands for no code.
+fn append_codes(title: &str, codes: &Codes, came: &mut Told) {
+    for code in &codes.codes {
         if *code != 0 {
-            came.titled(" accepting ", code);
+            came.titled(title, code);
         }
     }
 }
 
-// Compares the name of the target whose number is under `of` with the case's `name`.
+// Reads a station's text, and compares the name of the target whose number is under `of` with the case's `name`; where the text doesn't
+// read, its fault.
 fn compare_name(alloc: Global, case: &Case<'_>, text: &[u8], wrong: &mut Told) {
     let mut name = Told::new(alloc);
-    name_of(alloc, case, text, &mut name);
+    append_name(alloc, case, text, &mut name);
     case.tell_told("name", &name, wrong);
 }
 
-// Appends the name of the target whose number is under `of` to `name`, or the fault of the text.
-fn name_of(alloc: Global, case: &Case<'_>, text: &[u8], name: &mut Told) {
+// Reads a station's text, and appends to `name` the name of the target whose number is under `of`, nothing if it has none; or the fault of
+// the text.
+fn append_name(alloc: Global, case: &Case<'_>, text: &[u8], name: &mut Told) {
     match tasks_of(alloc, case, text) {
         Ok(all) => name.bytes(all.name_of(small_number(case, "of", 0))),
         Err(fault) => name.display(&fault),
     }
 }
 
-// Appends what the program prints of a faulty line of a text, as if it were the text's third line.
-fn tell_trouble(line: &[u8], came: &mut Told) {
+// Appends what the program prints of a faulty line of a station's text, as if it were the text's third line.
+fn append_trouble(line: &[u8], came: &mut Told) {
     if trouble_of(line).tell(3, came.writer()).is_err() {
         came.lack();
     }
 }
 
-// Appends the place of a link that a word names, or `none`.
+// Appends the place of a link that a word names, as `Debug` prints it, or `none` if it names none or isn't UTF-8.
 fn read_as_place(word: &[u8], came: &mut Told) {
     match place_of(str::from_utf8(word).unwrap_or("no text")) {
         Some(place) => came.debug(&place),
@@ -234,7 +242,7 @@ fn read_as_place(word: &[u8], came: &mut Told) {
     }
 }
 
-// Appends a line of a log as its moment, its mark and its bytes, or `no log line`.
+// Reads a line of a log, and appends its moment, its mark and its bytes, or `no log line`.
 fn read_as_log_line(line: &[u8], came: &mut Told) {
     match read_log_line(line) {
         Some(line) => append_log_line(&line, came),
@@ -242,7 +250,7 @@ fn read_as_log_line(line: &[u8], came: &mut Told) {
     }
 }
 
-// Appends the moment, the mark and the bytes of a line of a log, with spaces between.
+// Appends the moment, the mark and the bytes of a line of a log, with spaces between, as a value of a case spells them.
 fn append_log_line(line: &LogLine<'_>, came: &mut Told) {
     came.escaped(line.moment);
     came.text(" ");
@@ -251,14 +259,15 @@ fn append_log_line(line: &LogLine<'_>, came: &mut Told) {
     came.escaped(line.bytes.as_slice());
 }
 
-// Appends the line that a log has of this text, as `put_log` writes it, or `not written`.
+// Appends the line that a log has of this text, as `put_log` writes it; and `not written` if memory runs out for it.
 fn write_as_log_line(text: &[u8], came: &mut Told) {
-    if put_log(text, came.writer()) {
+    if !put_log(text, came.writer()) {
         came.text("not written");
     }
 }
 
-// Writes the line that a log has of this text, as sent one second after the beginning of 1970. Returns `true` if the write failed.
+// Writes the line that a log has of the first 514 bytes of this text, as sent one second after the beginning of 1970. Returns whether
+// all of it could be written.
 fn put_log(text: &[u8], written: &mut Vec<u8>) -> bool {
     let mut bytes = LogBytes::new();
     for byte in text {
@@ -266,18 +275,18 @@ fn put_log(text: &[u8], written: &mut Vec<u8>) -> bool {
     }
     let mut sink = ToWriter::new(written);
     let _ = write_log_line(&mut sink, 1000, LogMark::Went, &bytes);
-    sink.has_failed()
+    !sink.has_failed()
 }
 
-// Appends the fault that the case's text names, as `append_fault` does, or `no such fault`.
-fn print_fault(case: &Case<'_>, came: &mut Told) {
+// Appends the fault that the case names under `text`, as `append_fault` does, or `no such fault`.
+fn append_named_fault(case: &Case<'_>, came: &mut Told) {
     match fault_of(case) {
         Some(fault) => append_fault(fault, came),
         None => came.text("no such fault"),
     }
 }
 
-// Appends a fault's number, what `Display` prints of it, and the line that `tell` writes.
+// Appends a fault's number and what `Display` prints of it, each with a line feed, and the line that `tell` writes.
 fn append_fault(fault: RunFault, came: &mut Told) {
     came.counted(&fault.number(), "\n");
     came.counted(&fault, "\n");
@@ -286,7 +295,8 @@ fn append_fault(fault: RunFault, came: &mut Told) {
     }
 }
 
-// The fault that a case's text names, with its numbers. `None`: there is no such fault.
+// The fault that a case names under `text`, with the numbers under `replies` and `bytes`, or under `line`; each is 0 if the case has none.
+// `None`: there is no such fault.
 fn fault_of(case: &Case<'_>) -> Option<RunFault> {
     Some(match case.value("text") {
         "Write" => RunFault::Write {
@@ -311,6 +321,7 @@ fn plain_fault_of(word: &str) -> Option<RunFault> {
         "Clock" => RunFault::Clock,
         "Stale" => RunFault::Stale,
         "SetUp" => RunFault::SetUp,
+        "NoCommand" => RunFault::NoCommand,
         "Memory" => RunFault::Memory,
         "InputTooLong" => RunFault::InputTooLong,
         "Socket" => RunFault::Socket,

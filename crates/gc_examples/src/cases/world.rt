@@ -19,14 +19,14 @@ use std::{fs, io};
 pub struct WorldRows {
     // The events, as the text of a schedule.
     text: Told,
-    // How many requests may be outstanding, as the case says it.
+    // How many requests may be outstanding, as the case says it. The method `width` takes 7 for what isn't 1 to 6.
     width: u8,
-    // The precision of the simulator, in digits after the decimal point.
+    // The precision of the simulator, in digits after the decimal point, as the case says it. `instrument` says which ones count.
     precision: i16,
 }
 
 impl WorldRows {
-    /// A world without events.
+    /// A world without events, with a window of 7 requests and a simulator with a precision of 15 digits.
     pub fn new(alloc: Global) -> WorldRows {
         WorldRows {
             text: Told::new(alloc),
@@ -43,7 +43,7 @@ impl WorldRows {
         self.text.text("\n");
     }
 
-    // The simulator with this precision.
+    // The simulator with the case's precision; with its own where it refuses that one, because it isn't 0 to 15.
     fn instrument(&self) -> Instrument {
         let mut instrument = Instrument::simulator();
         let _ = instrument.execute(&Call::SetPrecision(self.precision));
@@ -61,8 +61,8 @@ impl WorldRows {
         }
     }
 
-    /// The report and the client to which events lead over this window. The error is that memory ran out.
-    pub fn play<W: Window<Asked = Call>>(
+    /// The report and the client to which these events lead over this window, with the case's width and precision. `Err`: memory ran out.
+    pub fn play_events<W: Window<Asked = Call>>(
         &self,
         alloc: Global,
         window: W,
@@ -79,24 +79,31 @@ impl WorldRows {
         events: &[Event],
         came: &mut Told,
     ) {
-        match self.play(alloc, window, events) {
+        match self.play_events(alloc, window, events) {
             Ok((report, client)) => append_report(&report, &client, came),
             Err(_) => came.lack(),
         }
     }
 
-    // Appends what events lead to over places; and what they lead to over a ring, and with each delivery in single bytes, if that
-    // differs.
+    // Appends what events lead to over places, as `append_report` has it; and what they lead to over a ring, and with each delivery in
+    // single bytes, where that differs.
     fn append_end(&self, alloc: Global, events: &[Event], came: &mut Told) {
         let mut told = Told::new(alloc);
         self.append_over(alloc, Slots::new(), events, &mut told);
-        came.told(&told);
-        self.append_ring(alloc, events, &told, came);
-        self.append_pieces(alloc, events, &told, came);
+        came.append(&told);
+        self.append_ring_difference(alloc, events, &told, came);
+        self.append_pieces_difference(alloc, events, &told, came);
     }
 
-    // Appends what events lead to over a ring, if that isn't `told`, what they lead to over places.
-    fn append_ring(&self, alloc: Global, events: &[Event], told: &Told, came: &mut Told) {
+    // Appends what events lead to over a ring, if that isn't `told`, what they lead to over places. If memory runs out, `came` notes that
+    // it lacks a part.
+    fn append_ring_difference(
+        &self,
+        alloc: Global,
+        events: &[Event],
+        told: &Told,
+        came: &mut Told,
+    ) {
         match Ring::new(alloc) {
             Ok(ring) => self.append_difference(
                 alloc,
@@ -111,7 +118,14 @@ impl WorldRows {
     }
 
     // Appends what events lead to with each delivery in single bytes, if that isn't `told`, what they lead to with deliveries of lines.
-    fn append_pieces(&self, alloc: Global, events: &[Event], told: &Told, came: &mut Told) {
+    // If memory runs out, `came` notes that it lacks a part.
+    fn append_pieces_difference(
+        &self,
+        alloc: Global,
+        events: &[Event],
+        told: &Told,
+        came: &mut Told,
+    ) {
         match in_single_bytes(alloc, self, events) {
             Ok(pieces) => self.append_difference(
                 alloc,
@@ -125,7 +139,7 @@ impl WorldRows {
         }
     }
 
-    // Appends the words `way` and what these events lead to over this window, if that isn't `told`.
+    // Appends the words `way` and what these events lead to over this window, if that isn't `told`, or memory ran out for it.
     fn append_difference<W: Window<Asked = Call>>(
         &self,
         alloc: Global,
@@ -139,50 +153,54 @@ impl WorldRows {
         self.append_over(alloc, window, events, &mut other);
         if other.is_lacking() || other.as_bytes() != told.as_bytes() {
             came.text(way);
-            came.told(&other);
+            came.append(&other);
         }
     }
 
-    // Plays events, and appends the part of their report that `word` asks for.
-    fn ask(&self, alloc: Global, word: &str, events: &[Event], came: &mut Told) {
-        match self.play(alloc, Slots::new(), events) {
+    // Plays events over places, and appends the part of their report that `word` asks for. If memory runs out, `came` notes that it lacks
+    // a part.
+    fn append_played_part(&self, alloc: Global, word: &str, events: &[Event], came: &mut Told) {
+        match self.play_events(alloc, Slots::new(), events) {
             Ok((report, _)) => append_part(&report, word, came),
             Err(_) => came.lack(),
         }
     }
 
     // Plays the events so far, and appends all that they lead to if `word` is `end`, otherwise the part of their report that it asks
-    // for.
+    // for; or `no schedule` if their lines don't read as one. If memory ran out for a line, `came` notes that it lacks a part.
     fn append_end_or_part(&self, alloc: Global, word: &str, came: &mut Told) {
         if self.text.is_lacking() {
             came.lack();
         }
         match read_schedule(alloc, self.text.as_bytes()) {
             Ok(events) if word == "end" => self.append_end(alloc, events.as_slice(), came),
-            Ok(events) => self.ask(alloc, word, events.as_slice(), came),
+            Ok(events) => self.append_played_part(alloc, word, events.as_slice(), came),
             Err(_) => came.text("no schedule"),
         }
     }
 }
 
-// Appends the part of a report that a word asks for: `executed`, `starts`, `kept`, or `lines`, which is any other word.
+// Appends the part of a report that a word asks for: `executed`, the numbers of the executed requests; `starts`, how many were executed
+// before each restart of the instrument; `kept`, the id of the instrument's stored reply; and for `lines`, or any other word, whether each
+// direction is at the start of a line.
 fn append_part(report: &Report, word: &str, came: &mut Told) {
     match word {
         "executed" => came.debug(&report.executed.as_slice()),
         "starts" => came.debug(&report.starts.as_slice()),
         "kept" => came.debug(&report.instrument.kept_id()),
-        _ => append_starts(report, came),
+        _ => append_at_start(report, came),
     }
 }
 
 // Appends whether each direction is at the start of a line.
-fn append_starts(report: &Report, came: &mut Told) {
+fn append_at_start(report: &Report, came: &mut Told) {
     came.titled("at start: up ", &report.up.at_start());
     came.titled(", down ", &report.down.at_start());
 }
 
 impl Rows for WorldRows {
-    // Adds an event, sets the width or the precision, or appends what the events so far lead to.
+    // Adds an event, sets the width (7 if `what` is no number up to 255) or the precision (15 if it is no number up to 32767), or appends
+    // what the events so far lead to; or appends that the word is unknown.
     fn play(&mut self, alloc: Global, word: &str, what: &str, _bytes: &[u8], came: &mut Told) {
         match word {
             "send" | "up" | "down" | "expire" | "restart" => self.add_event(word, what),
@@ -196,7 +214,7 @@ impl Rows for WorldRows {
     }
 }
 
-// Appends the settlements, each with its number, the counts, how many requests are outstanding, and the next id.
+// Appends the settlements, each with its number, the counts of the report, how many requests the client has outstanding, and its next id.
 fn append_report<W: Window<Asked = Call>>(report: &Report, client: &Client<W>, came: &mut Told) {
     append_settled(report.settled.as_slice(), came);
     append_made(report, came);
@@ -205,7 +223,7 @@ fn append_report<W: Window<Asked = Call>>(report: &Report, client: &Client<W>, c
     came.titled(" wait, next ", &client.next_id());
 }
 
-// Appends each settlement: its number, its target and its outcome.
+// Appends each settlement: its number, counted from 0, its target and its outcome.
 fn append_settled(settled: &[Settlement<Call>], came: &mut Told) {
     for (m, settlement) in settled.iter().enumerate() {
         came.counted(&m, " ");
@@ -245,7 +263,7 @@ fn append_refused(report: &Report, came: &mut Told) {
 pub struct World;
 
 impl Player for World {
-    // Plays the rows of a case, after the events of the schedule that it names.
+    // Plays the rows of a case, after the events of the schedule that it names under `schedule`, if it names one.
     fn play(&self, rt: &HostRuntime, case: &Case<'_>, wrong: &mut Told) -> io::Result<()> {
         let mut world = WorldRows::new(rt.alloc());
         add_events(rt, case.value("schedule"), &mut world.text);
@@ -254,7 +272,8 @@ impl Player for World {
     }
 }
 
-// Adds the lines of the schedule that a case begins with to `text`, if the case names one; `name` is empty if it doesn't.
+// Adds the lines of the schedule in the file of this name to `text`, as `read_events` does; nothing if the name is empty, as it is where
+// a case names no schedule.
 fn add_events(rt: &HostRuntime, name: &str, text: &mut Told) {
     if !name.is_empty() {
         read_events(rt, name, text);

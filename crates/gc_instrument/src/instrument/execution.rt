@@ -16,9 +16,10 @@ impl Instrument {
     ghost use Rattle.gc_catalogue.specs.declared.call.Call.TheVariants.{SetPrecision, SetDate, SetStation, SetHeight, GetAngle, SimpleMea, QuickDist, SetPrism, MeasDistance};
     ghost use Rattle.gc_catalogue.specs.declared.answer.Answer.TheVariants.{Nothing, Name, Place, Angles, Measured, MeasuredMode};
 
-    /// Carries out a call, and returns the return code and the answer. The code is 0, 2 for a value that
-    /// isn't allowed, 1285 if no distance is known, or 8710 if no target is found; with a code other than
-    /// 0 the answer is `Answer::Nothing`. Values are stored with all their places, whatever the precision.
+    /// Carries out a call, and returns the return code and the answer. The code is 0, 2 for a value that isn't allowed, 1285 if no
+    /// distance is known, or 8710 if no target is found. With a code other than 0 the answer is `Answer::Nothing`, and nothing changes,
+    /// except that a measurement that met no target has cleared the distance. Values are stored with all their places, whatever the
+    /// precision. The stored reply is neither given nor changed.
     pub fn execute(&mut self, call: &Call) -> (u16, Answer)
         ensures { Executes self.old call.now self.new result.0 result.1 }
     {
@@ -27,7 +28,8 @@ impl Instrument {
         (rc, answer)
     }
 
-    // Carries out a call, and returns the return code. An answer other than `Answer::Nothing` is written into `answer`.
+    // As `execute`, but the answer is written into `answer`, which has to be `Answer::Nothing` before. It returns the return code, as the
+    // methods below do.
     #[inline(always)]
     #[tactic(auto, unfolding(crate::specs::Execution::exec))]
     pub(super) fn carry_out(&mut self, call: &Call, answer: &mut Answer) -> u16
@@ -63,7 +65,7 @@ impl Instrument {
                 *answer = Answer::Version(1, 2, 0);
                 0
             }
-            Call::DoMeasure { command, .. } => self.measure_as(*command),
+            Call::DoMeasure { command, .. } => self.do_measure(*command),
             Call::GetStation => self.answer_station(answer),
             Call::SetStation(station) => self.set_station(station),
             Call::GetHeight => {
@@ -75,15 +77,15 @@ impl Instrument {
                 *answer = Answer::Long(self.settings.face.number());
                 0
             }
-            Call::GetAngle { .. } => self.angles(answer),
-            Call::SimpleMea { .. } => self.simple_measurement(answer),
-            Call::QuickDist => self.quick_distance(answer),
+            Call::GetAngle { .. } => self.answer_angles(answer),
+            Call::SimpleMea { .. } => self.answer_measured(answer),
+            Call::QuickDist => self.measure_and_answer(answer),
             Call::SetPrism(prism) => self.set_prism(*prism),
             Call::GetPrism => {
                 *answer = Answer::Long(self.settings.prism);
                 0
             }
-            Call::MeasDistance { mode } => self.measured_distance(*mode, answer),
+            Call::MeasDistance { mode } => self.measure_in_mode(*mode, answer),
             Call::Position { hz, v, .. } => self.position(hz, v),
             Call::ChangeFace { .. } => self.change_face(),
             Call::FineAdjust {
@@ -94,7 +96,7 @@ impl Instrument {
         }
     }
 
-    // Sets the precision, 0 to 15 places. Another number is refused.
+    // Sets the precision, 0 to 15 places. Another number is refused with code 2, and nothing changes.
     #[tactic(auto, unfolding(crate::specs::Execution::exec))]
     fn set_precision(&mut self, places: i16) -> u16
         ensures { Executes self.old (SetPrecision places) self.new result Nothing }
@@ -107,7 +109,7 @@ impl Instrument {
         }
     }
 
-    // Sets the date and time, if they pass `is_date`. Others are refused.
+    // Sets the date and time, if they pass `is_date`. Others are refused with code 2, and nothing changes.
     #[tactic(auto, unfolding(crate::specs::Execution::exec))]
     #[inline(never)]
     fn set_date(&mut self, date: DateTime) -> u16
@@ -158,9 +160,10 @@ impl Instrument {
         0
     }
 
-    // Carries out a command of TMC_DoMeasure: 0 does nothing, 1 measures, 3 clears the distance. Another command is refused.
+    // Carries out a command of TMC_DoMeasure: 0 does nothing, 1 measures (with code 0, even if no target is met), 3 clears the distance.
+    // Another command is refused with code 2, and nothing changes.
     #[inline(never)]
-    fn measure_as(&mut self, command: i32) -> u16
+    fn do_measure(&mut self, command: i32) -> u16
         ensures { Gives (commanded self.old command) self.new result Nothing }
     {
         match command {
@@ -187,7 +190,7 @@ impl Instrument {
 
     // Answers the horizontal direction and the vertical angle.
     #[inline(never)]
-    fn angles(&self, answer: &mut Answer) -> u16
+    fn answer_angles(&self, answer: &mut Answer) -> u16
         ensures { Gives (done self.now (Angles self.now.pointing.hz self.now.pointing.v))
             self.now result answer.new }
     {
@@ -196,9 +199,9 @@ impl Instrument {
         0
     }
 
-    // Answers the angles and the distance. Where there is no distance, the code is 1285, without an answer.
+    // Answers the angles and the distance that was measured last. Where there is none, the code is 1285, without an answer.
     #[inline(never)]
-    fn simple_measurement(&self, answer: &mut Answer) -> u16
+    fn answer_measured(&self, answer: &mut Answer) -> u16
         requires { answer.old ≡ Nothing }
         ensures { Gives (distance_outcome self.now (λ d. Measured self.now.pointing.hz self.now.pointing.v d)
             self.now.distance) self.now result answer.new }
@@ -211,18 +214,19 @@ impl Instrument {
         0
     }
 
-    // Measures the distance, and answers the angles and the distance. Where no target is met, the code is 1285, without an answer.
+    // Measures the distance, and answers the angles and the distance. Where no target is met, the code is 1285, without an answer, and the
+    // distance is cleared.
     #[tactic(auto, unfolding(crate::specs::Execution::exec))]
     #[inline(never)]
-    fn quick_distance(&mut self, answer: &mut Answer) -> u16
+    fn measure_and_answer(&mut self, answer: &mut Answer) -> u16
         requires { answer.old ≡ Nothing }
         ensures { Executes self.old QuickDist self.new result answer.new }
     {
         self.measure();
-        self.simple_measurement(answer)
+        self.answer_measured(answer)
     }
 
-    // Sets the prism type, at least 0. A negative one is refused.
+    // Sets the prism type, at least 0. A negative one is refused with code 2, and nothing changes.
     #[tactic(auto, unfolding(crate::specs::Execution::exec))]
     fn set_prism(&mut self, prism: i32) -> u16
         ensures { Executes self.old (SetPrism prism) self.new result Nothing }
@@ -234,10 +238,10 @@ impl Instrument {
         0
     }
 
-    // Measures, and answers the angles, the distance and the mode. Where there is no distance, the code is 1285, without an answer.
+    // As `measure_and_answer`, but the answer has this mode, too, which changes nothing else.
     #[tactic(auto, unfolding(crate::specs::Execution::exec))]
     #[inline(never)]
-    fn measured_distance(&mut self, mode: i32, answer: &mut Answer) -> u16
+    fn measure_in_mode(&mut self, mode: i32, answer: &mut Answer) -> u16
         requires { answer.old ≡ Nothing }
         ensures { Executes self.old (MeasDistance mode) self.new result answer.new }
     {
@@ -260,8 +264,7 @@ impl Instrument {
     fn position(&mut self, hz: &Decimal, v: &Decimal) -> u16
         ensures { Gives (done (pointed self.old hz.now v.now) Nothing) self.new result Nothing }
     {
-        self.settings.pointing = Pointing { hz: *hz, v: *v };
-        self.settings.distance = None;
+        self.settings.turn_to(hz, v);
         0
     }
 
@@ -275,8 +278,8 @@ impl Instrument {
         0
     }
 
-    // Turns the telescope to the first target whose angles differ from its own by at most these areas, which clears the distance. If
-    // there is none, the code is 8710 and nothing changes. A negative area is refused.
+    // Turns the telescope to the first target whose angles differ from the telescope's by at most these areas, which clears the distance.
+    // A negative area is refused with code 2, and where there is no such target the code is 8710; in both cases nothing changes.
     #[inline(never)]
     fn fine_adjust(&mut self, area_hz: &Decimal, area_v: &Decimal) -> u16
         ensures { Gives (searched self.old area_hz.now area_v.now) self.new result Nothing }
@@ -291,8 +294,8 @@ impl Instrument {
             self.scene.as_slice(),
         ) {
             Some(target) => {
-                let (hz, v) = (target.hz, target.v);
-                self.position(&hz, &v)
+                self.settings.turn_to(&target.hz, &target.v);
+                0
             }
             None => NO_TARGET,
         }

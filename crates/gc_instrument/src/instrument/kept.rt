@@ -78,7 +78,7 @@ impl Kept {
         }
     }
 
-    /// Stores a request's id and the line of its reply. If the request had no id, nothing changes.
+    /// Stores a request's id and the line of its reply, at most 512 bytes. If the request had no id, nothing changes.
     #[inline]
     pub fn keep(&mut self, id: Option<u8>, line: &[u8])
         requires { length line.now ≤ 512 }

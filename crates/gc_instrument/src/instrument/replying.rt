@@ -43,8 +43,8 @@ impl Instrument {
         }
     }
 
-    /// Appends the reply to a line to `out`, and returns `true`. If the line is no request, it returns
-    /// `false`, and `out` is unchanged. The reply is that of [`Instrument::on_line`].
+    /// As [`Instrument::on_line`], but the reply is appended to `out`, without CR LF. It returns `true`, or, if the line is no request,
+    /// `false`, and `out` is unchanged. `out` has to have room for 512 more bytes.
     #[inline(always)]
     pub fn reply_onto<const N: usize>(&mut self, line: &[u8], out: &mut ArrayVec<u8, N>) -> bool
         requires { array_vec_len out.old + 512 ≤ N }

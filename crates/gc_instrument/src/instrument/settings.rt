@@ -25,7 +25,7 @@ pub struct Settings {
 impl Settings {
     ghost use Rattle.std.specs.Prelude.{◌≡◌, None, pos};
     ghost use Rattle.gc_values.specs.Decimals.{zero};
-    ghost use Rattle.gc_instrument.specs.State.{origin, ahead, first_date};
+    ghost use Rattle.gc_instrument.specs.State.{origin, first_pointing, first_date};
     ghost use Rattle.gc_instrument.specs.declared.face.Face.TheVariants.{Normal};
 
     /// The settings at the start, with this precision: zeros, the normal face, no distance, the date 1996-07-25 16:19:47, prism type 0.
@@ -35,7 +35,7 @@ impl Settings {
           station = origin;
           height = zero;
           face = Normal;
-          pointing = ahead;
+          pointing = first_pointing;
           distance = None;
           date = first_date;
           prism = pos 0;
@@ -64,5 +64,14 @@ impl Settings {
             },
             prism: 0,
         }
+    }
+
+    /// Turns the telescope to these angles, which clears the distance.
+    #[inline]
+    pub fn turn_to(&mut self, hz: &Decimal, v: &Decimal)
+        ensures { self.new ≡ record self.old { pointing = record { hz = hz.now; v = v.now }; distance = None } }
+    {
+        self.pointing = Pointing { hz: *hz, v: *v };
+        self.distance = None;
     }
 }

@@ -1,13 +1,11 @@
 //! What a station hears: a piece, its lines, and what they settle.
 
-ghost use Rattle.std.specs.Prelude.{◌≡◌, List};
+ghost use Rattle.std.specs.Prelude.{◌≡◌};
 ghost use Rattle.gc_lines.specs.Lent.{IsLineWithin};
 ghost use Rattle.gc_lines.specs.Ports.{FailsWith};
 ghost use Rattle.gc_station.specs.Model.{Model, piece_came, piece_synchronizing, piece_at};
 ghost use Rattle.gc_station.specs.Progressing.{lines_synchronizing};
-ghost use Rattle.gc_station.specs.Stations.{Refines, Moves, Becomes, frame_came, lines_of_frame, piece_taken};
-ghost use Rattle.gc_station.specs.declared.progress.Action.TheVariants.{Read};
-ghost use Rattle.gc_texts.specs.declared.tasks.Task.{Task};
+ghost use Rattle.gc_station.specs.Stations.{Refines, MovesByReading, Becomes, frame_came, lines_of_frame, piece_taken};
 
 use super::Station;
 use crate::book::Book;
@@ -20,7 +18,8 @@ use gc_lines::{Lent, Line, PortFailed};
 use gc_links::{Came, Link, Moment};
 
 impl Station {
-    // Hears the line of a frame, if the frame is a line, and records what the line settles. `Err`: the book failed at a record.
+    // Hears the line of a frame, and records what the line settles; nothing happens if the frame is no line. `Err`: the book failed at
+    // a record.
     fn hear<B: Book>(&mut self, book: &mut B, frame: Lent<'_>) -> Result<(), PortFailed>
         requires { IsLineWithin frame }
         ensures hears { Becomes (frame_came frame.entry) (B.text book.old) (B.taken book.old) (B.taken book.new) self.old self.new result }
@@ -66,11 +65,12 @@ impl Station {
         ensures { self.new ≡ record self.old { progress = lines_synchronizing self.old.progress (lines_of_frame frame.entry) } }
     {
         if let Lent::Line(line) = frame {
-            self.progress.hear(line);
+            self.progress.hear_null(line);
         }
     }
 
-    // Hears the lines of a piece, in order, while the station synchronizes.
+    // Hears the lines of a piece, in order, while the station synchronizes. Lines after the last answer of the synchronization settle
+    // nothing.
     fn listen_null(&mut self, piece: &[u8])
         ensures { (s : Model) → Refines self.old s → Refines self.new (piece_synchronizing piece.now s) }
     {
@@ -114,7 +114,7 @@ impl Station {
         ensures fails { FailsWith result (B.failed book.old) (B.failed book.new) }
         ensures form { B.text book.new ≡ B.text book.old }
     {
-        let before = self.commands();
+        let before = self.commands_waiting();
         self.progress.note_moment(now);
         self.client.expire(now.elapsed);
         self.fresh = self.fresh.min(now.elapsed);
@@ -136,15 +136,14 @@ impl Station {
         plan: &Plan,
         until: Until,
     ) -> Result<(), PortFailed>
-        ensures does { (commands : List Task)
-            → Moves plan.now commands (Read until) (B.text book.old)
-            (L.acts link.old) (L.acts link.new) (B.taken book.old) (B.taken book.new) self.old self.new result }
+        ensures does { MovesByReading plan.now until (B.text book.old) (L.acts link.old) (L.acts link.new)
+            (B.taken book.old) (B.taken book.new) self.old self.new result }
         ensures fails { FailsWith result (B.failed book.old) (B.failed book.new) }
         ensures form { B.text book.new ≡ B.text book.old }
     {
         // One read takes at most 256 bytes.
         let mut buf = [0u8; 256];
-        let millis = self.patience(plan, until);
+        let millis = self.read_timeout(plan, until);
         match link.read(&mut buf, millis) {
             Came::Bytes(n, moment) => self.take_piece(book, plan, until, &buf[..n], moment),
             Came::Silence(moment) => {

@@ -1,4 +1,5 @@
-//! What a station sends: the line feed that clears half a request, and requests.
+//! What a station sends: the line feed that clears half a request, and requests. A request whose write is cut counts as sent, and the
+//! connection is to be closed for that (`note_cut`).
 
 ghost use Rattle.std.specs.Prelude.{◌≡◌, ◌<◌, ◌≤◌, [], ◌∷◌, false, length, drop, Option};
 ghost use Rattle.gc_client.specs.declared.window.TheConstants.{WINDOW};
@@ -24,13 +25,14 @@ use gc_texts::{Task, Wish};
 
 // A request that is to be sent: its command; for how many milliseconds it waits; and its mark, `None` for a null procedure.
 #[derive(Clone, Copy)]
-pub(crate) struct Asking {
+pub(crate) struct Outgoing {
     pub(crate) command: Wish,
     pub(crate) wait: u64,
     pub(crate) mark: Option<Mark>,
 }
 
-// The command of a task where its request is sent at this moment.
+// The command of a task where its request is sent at the moment `utc`, in milliseconds since 1970-01-01, UTC: one that sets the
+// clock asks for that moment.
 fn command_at(task: &Task, utc: u64) -> Wish
     ensures { result ≡ command_at utc task.entry.now }
 {
@@ -61,7 +63,7 @@ impl Station {
         }
     }
 
-    // Sends the lone line feed that clears a new connection.
+    // Sends the lone line feed that clears a new connection. A cut write is noted, by `note_cut`.
     pub(super) fn clear<L: Link>(&mut self, link: &mut L, plan: &Plan, commands: &[Task])
         ensures { DoesAlone plan.now commands.now Clear (L.acts link.old) (L.acts link.new) self.old self.new }
     {
@@ -72,7 +74,7 @@ impl Station {
     }
 
     // Sends a request, which has this mark and waits for `wait` milliseconds. `Err`: the write was cut, with the number of
-    // bytes that were sent.
+    // bytes that were sent. The request is outstanding then, too.
     fn ask<L: Link>(
         &mut self,
         link: &mut L,
@@ -120,7 +122,7 @@ impl Station {
         link.put(text.as_slice())
     }
 
-    // Sends the null procedure of the first id that isn't answered, and notes its deadline.
+    // Sends the null procedure of the first id that isn't answered, and notes its deadline; and a cut write, by `note_cut`.
     pub(super) fn ask_null<L: Link>(&mut self, link: &mut L, plan: &Plan, commands: &[Task])
         requires { has_begun self.old.progress ≡ false }
         ensures { DoesAlone plan.now commands.now Ask (L.acts link.old) (L.acts link.new) self.old self.new }
@@ -131,7 +133,7 @@ impl Station {
         self.note_cut(put, requests);
     }
 
-    // Sends the next command. One that sets the clock asks for the moment of its mark.
+    // Sends the cycle's next command, and notes a cut write (`note_cut`). One that sets the clock asks for the moment of its mark.
     pub(super) fn send<L: Link>(&mut self, link: &mut L, plan: &Plan, commands: &[Task])
         requires width { self.old.client.width ≡ WINDOW }
         requires room { length self.old.client.ids.waiting < WINDOW }
@@ -152,17 +154,17 @@ impl Station {
     }
 
     // The request for the next command of the setup, if the list has one; otherwise for a null procedure.
-    fn next_setup(&self, plan: &Plan, commands: &[Task]) -> Asking
+    fn next_setup(&self, plan: &Plan, commands: &[Task]) -> Outgoing
         ensures { result ≡ setup_asked plan.now (mark_setup commands.now self.now.progress) (drop self.now.progress.prepared commands.now) }
     {
         let mark = self.mark_setup(commands);
         match commands.get(self.progress.prepared) {
-            Some(task) => Asking {
+            Some(task) => Outgoing {
                 command: command_at(task, mark.sent),
                 wait: task.deadline,
                 mark: Some(mark),
             },
-            None => Asking {
+            None => Outgoing {
                 command: null_command(),
                 wait: plan.deadline,
                 mark: None,
@@ -170,7 +172,7 @@ impl Station {
         }
     }
 
-    // Sends the next command of the setup, if the list has one; otherwise a null procedure.
+    // Sends the next command of the setup, if the list has one; otherwise a null procedure. A cut write is noted (`note_cut`).
     pub(super) fn prepare<L: Link>(&mut self, link: &mut L, plan: &Plan, commands: &[Task])
         requires width { self.old.client.width ≡ WINDOW }
         requires room { length self.old.client.ids.waiting < WINDOW }
@@ -185,7 +187,7 @@ impl Station {
     }
 
     // Sends a null procedure: after requests that have all timed out, since its reply settles them, or before a command, as
-    // `Action::Flush` says.
+    // `Action::Flush` says. A cut write is noted (`note_cut`).
     pub(super) fn flush<L: Link>(&mut self, link: &mut L, plan: &Plan, commands: &[Task])
         requires width { self.old.client.width ≡ WINDOW }
         requires room { length self.old.client.ids.waiting < WINDOW }

@@ -4,7 +4,7 @@ ghost use Rattle.std.specs.Prelude.{◌≡◌, ◌<◌, ◌≤◌, length, OnOk,
 ghost use Rattle.gc_lines.specs.Ports.{FailsWith};
 ghost use Rattle.gc_links.specs.Acts.{Told};
 ghost use Rattle.gc_station.specs.Records.{WritesMore};
-ghost use Rattle.gc_station.specs.Model.{skips};
+ghost use Rattle.gc_station.specs.Model.{unsent_record};
 ghost use Rattle.gc_station.specs.Stations.{DoesAlone, Moves, station_skipping};
 ghost use Rattle.gc_station.specs.declared.progress.Action.TheVariants.{Skip, Pass};
 
@@ -12,7 +12,7 @@ use super::Station;
 use crate::book::Book;
 use crate::cause::Cause;
 use crate::plan::Plan;
-use crate::writing::is_listed;
+use crate::writing::is_listed_after;
 use gc_lines::PortFailed;
 use gc_links::{Link, Moment};
 use gc_texts::{Ending, Stamp, Task};
@@ -36,10 +36,10 @@ impl Station {
     {
         match link.now() {
             Ok(moment) => {
-                if let Err(failed) = self.write_skipped(book, plan, commands, moment) {
+                if let Err(failed) = self.write_unsent(book, plan, commands, moment) {
                     return Err(failed);
                 }
-                let waiting = self.commands();
+                let waiting = self.commands_waiting();
                 let next_is_chained = self.is_chained_after(1, commands);
                 let others = self.others_after(1, commands);
                 self.progress.skip(next_is_chained, others, moment);
@@ -57,12 +57,12 @@ impl Station {
 
     // Reads the clock, and leaves out the further attempts of a chain that the next command begins. A clock that can't be read
     // is noted, as by `read_clock`, and nothing is left out.
-    pub(super) fn pass<L: Link>(&mut self, link: &mut L, plan: &Plan, commands: &[Task])
+    pub(super) fn leave_out<L: Link>(&mut self, link: &mut L, plan: &Plan, commands: &[Task])
         ensures { DoesAlone plan.now commands.now Pass (L.acts link.old) (L.acts link.new) self.old self.new }
     {
         match link.now() {
             Ok(moment) => {
-                let waiting = self.commands();
+                let waiting = self.commands_waiting();
                 let count = self.progress.next_others;
                 let next_is_chained = self.is_chained_after(count, commands);
                 let others = self.others_after(count, commands);
@@ -77,7 +77,7 @@ impl Station {
 
     // Writes the record of the next command, which isn't sent: as missed if its cycle is missed, otherwise as skipped. `Err`: the
     // book failed at the record.
-    fn write_skipped<B: Book>(
+    fn write_unsent<B: Book>(
         &mut self,
         book: &mut B,
         plan: &Plan,
@@ -86,7 +86,7 @@ impl Station {
     ) -> Result<(), PortFailed>
         requires unsent { 0 < self.old.progress.unsent }
         requires within { self.old.progress.unsent ≤ length commands.now }
-        ensures wrote { WritesMore (B.text book.old) (B.taken book.old) (B.taken book.new) (skips plan.now commands.now self.old.progress (Told moment)) result }
+        ensures wrote { WritesMore (B.text book.old) (B.taken book.old) (B.taken book.new) (unsent_record plan.now commands.now self.old.progress (Told moment)) result }
         ensures after { OnOk result (self.new ≡ station_skipping plan.now commands.now moment self.old) }
         ensures fails { FailsWith result (B.failed book.old) (B.failed book.new) }
         ensures form { B.text book.new ≡ B.text book.old }
@@ -110,7 +110,7 @@ impl Station {
         }
         self.tally.count(mark.cycle, mark.expected.turn, ending);
         self.well = false;
-        self.listed = is_listed(self.listed, &mark.expected, None, ending);
+        self.listed = is_listed_after(self.listed, &mark.expected, None, ending);
         Ok(())
     }
 }

@@ -44,7 +44,7 @@ loop-place-preserved g c =
     let one = c.in_default.ensures.asks in
     let old = c.loop-place.asking in
     let asking = c.ask.new.self in
-    let next = course_next g.L.Link.alone commands (take place commands)
+    let next = course_next g.L.Link.is_remote commands (take place commands)
     (drop (place + 1) commands) command place so.0 old.ahead one.0 asking.ahead old.end.assembler asking.end.assembler old.end.client.ids
     asking.end.client.ids asking.end.settled.items
     _ _ _ _ _ _ (BothStep (g.L.Link.client c.loop-place.link) (g.L.Link.client c.ask.new.link) (g.L.Link.instrument c.loop-place.link) (g.L.Link.instrument c.ask.new.link))
@@ -87,7 +87,7 @@ returns-in-Err-clause-asks g c =
       given = so.0 ++ one.0;
       gave = Consumes-append _ _ _ so.0 one.0 so.1 one.1;
       few = omega (arith, so.2, one.2, length-append so.0 one.0, c.loop-place.invariant.client.grows, c.in-Err.ensures.grows);
-      asks = run_fault g.L.Link.alone commands (take place commands) (drop (place + 1) commands) command place so.0 old.ahead one.0 asking.ahead
+      asks = run_fault g.L.Link.is_remote commands (take place commands) (drop (place + 1) commands) command place so.0 old.ahead one.0 asking.ahead
           old.end.assembler asking.end.assembler old.end.client.ids asking.end.client.ids asking.end.settled.items
           client0.taken client.taken client'.taken (g.K.Sink.taken c.args.sink.now) (g.K.Sink.taken c.loop-place.sink) (g.K.Sink.taken c.ask.new.sink)
           c.in-Err.fault client0 client client' far0 far far' (g.K.Sink.failed c.loop-place.sink) (g.K.Sink.failed c.ask.new.sink)

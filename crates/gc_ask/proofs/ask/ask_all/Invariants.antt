@@ -1,6 +1,6 @@
 use Rattle.std.proofs.Common.{◌≡◌, ◌≤◌, ◌+◌, ◌-◌, ◌*◌, List, ℕ, length, take}
 use Rattle.std.specs.Io.KnownBytes.{Consumes}
-use Rattle.gc_ask.specs.declared.unheard.TheConstants.{ROOM}
+use Rattle.gc_ask.specs.declared.unused.TheConstants.{ROOM}
 use Rattle.gc_ask.proofs.Asked.{Course}
 use Rattle.gc_ask.proofs.Ends.{Sound}
 use Rattle.gc_ask.proofs.ask.ask_all.Given as goal

@@ -2,7 +2,7 @@ use Rattle.std.proofs.Common.{◌≡◌, ap, rules}
 use Rattle.gc_lines.specs.Answering.{Ports, ports_of}
 use Rattle.gc_ask.specs.AskRuns.{AskRuns}
 use Rattle.gc_ask.specs.Asking.{taken_by}
-use Rattle.gc_ask.proofs.Runs.{runs_alone}
+use Rattle.gc_ask.proofs.Runs.{runs_remote}
 use Rattle.gc_ask.proofs.ask.run_ask.Goals as goal
 use Rattle.gc_texts.specs.WholeTexts.{input_of}
 
@@ -11,7 +11,7 @@ returns-clause-asks g c =
     let asks : AskRuns (input_of g.S.Source c.args.commands.now) (input_of g.S.Source c.run_over.new.commands) c.args.max_reads
     (record { link = ports_of g.I.Source c.args.link_in.now g.O.Sink c.args.link_out.now; sink = taken_by g.K.Sink c.args.sink.now })
     (record { link = ports_of g.I.Source c.run_over.new.link.source.now g.O.Sink c.run_over.new.link.sink.now; sink = taken_by g.K.Sink c.run_over.new.sink })
-    c.run_over.result = runs_alone _ _ _ _ _ _ c.run_over.ensures.asks in
+    c.run_over.result = runs_remote _ _ _ _ _ _ c.run_over.ensures.asks in
     search rules
 
 pub returns-clause-memory : goal.returns-clause-memory

@@ -1,5 +1,5 @@
 use Rattle.std.proofs.Common.{◌≡◌, ℕ, arith, subst}
-use Rattle.gc_ask.specs.Keeping.{Kept}
+use Rattle.gc_ask.specs.Keeping.{ServesCallers}
 use Rattle.gc_ask.proofs.Keeps.{kept_none, kept_more}
 use Rattle.gc_ask.proofs.callers.keep.Goals as goal
 
@@ -22,7 +22,7 @@ pub returns : goal.returns
 returns g c =
     let all : c.loop-at.at ≡ c.args.most = omega (arith, c.loop-at-test.false, c.loop-at.invariant.within) in
     record {
-      kept = subst (λ (n : ℕ). Kept n c.loop-at.all_written (g.C.Callers.served c.args.callers.now) (g.C.Callers.served c.loop-at.callers)
+      kept = subst (λ (n : ℕ). ServesCallers n c.loop-at.all_written (g.C.Callers.served c.args.callers.now) (g.C.Callers.served c.loop-at.callers)
           (g.E.Write.contents c.args.messages.now) (g.E.Write.contents c.loop-at.messages))
           all c.loop-at.invariant.kept;
     }

@@ -1,4 +1,4 @@
-use Rattle.gc_ask.proofs.Runs.{over_alone}
+use Rattle.gc_ask.proofs.Runs.{over_remote}
 use Rattle.gc_ask.proofs.connections.ask_over.Goals as goal
 
 pub returns : goal.returns
@@ -7,5 +7,5 @@ returns g c = record {
   after = _;
   unread = c.new-source.ensures.reads;
   sound = (c.new-source.ensures.failed, c.new-to.ensures.failed);
-  asks = over_alone _ _ (record { link = _; sink = _ }) (record { link = _; sink = _ }) _ c.ask_all.ensures.asks;
+  asks = over_remote _ _ (record { link = _; sink = _ }) (record { link = _; sink = _ }) _ c.ask_all.ensures.asks;
 }

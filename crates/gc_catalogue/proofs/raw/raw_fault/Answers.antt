@@ -1,6 +1,7 @@
 use Rattle.std.proofs.Common.{◌≤◌, rules}
 use Rattle.gc_lines.specs.Lines.{IsPlain}
-use Rattle.gc_catalogue.specs.Raws.{line_length, AreFewItems, IsNoProcedure}
+use Rattle.gc_catalogue.specs.Calls.{IsNoProcedure}
+use Rattle.gc_catalogue.specs.Raws.{line_length, AreFewItems}
 use Rattle.gc_catalogue.proofs.RawRules.{few_always, few_closed}
 use Rattle.gc_catalogue.proofs.raw.raw_fault.Goals as goal
 

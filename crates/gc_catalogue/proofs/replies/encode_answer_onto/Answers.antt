@@ -8,7 +8,7 @@ use Rattle.gc_catalogue.proofs.Joining.{comma_list, params_text-params_of, reply
 use Rattle.gc_catalogue.proofs.Lengths.{behind_short}
 use Rattle.gc_catalogue.proofs.LineLaws.{answer_again, refusal_again}
 use Rattle.gc_catalogue.proofs.Plain.{plain_reply}
-use Rattle.gc_catalogue.proofs.Table.{few_values_out, values-rounded}
+use Rattle.gc_catalogue.proofs.Table.{few_answer_values, values-rounded}
 use Rattle.gc_catalogue.proofs.replies.encode_answer_onto.Goals as goal
 
 -- the answer's values were appended, each before a comma, and lie in their ranges
@@ -57,6 +57,6 @@ returns-clause-bound g c =
           (behind_commas (answer_fields answer).values),
       behind_short (answer_fields answer).values
           (returns-clause-fitting g c),
-      few_values_out answer,
+      few_answer_values answer,
       c.push_reply.ensures.len,
     )

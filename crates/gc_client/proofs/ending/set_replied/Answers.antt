@@ -4,4 +4,4 @@ use Rattle.gc_client.proofs.ending.set_replied.Goals as goal
 
 -- a request that hadn't timed out is settled as answered by the line
 pub returns-else-p : goal.returns-else-p
-returns-else-p g c = answered_is _ c.args.p.now c.args.line.now (reply_seen c.args.reply.now) c.answer.new.outcome c.if-p.false c.requires.reads c.answer.ensures
+returns-else-p g c = answered_is _ c.args.p.now c.args.line.now (reply_seen c.args.reply.now) c.set_answered.new.outcome c.if-p.false c.requires.reads c.set_answered.ensures

@@ -4,11 +4,11 @@ use Rattle.gc_instrument.specs.State.{IsFittingState}
 use Rattle.gc_field.specs.Simulator.{ends}
 use Rattle.gc_field.specs.Laws.{kept_of}
 use Rattle.gc_field.specs.Field.{seen}
-use Rattle.gc_field.proofs.InTime.{law}
+use Rattle.gc_field.proofs.InTime.{clean_faithful}
 use Rattle.gc_field.proofs.Instruments.{simulator}
 use Rattle.gc_field.proofs.Meaning.{client_is}
 use Rattle.gc_field.proofs.laws.simulators_stations_answers_are_their_own.Goals as goal
 
 pub returns : goal.returns
 returns c = λ u rest acts ms carried.
-    let f = law ends IsFittingState kept_of simulator.instrument u carried.clean ms carried.possible in record { faithful = f; client = client_is (seen ms) begun ∙ f.stands }
+    let f = clean_faithful ends IsFittingState kept_of simulator.instrument u carried.clean ms carried.possible in record { faithful = f; client = client_is (seen ms) begun ∙ f.stands }

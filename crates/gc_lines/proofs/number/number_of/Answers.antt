@@ -47,7 +47,11 @@ returns-then-len-eq0 c =
       | then-loop-len-test+else-is_ascii_digit w ↦ stops_at bytes c.loop-len.len w.loop-len-test.true (search rules)
       | else-loop-len-test w ↦ stops_end bytes c.loop-len.len w.loop-len-test.false
     ] in
-    number_refused c.args.fault bytes c.loop-len.len i.within i.digits stops (elim c.then-len-eq0.either [ inl none ↦ inl none | inr wide ↦ inr (omega (arith, i.value, wide.1)) ]) i.few
+    number_refused c.args.fault bytes c.loop-len.len (record { within = i.within; digits = i.digits; stops = stops }) (elim c.then-len-eq0.either [
+      | inl none ↦ inl none
+      | inr wide ↦ inr
+          (omega (arith, i.value, wide.1))
+    ]) i.few
 
 pub returns : goal.returns
 returns c =
@@ -57,5 +61,5 @@ returns c =
       | then-loop-len-test+else-is_ascii_digit w ↦ stops_at bytes c.loop-len.len w.loop-len-test.true (search rules)
       | else-loop-len-test w ↦ stops_end bytes c.loop-len.len w.loop-len-test.false
     ] in
-    number_read c.args.fault bytes c.loop-len.len i.within i.digits stops (omega arith) i.few (omega (arith, i.value))
+    number_read c.args.fault bytes c.loop-len.len (record { within = i.within; digits = i.digits; stops = stops }) (omega arith) i.few (omega (arith, i.value))
     ∙ rw (sym i.value, take_rest bytes c.loop-len.len) refl

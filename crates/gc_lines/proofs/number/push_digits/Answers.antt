@@ -5,10 +5,12 @@ use Rattle.gc_lines.proofs.number.push_digits.Goals as goal
 pub loop-left-preserved : goal.loop-left-preserved
 loop-left-preserved g c =
     let i = c.loop-left.invariant in
-    let next = digit_written c.loop-left.digits c.loop-left.at c.loop-left.left c.args.n i.room i.size i.below (omega arith) c.loop-left-test.true i.text in
+    let next = digit_written c.loop-left.digits c.loop-left.at c.loop-left.left c.args.n
+    (record { room = i.room; size = i.size; text = i.text }) i.below (omega arith) c.loop-left-test.true in
     record { room = omega (arith, i.room); size = next.1; below = next.2; text = next.3 }
 
 pub returns-clause-items : goal.returns-clause-items
 returns-clause-items g c =
     let i = c.loop-left.invariant in
-    c.append.ensures ∙ ap (λ ds. c.args.to.now.items ++ ds) (last_digit_written c.loop-left.digits c.loop-left.at c.loop-left.left c.args.n i.room i.size c.loop-left-test.false i.text)
+    c.append.ensures ∙ ap (λ ds. c.args.to.now.items ++ ds) (last_digit_written c.loop-left.digits c.loop-left.at c.loop-left.left c.args.n
+    (record { room = i.room; size = i.size; text = i.text }) c.loop-left-test.false)

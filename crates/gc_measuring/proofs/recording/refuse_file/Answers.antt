@@ -10,10 +10,10 @@ returns g c =
     record {
       told = IfOk-weaker c.report_rotation.result _ _
           (λ status told.
-          let t = IfOk-at_ok _ told.0 c.report_counts-ended.ensures.told in (
+          let t = IfOk-at_ok _ told.0 c.report_end_of_run-ended.ensures.told in (
             t.0,
             Appends-trans _ _ _ _ _
-                (subst (λ fault. Appends (g.E.Write.contents c.args.messages.now) (g.E.Write.contents c.report_counts-ended.new.messages) (fault_line (run_fault_text fault)))
+                (subst (λ fault. Appends (g.E.Write.contents c.args.messages.now) (g.E.Write.contents c.report_end_of_run-ended.new.messages) (fault_line (run_fault_text fault)))
                 c.fault_of_unfit.ensures t.1)
                 told.1,
           ))

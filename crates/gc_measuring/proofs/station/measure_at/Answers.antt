@@ -7,11 +7,11 @@ use Rattle.gc_measuring.proofs.station.measure_at.Goals as goal
 
 pub returns-in-Err-clause-told : goal.returns-in-Err-clause-told
 returns-in-Err-clause-told g c =
-    IfOk-weaker c.report_counts-ended.result _ _
+    IfOk-weaker c.report_end_of_run-ended.result _ _
     (λ status told. record {
       end = Err (Run c.in-Err.fault);
       between = c.args.streams.messages;
-      behind = c.report_counts-ended.new.messages;
+      behind = c.report_end_of_run-ended.new.messages;
       is_lost = false;
       logged = logged_if_none_lost _;
       ran = inr (c.in-Err.fault, refl, c.in-Err.ensures.fault, refl, refl, refl, refl, refl);
@@ -19,7 +19,7 @@ returns-in-Err-clause-told g c =
       counts = told;
       loss = refl;
     })
-    c.report_counts-ended.ensures.told
+    c.report_end_of_run-ended.ensures.told
 
 pub returns-in-None-clause-told : goal.returns-in-None-clause-told
 returns-in-None-clause-told g c =
@@ -33,7 +33,7 @@ returns-in-None-clause-told g c =
       ran = inl (record {
         told = c.measure_over-streams.new.link.link.history.acts;
         is = ap (λ l. Some l.history.acts) c.into_link.ensures;
-        measured = (c.in-Ok.ends.moment.utc, t.measured);
+        measured = (c.in-Ok.opened.moment.utc, t.measured);
         all_last = t.all_last;
       });
       fails = t.fails;
@@ -48,7 +48,7 @@ returns-in-None-clause-done g c =
     (λ status d zero. (
       c.measure_over-streams.new.link.link.history.acts,
       ap (λ l. Some l.history.acts) c.into_link.ensures,
-      (c.in-Ok.ends.moment.utc, d zero),
+      (c.in-Ok.opened.moment.utc, d zero),
     ))
     (rw (c.new-link.ensures, c.new-told.ensures, c.begun-station.ensures) at c.measure_over-streams.ensures.done)
 
@@ -64,7 +64,7 @@ returns-in-Some-clause-told g c =
       ran = inl (record {
         told = c.measure_logged-streams.new.logged.link.link.history.acts;
         is = ap (λ l. Some l.history.acts) (c.into_link-in-Some-2.ensures ∙ ap (λ n. n.link) c.into_link-in-Some.ensures);
-        measured = (c.in-Ok.ends.moment.utc, t.1.measured);
+        measured = (c.in-Ok.opened.moment.utc, t.1.measured);
         all_last = t.1.all_last;
       });
       fails = t.1.fails;
@@ -79,6 +79,6 @@ returns-in-Some-clause-done g c =
     (λ status d zero. (
       c.measure_logged-streams.new.logged.link.link.history.acts,
       ap (λ l. Some l.history.acts) (c.into_link-in-Some-2.ensures ∙ ap (λ n. n.link) c.into_link-in-Some.ensures),
-      (c.in-Ok.ends.moment.utc, d zero),
+      (c.in-Ok.opened.moment.utc, d zero),
     ))
     (rw (c.new-logged.ensures, c.new-link.ensures, c.new-told.ensures, c.begun-station.ensures) at c.measure_logged-streams.ensures.done)

@@ -6,7 +6,7 @@ use Rattle.gc_measuring.proofs.station.measure_over.Goals as goal
 pub returns-clause-told : goal.returns-clause-told
 returns-clause-told g c =
     let m = c.run_station_text-streams.ensures.measures in
-    IfOk-weaker c.report_counts-ended.result _ _
+    IfOk-weaker c.report_end_of_run-ended.result _ _
     (λ status told. record {
       end = c.run_station_text-streams.result.1;
       between = c.run_station_text-streams.result.0.messages;
@@ -15,14 +15,14 @@ returns-clause-told g c =
       fails = c.run_station_text-streams.ensures.output;
       counts = told;
     })
-    c.report_counts-ended.ensures.told
+    c.report_end_of_run-ended.ensures.told
 
 pub returns-clause-done : goal.returns-clause-done
 returns-clause-done g c =
     let m = c.run_station_text-streams.ensures.measures in
-    IfOk-weaker c.report_counts-ended.result _ _
+    IfOk-weaker c.report_end_of_run-ended.result _ _
     (λ status told zero. record {
       between = c.run_station_text-streams.result.0.messages;
       is = done_at_0 m.0 _ _ _ _ (exit_status status) _ _ m.1 m.3 told zero;
     })
-    c.report_counts-ended.ensures.told
+    c.report_end_of_run-ended.ensures.told

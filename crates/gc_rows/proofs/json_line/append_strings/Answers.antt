@@ -1,10 +1,10 @@
-use Rattle.std.proofs.Common.{rules, ◌≡◌, ◌≤◌, ◌<◌, ◌+◌, ◌*◌, ◌++◌, length, get_or, drop, [], ap, arith, ◌∙◌}
+use Rattle.std.proofs.Common.{rules, ◌≡◌, ◌≤◌, ◌<◌, ◌+◌, ◌*◌, ◌++◌, length, get_or, drop, [], ap, arith, le_trans, ◌∙◌}
 use Rattle.std.specs.Prelude.{nat_lt}
 use Rattle.std.proofs.lemmas.Bool.{lt-ltb}
 use Rattle.arrayvec.specs.ArrayVec.{array_vec_len}
 use Rattle.gc_rows.specs.declared.json_line.TheConstants.{STRINGS_ROOM}
 use Rattle.gc_rows.specs.JsonLines.{comma_where, string_text, strings_text}
-use Rattle.gc_rows.proofs.Items.{bytes_more, bytes_below, le_trans}
+use Rattle.gc_rows.proofs.Items.{bytes_more, bytes_below}
 use Rattle.gc_rows.proofs.JsonLines.{strings_next}
 use Rattle.gc_rows.proofs.json_line.append_strings.Goals as goal
 
@@ -16,7 +16,7 @@ append_comma-requires g c =
     let short = c.requires.short in
     let room = c.loop-k.invariant.room in
     let fits : array_vec_len c.loop-k.line + 1 ≤ array_vec_len c.args.line.now + STRINGS_ROOM = omega (arith, lt, below, few, short, room) in
-    (search rules, le_trans _ _ _ fits c.requires.room)
+    (search rules, le_trans fits c.requires.room)
 
 pub append_string-requires : goal.append_string-requires
 append_string-requires g c =
@@ -29,7 +29,7 @@ append_string-requires g c =
     let same : length c.get.result.now ≡ length (get_or c.args.texts.now c.loop-k.k []) = ap length c.get.ensures in
     let fits : array_vec_len c.append_comma.new.line + 8 * length c.get.result.now + 2 ≤ array_vec_len c.args.line.now + STRINGS_ROOM =
     omega (arith, lt, below, few, short, room, comma, same) in
-    (search rules, (omega (arith, below, short, same), le_trans _ _ _ fits c.requires.room))
+    (search rules, (omega (arith, below, short, same), le_trans fits c.requires.room))
 
 pub loop-k-preserved : goal.loop-k-preserved
 loop-k-preserved g c =

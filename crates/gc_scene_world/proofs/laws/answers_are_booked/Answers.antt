@@ -4,10 +4,9 @@ use Rattle.gc_client.specs.Rule.{ById}
 use Rattle.gc_scenes.specs.SceneState.{SceneState, scene_restarted}
 use Rattle.gc_scene_world.specs.SceneRuns.{scene_ends}
 use Rattle.gc_scene_world.proofs.Exchanges.{KeepsAReply, exchange}
-use Rattle.gc_scene_world.proofs.Booked.{booked_line}
 use Rattle.gc_world.specs.World.{World, Wire, call_line}
 use Rattle.gc_world.proofs.Agree.{same_wire}
-use Rattle.gc_world.proofs.Booked.{AllMade, backed_at}
+use Rattle.gc_world.proofs.Booked.{has_at, AllMade, answer_made, backed_at}
 use Rattle.gc_world.proofs.Flow.{level_at}
 use Rattle.gc_scene_world.proofs.laws.answers_are_booked.Goals as goal
 
@@ -18,4 +17,4 @@ returns c = λ width narrow opening events m s line found answered.
     let made = subst (λ (w : Wire SceneState). AllMade w.made 0 w.settled) (sym (same_wire width narrow scene_ends KeepsAReply exchange at.steps state tt))
     (backed_at width scene_ends KeepsAReply call_line exchange at.steps state tt).backed.booked in
     let all = subst (λ (w : World (ById Call) SceneState). AllMade w.wire.made 0 w.wire.settled) (sym at.ids) made in
-    booked_line _ _ m s line all found answered
+    has_at _ _ (answer_made _ _ m s line all found answered)

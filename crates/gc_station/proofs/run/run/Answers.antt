@@ -66,7 +66,8 @@ returns-in-Err-step g c =
           let m = noted_kept plan commands scope text told taken (g.L.Link.acts c.loop-unsynced.link) (g.B.Book.taken c.loop-unsynced.book)
           (g.B.Book.taken c.sync.new.self) c.loop-unsynced.station c.args.kept.now.turns c.loop-unsynced.kept.turns c.sync.ensures.same (c.loop-unsynced.invariant.noted reads are) in
           let n = noted_same plan commands scope text told taken (g.L.Link.acts c.loop-unsynced.link) (g.B.Book.taken c.sync.new.self)
-          (g.B.Book.taken c.report_health_and_overrun-reported.new.book) c.loop-unsynced.station c.args.kept.now.turns c.loop-unsynced.kept.turns c.report_health_and_overrun-reported.ensures.taken m in
+          (g.B.Book.taken c.report_health_and_overrun-reported.new.book) c.loop-unsynced.station c.args.kept.now.turns c.loop-unsynced.kept.turns
+          c.report_health_and_overrun-reported.ensures.taken m in
           let s = state_after plan commands scope n.went.acts in
           let same = are_same s.reads reads (reads_as_in_scope plan commands scope n.went.acts) are in
           noted_wrong plan commands scope text told taken (g.L.Link.acts c.loop-unsynced.link) (g.L.Link.acts c.step.new.link)
@@ -131,7 +132,8 @@ loop-unsynced-preserved g c =
           let m = noted_kept plan commands scope text told taken (g.L.Link.acts c.loop-unsynced.link) (g.B.Book.taken c.loop-unsynced.book)
           (g.B.Book.taken c.sync.new.self) c.loop-unsynced.station c.args.kept.now.turns c.loop-unsynced.kept.turns c.sync.ensures.same (c.loop-unsynced.invariant.noted reads are) in
           let n = noted_same plan commands scope text told taken (g.L.Link.acts c.loop-unsynced.link) (g.B.Book.taken c.sync.new.self)
-          (g.B.Book.taken c.report_health_and_overrun-reported.new.book) c.loop-unsynced.station c.args.kept.now.turns c.loop-unsynced.kept.turns c.report_health_and_overrun-reported.ensures.taken m in
+          (g.B.Book.taken c.report_health_and_overrun-reported.new.book) c.loop-unsynced.station c.args.kept.now.turns c.loop-unsynced.kept.turns
+          c.report_health_and_overrun-reported.ensures.taken m in
           let s = state_after plan commands scope n.went.acts in
           let same = are_same s.reads reads (reads_as_in_scope plan commands scope n.went.acts) are in
           noted_on plan commands scope text told taken (g.L.Link.acts c.loop-unsynced.link) (g.L.Link.acts c.step.new.link)

@@ -16,10 +16,10 @@ returns-in-Ok-Plain-clause-told g c =
 
 pub returns-in-Ok-Ruled-clause-told : goal.returns-in-Ok-Ruled-clause-told
 returns-in-Ok-Ruled-clause-told g c =
-    IfOk-weaker c.exec_ruled.result _ _
+    IfOk-weaker c.exec-in-Ok-Ruled.result _ _
     (λ status told. inr (inr (
       (λ none. never_ruled c.staged_of.result c.in-Ok-Ruled.field-0 c.in-Ok-Ruled.instrument _ c.in-Ok-Ruled.is c.in-Ok-Ruled.field-0-is
           (c.staged_of.ensures.simulator none)),
       (c.in-Ok-Ruled.instrument, told),
     )))
-    c.exec_ruled.ensures.told
+    c.exec-in-Ok-Ruled.ensures.told

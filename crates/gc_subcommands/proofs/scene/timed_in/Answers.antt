@@ -7,7 +7,7 @@ use Rattle.gc_subcommands.proofs.scene.timed_in.Goals as goal
 pub returns-clause-fault : goal.returns-clause-fault
 returns-clause-fault g c =
     let at : TimedStagedFault c.as_slice.result.now (refusal_fault c.of.result) =
-    subst (λ (e : RunFault). TimedStagedFault c.as_slice.result.now e) (sym c.of.ensures) c.in-Err-timed_text.ensures.fault in
+    subst (λ (e : RunFault). TimedStagedFault c.as_slice.result.now e) (sym c.of.ensures) c.in-Err-timed_of_text.ensures.fault in
     let fault : TimedStagedFault c.in-Ok.text.items (refusal_fault c.of.result) =
     subst (λ (t : List ℕ). TimedStagedFault t (refusal_fault c.of.result)) c.as_slice.ensures.value at in
     (c.in-Ok.text.items, c.in-Ok.ensures.found.0, inr fault)

@@ -1,4 +1,4 @@
-use Rattle.gc_texts.proofs.Asked.{trouble_of_refusal}
+use Rattle.gc_texts.proofs.ParameterTroubles.{trouble_of_refusal}
 use Rattle.gc_texts.proofs.trouble.call_trouble.Goals as goal
 
 pub returns-in-Err-Parameters : goal.returns-in-Err-Parameters

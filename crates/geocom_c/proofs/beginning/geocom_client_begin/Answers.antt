@@ -1,6 +1,6 @@
 use Rattle.std.proofs.Common.{◌≡◌, ◌∙◌, drop, sym, ap}
 use Rattle.gc_client.specs.Beginning.{the_word}
-use Rattle.geocom_c.specs.Beginning.{left_behind}
+use Rattle.geocom_c.specs.Beginning.{left_by_bytes}
 use Rattle.geocom_c.specs.declared.answers.GeocomBeginning.{GeocomBeginning}
 use Rattle.geocom_c.specs.declared.header.TheConstants.{NO_CLIENT}
 use Rattle.geocom_c.proofs.beginning.geocom_client_begin.Goals as goal
@@ -13,16 +13,16 @@ returns-in_default-clause-astray c = (λ _. (c.if-line-lt-LINE_ROOM.false, c.loa
 
 pub returns-clause-heard : goal.returns-clause-heard
 returns-clause-heard c = λ room c' rest s.
-    let told = c.hear_all.ensures rest s.under_way in
-    let left = sym c.answered.ensures.answered ∙ told.1 ∙ ap (λ l. left_behind l rest c.args.bytes.now) (c.resume-beginning.ensures ∙ ap (λ n. drop n the_word) c.from.ensures) in (
+    let told = c.hear_all.ensures rest s.incomplete in
+    let left = sym c.answered.ensures.answered ∙ told.1 ∙ ap (λ l. left_by_bytes l rest c.args.bytes.now) (c.resume-beginning.ensures ∙ ap (λ n. drop n the_word) c.from.ensures) in (
       c.begun.ensures.fault,
       record {
         width = s.width;
         next = s.next;
         waiting = s.waiting;
-        head = record { width = s.head.width; digit = s.head.digit; few = s.head.few; part = c.answered.ensures.within };
+        head = record { width = s.head.width; next = s.head.next; few = s.head.few; answered = c.answered.ensures.within };
         places = s.places;
-        under_way = told.0;
+        incomplete = told.0;
       },
       left,
     )

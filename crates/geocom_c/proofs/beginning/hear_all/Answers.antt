@@ -11,7 +11,7 @@ pub loop-left-init : goal.loop-left-init
 loop-left-init c = λ r is. record { now = r; is = is; same = refl; behind = refl }
 
 pub hear_line-used-requires : goal.hear_line-used-requires
-hear_line-used-requires c = (c.loop-left.invariant (kept c.args.rest.now) (record { cut = c.requires; same = λ more. refl })).is.cut
+hear_line-used-requires c = (c.loop-left.invariant (kept c.args.rest.now) (record { valid = c.requires; same = λ more. refl })).is.valid
 
 pub loop-left-preserved : goal.loop-left-preserved
 loop-left-preserved c = λ r is.

@@ -3,7 +3,7 @@ use Rattle.gc_catalogue.specs.declared.asked.Asked.{Asked}
 use Rattle.gc_client.specs.Rule.{Windowed, expires, expiring}
 use Rattle.geocom_c.specs.State.{StandsFor}
 use Rattle.geocom_c.specs.declared.header.TheConstants.{NO_CLIENT}
-use Rattle.gc_world.proofs.Options.{some_is}
+use Rattle.std.proofs.lemmas.Option.{same_Some}
 use Rattle.geocom_c.proofs.calls.geocom_client_expire.Goals as goal
 
 pub returns-in_default-clause-expired : goal.returns-in_default-clause-expired
@@ -18,10 +18,10 @@ returns-clause-expired c = λ room c' rest s.
     let due = c.expire-due.ensures.targets in
     let n : c.counted.result.count ≡ length (expiring now c.in-Some.client.ids.waiting) = search rules in
     let text : take c.counted.result.count c.put_targets.new.targets ≡ expiring now c.in-Some.client.ids.waiting = search rules in
-    let stands = subst (λ (d : Windowed Asked). StandsFor c.store.new.state d rest) c.expire-due.ensures.client (c.store.ensures.client rest s.under_way s.head.part) in
+    let stands = subst (λ (d : Windowed Asked). StandsFor c.store.new.state d rest) c.expire-due.ensures.client (c.store.ensures.client rest s.incomplete s.head.answered) in
     subst (λ (d : Windowed Asked). (c.counted.result.fault ≡ 0) × StandsFor c.store.new.state (record d { ids = expires d.ids now }) rest
     × (c.counted.result.count ≡ length (expiring now d.ids.waiting)) × (take c.counted.result.count c.put_targets.new.targets ≡ expiring now d.ids.waiting))
-    (some_is c.in-Some.client c' (sym c.in-Some.is ∙ c.load.ensures.only c' rest s))
+    (same_Some c.in-Some.client c' (sym c.in-Some.is ∙ c.load.ensures.only c' rest s))
     (c.counted.ensures.fault, stands, n, text)
 
 pub returns-clause-astray : goal.returns-clause-astray

@@ -1,7 +1,7 @@
 use Rattle.std.proofs.Common.{◌∙◌, Some, None, sym, subst, refl}
 use Rattle.gc_catalogue.specs.declared.asked.Asked.{Asked}
 use Rattle.gc_client.specs.Rule.{Windowed, deadlines, IsEarliest}
-use Rattle.gc_world.proofs.Options.{some_is}
+use Rattle.std.proofs.lemmas.Option.{same_Some}
 use Rattle.geocom_c.proofs.calls.geocom_client_next_deadline.Goals as goal
 
 pub returns-in_default-clause-earliest : goal.returns-in_default-clause-earliest
@@ -12,7 +12,7 @@ returns-in_default-clause-astray c = (λ _. c.load.ensures.none c.in_default.is,
 
 pub returns-in-Some-next_deadline-clause-earliest : goal.returns-in-Some-next_deadline-clause-earliest
 returns-in-Some-next_deadline-clause-earliest c = λ c' rest s.
-    let same = some_is c.in-Some.client c' (sym c.in-Some.is ∙ c.load.ensures.only c' rest s) in (
+    let same = same_Some c.in-Some.client c' (sym c.in-Some.is ∙ c.load.ensures.only c' rest s) in (
       refl,
       subst (λ (d : Windowed Asked). IsEarliest (deadlines d.ids.waiting) (Some c.in-Some-next_deadline.deadline)) same
           (subst (λ o. IsEarliest (deadlines c.in-Some.client.ids.waiting) o) c.in-Some-next_deadline.is c.next_deadline.ensures),
@@ -20,5 +20,5 @@ returns-in-Some-next_deadline-clause-earliest c = λ c' rest s.
 
 pub returns-in-None-clause-earliest : goal.returns-in-None-clause-earliest
 returns-in-None-clause-earliest c = λ c' rest s.
-    let same = some_is c.in-Some.client c' (sym c.in-Some.is ∙ c.load.ensures.only c' rest s) in
+    let same = same_Some c.in-Some.client c' (sym c.in-Some.is ∙ c.load.ensures.only c' rest s) in
     (refl, subst (λ (d : Windowed Asked). IsEarliest (deadlines d.ids.waiting) None) same (subst (λ o. IsEarliest (deadlines c.in-Some.client.ids.waiting) o) c.in-None.is c.next_deadline.ensures))

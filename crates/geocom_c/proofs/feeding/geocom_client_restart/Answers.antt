@@ -7,7 +7,7 @@ use Rattle.geocom_c.specs.FirstAre.{FirstAre}
 use Rattle.geocom_c.specs.State.{StandsFor}
 use Rattle.geocom_c.specs.Settled.{IsRecord}
 use Rattle.geocom_c.specs.declared.header.TheConstants.{NO_CLIENT}
-use Rattle.gc_world.proofs.Options.{some_is}
+use Rattle.std.proofs.lemmas.Option.{same_Some}
 use Rattle.geocom_c.proofs.feeding.geocom_client_restart.Goals as goal
 
 pub returns-in_default-clause-restarted : goal.returns-in_default-clause-restarted
@@ -24,11 +24,11 @@ returns-clause-restarted c = λ room c' rest s.
     let n : c.counted.result.count ≡ length (restarts ids).settlements =
     omega (arith, c.counted.ensures.count, c.len.ensures.value, ap length are, length-map c.restart-settled.result.items settlement_seen) in
     let stands = subst (λ (d : Windowed Asked). StandsFor c.store.new.state d []) c.restart-settled.ensures.client
-    (c.store.ensures.client [] c.new-state.ensures c.answered_anew-state.ensures.within) in
+    (c.store.ensures.client [] c.new-state.ensures c.answered_after_restart-state.ensures.within) in
     let told = subst (λ (ss : List (Settlement Asked)). FirstAre (IsRecord []) c.put_lost.new.records ss) seen c.put_lost.ensures.records in
     subst (λ (d : Windowed Asked). (c.counted.result.fault ≡ 0) × StandsFor c.store.new.state (record d { ids = (restarts d.ids).client }) []
     × (c.counted.result.count ≡ length (restarts d.ids).settlements) × FirstAre (IsRecord []) c.put_lost.new.records (restarts d.ids).settlements)
-    (some_is c.in-Some.client c' (sym c.in-Some.is ∙ c.load.ensures.only c' rest s))
+    (same_Some c.in-Some.client c' (sym c.in-Some.is ∙ c.load.ensures.only c' rest s))
     (c.counted.ensures.fault, stands, n, told)
 
 pub returns-clause-astray : goal.returns-clause-astray

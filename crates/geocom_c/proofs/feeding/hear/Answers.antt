@@ -42,7 +42,7 @@ returns-in-Settled-clause-fed c =
       count = let number = ap (λ (x : GeocomHeard). x.count) h in omega (arith, number, c.len.ensures.value, ap length are, length-map c.in-Settled.settled.items settlement_seen);
       front = λ some. ap (take (length line)) whole ∙ take-append-le (length line) t (drop n new)
           (omega (arith, ap length c.list_line-answer.ensures.front, length-take (length line) t)) ∙ c.list_line-answer.ensures.front;
-      told = subst (λ (ss : List (Settlement Asked)). FirstAre (IsRecord new) c.put_records.new.records ss) seen
+      recorded = subst (λ (ss : List (Settlement Asked)). FirstAre (IsRecord new) c.put_records.new.records ss) seen
           (subst (λ (x : List ℕ). FirstAre (IsRecord x) c.put_records.new.records (map settlement_seen c.as_slice-in-Settled.result.now)) (sym whole) behind);
     }
 

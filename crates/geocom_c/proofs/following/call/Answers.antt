@@ -11,7 +11,7 @@ use Rattle.gc_client.specs.Beginning.{the_word}
 use Rattle.gc_client.specs.Rule.{Windowed, sends}
 use Rattle.gc_client.specs.OneForOne.{course_after}
 use Rattle.gc_client.specs.OneForOne as one
-use Rattle.geocom_c.specs.Beginning.{anew, left_behind}
+use Rattle.geocom_c.specs.Beginning.{left_by_restart, left_by_bytes}
 use Rattle.geocom_c.specs.State.{StandsFor, left_of}
 use Rattle.geocom_c.specs.Following.{hearing, CallsReach, Reached}
 use Rattle.geocom_c.specs.declared.following.Step.{Step}
@@ -25,8 +25,8 @@ pub returns-in-Begin : goal.returns-in-Begin
 returns-in-Begin c = λ width s steps at.
     let b = c.geocom_client_begin.ensures.heard (search rules) (record { width = width; ids = s.reached.client }) s.rest at.stands in
     record {
-      stage = record s { rest = rest_behind s.rest c.in-Begin.bytes.now; left = left_behind s.left s.rest c.in-Begin.bytes.now };
-      at = record { stands = b.1; left = b.2 ∙ ap (λ l. left_behind l s.rest c.in-Begin.bytes.now) at.left };
+      stage = record s { rest = rest_behind s.rest c.in-Begin.bytes.now; left = left_by_bytes s.left s.rest c.in-Begin.bytes.now };
+      at = record { stands = b.1; left = b.2 ∙ ap (λ l. left_by_bytes l s.rest c.in-Begin.bytes.now) at.left };
       on = λ t f. subst (λ (e : Step). CallsReach width s (e ∷ steps) t) (sym c.in-Begin.is) f;
     }
 
@@ -51,8 +51,8 @@ pub returns-in-Restart : goal.returns-in-Restart
 returns-in-Restart c = λ width s steps at.
     let r = c.geocom_client_restart.ensures.restarted (search rules) (record { width = width; ids = s.reached.client }) s.rest at.stands in
     record {
-      stage = record { reached = course_after width s.reached one.Restart; rest = []; left = anew s.left };
-      at = record { stands = r.1; left = c.geocom_client_restart.ensures.begins r.0 ∙ ap anew at.left };
+      stage = record { reached = course_after width s.reached one.Restart; rest = []; left = left_by_restart s.left };
+      at = record { stands = r.1; left = c.geocom_client_restart.ensures.begins r.0 ∙ ap left_by_restart at.left };
       on = λ t f. subst (λ (e : Step). CallsReach width s (e ∷ steps) t) (sym c.in-Restart.is) f;
     }
 

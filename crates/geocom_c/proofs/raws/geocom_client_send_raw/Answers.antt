@@ -3,10 +3,10 @@ use Rattle.gc_catalogue.specs.declared.asked.Asked.{Asked}
 use Rattle.gc_catalogue.specs.declared.asked.Asked.TheVariants.{Raw}
 use Rattle.gc_catalogue.specs.declared.raw.RawCall.{RawCall}
 use Rattle.gc_client.specs.Rule.{Windowed, sends}
-use Rattle.geocom_c.specs.Sending.{Sent, SendMeets}
+use Rattle.geocom_c.specs.Sending.{SendEffect, SendMeets}
 use Rattle.geocom_c.specs.Rest.{kept}
 use Rattle.geocom_c.proofs.Answering.{is_begun, not_begun}
-use Rattle.gc_world.proofs.Options.{some_is}
+use Rattle.std.proofs.lemmas.Option.{same_Some}
 use Rattle.geocom_c.proofs.Clients.{as_given, full_alone, no_raw_astray, unbegun_not_astray}
 use Rattle.geocom_c.proofs.raws.geocom_client_send_raw.Goals as goal
 
@@ -18,13 +18,13 @@ returns-in_default-clause-raw c = λ room c' rest e s begun is. absurd (c.in_def
 
 pub returns-in-Ok-clause-sent : goal.returns-in-Ok-clause-sent
 returns-in-Ok-clause-sent c = λ room c' rest raw s begun is.
-    let same = some_is c.in-Some.client c' (sym c.in-Some.is ∙ c.load.ensures.only c' rest s) in
+    let same = same_Some c.in-Some.client c' (sym c.in-Some.is ∙ c.load.ensures.only c' rest s) in
     let both : Ok c.in-Ok.raw ≡ Ok raw = sym c.in-Ok.is ∙ c.raw_call.ensures.only raw is.0 is.1 in
     let named : c.in-Ok.raw ≡ raw = cc in
-    let sent : Sent = record { old = c.args.state.now; new = c.send_asked.new.state; before = c.args.line.now; after = c.send_asked.new.line; told = c.send_asked.result } in
+    let sent : SendEffect = record { old = c.args.state.now; new = c.send_asked.new.state; before = c.args.line.now; after = c.send_asked.new.line; told = c.send_asked.result } in
     subst (λ (r : RawCall). SendMeets c' rest (Raw r) (sends c'.width c'.ids c.args.target (Raw r) c.args.deadline) sent) named
     (subst (λ (d : Windowed Asked). SendMeets d rest (Raw c.in-Ok.raw) (sends d.width d.ids c.args.target (Raw c.in-Ok.raw) c.args.deadline) sent) same
-    (c.send_asked.ensures.sent rest s.under_way s.head.part))
+    (c.send_asked.ensures.sent rest s.incomplete s.head.answered))
 
 pub returns-in-Ok-clause-astray : goal.returns-in-Ok-clause-astray
 returns-in-Ok-clause-astray c = (λ e. absurd (full_alone _ c.send_asked.ensures.either e), λ both. absurd (both.1 _ _ c.in-Some.ensures.found))

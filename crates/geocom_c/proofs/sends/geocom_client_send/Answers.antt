@@ -3,10 +3,10 @@ use Rattle.gc_catalogue.specs.declared.asked.Asked.{Asked}
 use Rattle.gc_catalogue.specs.declared.asked.Asked.TheVariants.{Table}
 use Rattle.gc_catalogue.specs.declared.call.Call.{Call}
 use Rattle.gc_client.specs.Rule.{Windowed, sends}
-use Rattle.geocom_c.specs.Sending.{Sent, SendMeets}
+use Rattle.geocom_c.specs.Sending.{SendEffect, SendMeets}
 use Rattle.geocom_c.specs.Rest.{kept}
 use Rattle.geocom_c.proofs.Answering.{is_begun, not_begun}
-use Rattle.gc_world.proofs.Options.{some_is}
+use Rattle.std.proofs.lemmas.Option.{same_Some}
 use Rattle.geocom_c.proofs.Clients.{full_alone, no_refusal_astray, unbegun_not_astray}
 use Rattle.geocom_c.proofs.sends.geocom_client_send.Goals as goal
 
@@ -18,13 +18,13 @@ returns-in_default-clause-call c = λ room c' rest e s begun is. absurd (c.in_de
 
 pub returns-in-Ok-clause-sent : goal.returns-in-Ok-clause-sent
 returns-in-Ok-clause-sent c = λ room c' rest call s begun is.
-    let same = some_is c.in-Some.client c' (sym c.in-Some.is ∙ c.load.ensures.only c' rest s) in
+    let same = same_Some c.in-Some.client c' (sym c.in-Some.is ∙ c.load.ensures.only c' rest s) in
     let both : Ok c.in-Ok.call ≡ Ok call = sym c.in-Ok.is ∙ c.decode_call.ensures.only call is in
     let called : c.in-Ok.call ≡ call = cc in
-    let sent : Sent = record { old = c.args.state.now; new = c.send_asked.new.state; before = c.args.line.now; after = c.send_asked.new.line; told = c.send_asked.result } in
+    let sent : SendEffect = record { old = c.args.state.now; new = c.send_asked.new.state; before = c.args.line.now; after = c.send_asked.new.line; told = c.send_asked.result } in
     subst (λ (k : Call). SendMeets c' rest (Table k) (sends c'.width c'.ids c.args.target (Table k) c.args.deadline) sent) called
     (subst (λ (d : Windowed Asked). SendMeets d rest (Table c.in-Ok.call) (sends d.width d.ids c.args.target (Table c.in-Ok.call) c.args.deadline) sent) same
-    (c.send_asked.ensures.sent rest s.under_way s.head.part))
+    (c.send_asked.ensures.sent rest s.incomplete s.head.answered))
 
 pub returns-in-Ok-clause-astray : goal.returns-in-Ok-clause-astray
 returns-in-Ok-clause-astray c = (λ e. absurd (full_alone _ c.send_asked.ensures.either e), λ both. absurd (both.1 _ _ c.in-Some.ensures.found))

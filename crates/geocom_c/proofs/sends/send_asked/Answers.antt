@@ -3,7 +3,7 @@ use Rattle.gc_catalogue.specs.declared.asked.Asked.{Asked}
 use Rattle.gc_catalogue.specs.Asked.{asked_line}
 use Rattle.gc_client.specs.Rule.{Windowed}
 use Rattle.geocom_c.specs.State.{StandsFor}
-use Rattle.geocom_c.specs.Sending.{Sent, SendMeets}
+use Rattle.geocom_c.specs.Sending.{SendEffect, SendMeets}
 use Rattle.geocom_c.proofs.Clients.{same_width, twice_untouched}
 use Rattle.geocom_c.proofs.sends.send_asked.Goals as goal
 
@@ -19,7 +19,7 @@ returns-in-Ok-clause-sent c = λ rest is part.
     let front : take c.len-in-Ok.result c.put.new.bytes ≡ line = search rules in
     let count : c.counted.result.count ≡ length (line ++ 13 ∷ 10 ∷ []) = omega (arith, c.counted.ensures.count, n, c.len-in-Ok.ensures.value, length-append line (13 ∷ 10 ∷ [])) in
     let text : take c.counted.result.count after ≡ line ++ 13 ∷ 10 ∷ [] = search rules in
-    let sent : Sent = record { old = c.args.state.now; new = c.store.new.state; before = c.args.line.now; after = after; told = c.counted.result } in
+    let sent : SendEffect = record { old = c.args.state.now; new = c.store.new.state; before = c.args.line.now; after = after; told = c.counted.result } in
     subst (λ o. SendMeets old rest c.args.asked o sent) (sym rule.0) (c.counted.ensures.fault, stands, count, text)
 
 pub returns-in-Ok-clause-untouched : goal.returns-in-Ok-clause-untouched

@@ -1,4 +1,4 @@
--- An instrument that isn't set up is written where the pointer leads, and lent to `set_up`.
+-- A value without an instrument is written to the room at the pointer, and lent to `set_up`.
 use Rattle.geocom_instrument_c.proofs.Steps.{◌≡◌, ℕ, List, [], ◌∷◌, refl, w64, proved, full_share, sep, emp, ex, ex_i, id⊢, GName, ftrue, flft, flent, named, vptr, WpFn, fact, fact_i, tables, sem}
 use Rattle.geocom_instrument_c.proofs.Steps.{Body, lft_new, lft_end, ‵, raw, ◌⊛◌, some, later, prop, ◌$◌, ◌∵◌, !, qed, done, move, keep, drop, use0, use1, use2, use3, split, join, fsplit, pick}
 use Rattle.geocom_instrument_c.proofs.Steps.{await, regoal, suffices, group, enter, of_opd, addr, stop, init, assigns, no_more, and_then, returns, alloc_all, pass_all, free_all, look_at, get}
@@ -26,9 +26,11 @@ use Rattle.geocom_instrument_c.proofs.bench.GeocomInstrument.none.Met.{met as ma
 use Rattle.geocom_instrument_c.specs.contracts.bench.GeocomInstrument.set_up as g
 use Rattle.geocom_instrument_c.proofs.bench.GeocomInstrument.set_up.Met.{met}
 
+-- at the exit of the call nothing is owned of its parameters
 abbrev stayed : Stays f.ended.signature.params f.ended.kept
 stayed = (stay_dropped _ yes, (stay_dropped _ yes, (stay_dropped _ yes, tt)))
 
+-- the call meets its contract: the room at the pointer has an instrument afterwards, and `IsSetUp` says what the call did
 pub geocom_instrument_init_spec : {M : Type 1} → statement M
 geocom_instrument_init_spec 𝓤 𝓛 𝓜 𝓡 wired =
     let c = f.clauses 𝓛 𝓜.mem 𝓡.returns in let W = walk_of 𝓛 f.ended stayed c in let 𝓣 = tables 𝓤 𝓛.H 𝓜 𝓡 𝓡.env in

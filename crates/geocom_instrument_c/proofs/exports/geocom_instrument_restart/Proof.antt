@@ -1,4 +1,4 @@
--- The instrument behind the pointer is lent to `restart`, and lies there again behind it.
+-- The instrument at the pointer is lent to `restart`, and is there again afterwards.
 use Rattle.geocom_instrument_c.proofs.Steps.{◌≡◌, ℕ, List, [], ◌∷◌, refl, ap, w32, proved, full_share, sep, emp, ex, ex_i, id⊢, GName, ftrue, flft, flent, named, Val, vint, vptr, WpFn, fact}
 use Rattle.geocom_instrument_c.proofs.Steps.{fact_i, tables, sem, Body, lft_new, lft_end, ‵, raw, ◌⊛◌, some, later, prop, ◌$◌, ◌∵◌, !, qed, done, move, keep, drop, use0, use1, use2, use3, split}
 use Rattle.geocom_instrument_c.proofs.Steps.{join, fsplit, rewrite, pick, await, regoal, suffices, group, enter, of_opd, addr, stop, no_more, and_then, returns, alloc_all, pass_all, free_all}
@@ -16,9 +16,11 @@ use Rattle.geocom_instrument_c.proofs.exports.geocom_instrument_restart.Code as 
 use Rattle.geocom_instrument_c.specs.contracts.bench.GeocomInstrument.restart as g
 use Rattle.geocom_instrument_c.proofs.bench.GeocomInstrument.restart.Met.{met}
 
+-- at the exit of the call nothing is owned of its parameters
 abbrev stayed : Stays f.ended.signature.params f.ended.kept
 stayed = (stay_dropped _ yes, tt)
 
+-- the call meets its contract: the instrument at the pointer is there afterwards, too, and `IsRestarted` says what the call did
 pub geocom_instrument_restart_spec : {M : Type 1} → statement M
 geocom_instrument_restart_spec 𝓤 𝓛 𝓜 𝓡 wired =
     let c = f.clauses 𝓛 𝓜.mem 𝓡.returns in let W = walk_of 𝓛 f.ended stayed c in let 𝓣 = tables 𝓤 𝓛.H 𝓜 𝓡 𝓡.env in

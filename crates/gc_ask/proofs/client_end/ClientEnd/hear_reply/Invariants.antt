@@ -2,7 +2,7 @@ use Rattle.std.proofs.Common.{◌≡◌, ◌<◌, ◌≤◌, ◌+◌, ◌-◌, �
 use Rattle.std.specs.Io.KnownBytes.{Consumes}
 use Rattle.gc_lines.specs.Assembler.{StandsFor}
 use Rattle.gc_ask.specs.Links.{OnlyReads}
-use Rattle.gc_ask.specs.declared.unheard.TheConstants.{ROOM}
+use Rattle.gc_ask.specs.declared.unused.TheConstants.{ROOM}
 use Rattle.gc_ask.proofs.FirstReplies.{Reading}
 use Rattle.gc_ask.proofs.client_end.ClientEnd.hear_reply.Given as goal
 

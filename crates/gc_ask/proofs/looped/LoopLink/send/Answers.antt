@@ -6,8 +6,8 @@ use Rattle.gc_ask.proofs.Ends.{sends_not_too_many, step_none, step_sends}
 use Rattle.gc_ask.proofs.Exchanging.{takes_answered, takes_sent}
 use Rattle.gc_ask.proofs.looped.LoopLink.send.Goals as goal
 
-not_alone : false ≡ true → ⊥
-not_alone e = cc
+not_remote : false ≡ true → ⊥
+not_remote e = cc
 
 pub returns-in-Err-clause-takes : goal.returns-in-Err-clause-takes
 returns-in-Err-clause-takes g c = takes_sent false c.args.place (with_end c.args.request.now.items) (g.B.Sink.taken c.args.self.now.client_out.now)
@@ -31,7 +31,7 @@ returns-in-Err-clause-too_many g c is = absurd (sends_not_too_many c.args.place 
 
 pub returns-clause-takes : goal.returns-clause-takes
 returns-clause-takes g c = takes_answered false c.args.place (with_end c.args.request.now.items) (g.B.Sink.taken c.args.self.now.client_out.now)
-    (g.B.Sink.taken c.send_line.new.sink) c.answer_line.result not_alone c.in_default.ensures.0 c.answer_line.ensures.count
+    (g.B.Sink.taken c.send_line.new.sink) c.answer_line.result not_remote c.in_default.ensures.0 c.answer_line.ensures.count
 
 pub returns-clause-ends : goal.returns-clause-ends
 returns-clause-ends g c =

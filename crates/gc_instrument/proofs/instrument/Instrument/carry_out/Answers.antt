@@ -5,5 +5,5 @@ use Rattle.gc_instrument.proofs.instrument.Instrument.carry_out.Goals as goal
 pub returns-in-MeasDistance : goal.returns-in-MeasDistance
 returns-in-MeasDistance c =
     let fits : FitsSigned w32 c.in-MeasDistance.mode = search rules in
-    let h = simp to_z-of_z at c.measured_distance.ensures in
+    let h = simp to_z-of_z at c.measure_in_mode.ensures in
     rw c.in-MeasDistance.is h

@@ -23,7 +23,7 @@ use denote.Triple.Entry.{alive}
 use denote.Triple.Spec.{Meets, triple_of}
 use denote.Triple.Table.{entered}
 use denote.Triple.Walked.{says, Stays, walk_of, ends_at, walk_Meets}
-use Rattle.gc_links.proofs.Walks.{none, none_made}
+use Rattle.gc_lines.proofs.Walks.{none, none_made}
 use Rattle.gc_links.specs.contracts.history.History as History
 use Rattle.gc_links.specs.contracts.history.History.new as F
 use Rattle.gc_links.specs.contracts.history.History.new.Key.{name as #self}

@@ -25,7 +25,7 @@ use denote.Triple.Entry.{alive}
 use denote.Triple.Spec.{Meets, triple_of}
 use denote.Triple.Table.{entered}
 use denote.Triple.Walked.{says, Stays, stay_dropped, walk_of, ends_at, walk_Meets, Goes-dropped}
-use Rattle.gc_links.proofs.Walks.{none, none_made}
+use Rattle.gc_lines.proofs.Walks.{none, none_made}
 use Rattle.gc_links.specs.contracts.history.History as History
 use Rattle.gc_links.specs.contracts.history.Note as Note
 use Rattle.gc_links.specs.Noted.{act_of}

@@ -1,6 +1,6 @@
 use Rattle.std.proofs.Common.{[], ◌∷◌, ◌++◌, codes, ◌∙◌}
 use Rattle.gc_logs.specs.Logging.{entries_of_pending, link_entry}
-use Rattle.gc_logs.specs.declared.logging.Way.TheVariants.{Went, Came}
+use Rattle.gc_logs.specs.declared.logging.Direction.TheVariants.{Went, Came}
 use Rattle.gc_logs.proofs.LogLines.{takes_last}
 use Rattle.gc_logs.proofs.logged.LoggedLink.close.Goals as goal
 

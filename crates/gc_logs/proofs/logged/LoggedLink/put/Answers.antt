@@ -1,6 +1,6 @@
 use Rattle.std.proofs.Common.{[], ◌∷◌, take, codes, ◌∙◌}
 use Rattle.gc_logs.specs.Logging.{entries, link_entry}
-use Rattle.gc_logs.specs.declared.logging.Way.TheVariants.{Went}
+use Rattle.gc_logs.specs.declared.logging.Direction.TheVariants.{Went}
 use Rattle.gc_logs.proofs.LogLines.{takes_last}
 use Rattle.gc_logs.proofs.logged.LoggedLink.put.Goals as goal
 

@@ -6,12 +6,12 @@ use Rattle.gc_messages.proofs.following.FollowedDurable.sync.Goals as goal
 
 pub returns-in-Ok-sync-clause-same : goal.returns-in-Ok-sync-clause-same
 returns-in-Ok-sync-clause-same g c =
-    appended_after_leaving c.args.self.now.left.steps _ (steps_in c.sync.new.self) _ _ _
-    (c.then-self.ensures ∙ ap (λ s. c.args.self.now.left.steps ++ s) c.past.ensures.is)
+    appended_after_leaving c.args.self.now.earlier.steps _ (steps_in c.sync.new.self) _ _ _
+    (c.then-self.ensures ∙ ap (λ s. c.args.self.now.earlier.steps ++ s) c.past.ensures.is)
     c.in-Ok.ensures.same (ap appended c.in-Ok-opened.ensures.fresh) c.in-Ok-sync.ensures.same
 
 pub returns-in-Err-sync-clause-same : goal.returns-in-Err-sync-clause-same
 returns-in-Err-sync-clause-same g c =
-    appended_after_leaving c.args.self.now.left.steps _ (steps_in c.sync.new.self) _ _ _
-    (c.then-self.ensures ∙ ap (λ s. c.args.self.now.left.steps ++ s) c.past.ensures.is)
+    appended_after_leaving c.args.self.now.earlier.steps _ (steps_in c.sync.new.self) _ _ _
+    (c.then-self.ensures ∙ ap (λ s. c.args.self.now.earlier.steps ++ s) c.past.ensures.is)
     c.in-Ok.ensures.same (ap appended c.in-Ok-opened.ensures.fresh) c.in-Err-sync.ensures.same

@@ -16,7 +16,7 @@ gives left buf got n is fits none =
 pub returns-clause-bytes : goal.returns-clause-bytes
 returns-clause-bytes c =
     let left = c.self-2.inside.left.now in
-    let n = c.next_size-n.result in
-    let next = c.next_size-n.ensures in
+    let n = c.take_size-n.result in
+    let next = c.take_size-n.ensures in
     let same : c.args.self.now.left ≡ left = search rules in
     rw same (gives left c.args.buf.now c.copy_from_slice.new.self n (search rules) (omega (arith, next.within, ap length same)) (λ zero. omega (arith, next.some (search rules) zero, ap length same)))

@@ -3,8 +3,9 @@ use Rattle.std.proofs.lemmas.Result.{on_ok_weaker}
 use Rattle.gc_lines.specs.Answering.{AppendsAnswer}
 use Rattle.gc_scenes.specs.SceneReplying.{IsPlayed}
 use Rattle.gc_scene_world.specs.SceneStages.{seen}
-use Rattle.gc_scene_world.proofs.Exchanges.{Notes, id_of, notes_are}
+use Rattle.gc_scene_world.proofs.Exchanges.{Notes, notes_are}
 use Rattle.gc_scene_world.proofs.Shown.{streams_up_deliver}
+use Rattle.gc_world.proofs.Handing.{kept_id}
 use Rattle.gc_scene_world.proofs.stage.Stage.up_deliver.Goals as goal
 
 pub returns : goal.returns
@@ -16,7 +17,7 @@ returns c =
     let empty : c.new-reply.result.items ≡ [] = search rules in
     let played : AppendsAnswer (IsPlayed s.instrument request.items did.new.self) c.new-reply.result.items did.new.out.items did.result =
     subst (λ (l : List ℕ). AppendsAnswer (IsPlayed s.instrument l did.new.self) c.new-reply.result.items did.new.out.items did.result) c.as_slice.ensures.value did.ensures.played in
-    let notes : Notes s.instrument.repeats (id_of s.instrument.base.kept) (id_of did.new.self.base.kept) s.counts.executed noted.new.executed =
+    let notes : Notes s.instrument.repeats (kept_id s.instrument.base.kept) (kept_id did.new.self.base.kept) s.counts.executed noted.new.executed =
     notes_are c.repeats-repeats.result _ c.kept_id-before.result _ c.kept_id-after.result _ _ _ c.repeats-repeats.ensures c.kept_id-before.ensures c.kept_id-after.ensures
     (record { same = noted.ensures.same; another = noted.ensures.another; never = noted.ensures.never }) in
     on_ok_weaker c.push.result

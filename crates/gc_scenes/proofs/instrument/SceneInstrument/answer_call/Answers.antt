@@ -4,7 +4,7 @@ use Rattle.gc_instrument.proofs.Keeping.{appended_bytes}
 use Rattle.gc_scenes.specs.Appending.{AppendsPlayed}
 use Rattle.gc_scenes.specs.Rules.{fault_of}
 use Rattle.gc_scenes.specs.SceneExecution.{played_call, unless_faulted}
-use Rattle.gc_scenes.specs.SceneReplying.{again_for, line_of}
+use Rattle.gc_scenes.specs.SceneReplying.{resent_line, played_line}
 use Rattle.gc_scenes.specs.SceneState.{SceneState}
 use Rattle.gc_scenes.proofs.Playing.{gave_again, gave_played, gave_call}
 use Rattle.gc_scenes.proofs.instrument.SceneInstrument.answer_call.Goals as goal
@@ -13,7 +13,7 @@ pub returns-in-Some-clause-gave : goal.returns-in-Some-clause-gave
 returns-in-Some-clause-gave g c =
     let s = c.args.self.now in
     gave_call s s c.args.rpc c.args.id c.args.call.now _ _
-    (gave_again s c.args.id (played_call s c.args.rpc c.args.call.now) c.in-Some.line.now _ _ (sym c.again_for.ensures.line ∙ ap (option_map (λ r. r.now)) c.in-Some.is) c.append.ensures)
+    (gave_again s c.args.id (played_call s c.args.rpc c.args.call.now) c.in-Some.line.now _ _ (sym c.resent_line.ensures.line ∙ ap (option_map (λ r. r.now)) c.in-Some.is) c.append.ensures)
 
 pub returns-clause-gave : goal.returns-clause-gave
 returns-clause-gave g c =
@@ -26,7 +26,7 @@ returns-clause-gave g c =
     let h : AppendsPlayed n p c.play_onto.new.self old new =
     subst (λ (t : SceneState). AppendsPlayed n (unless_faulted t call (fault_of c.args.rpc s.faults)) c.play_onto.new.self old new) c.count.ensures
     (subst (λ (f : Option ℕ). AppendsPlayed n (unless_faulted c.count.new.self call f) c.play_onto.new.self old new) c.fault_of-fault.ensures.code c.play_onto.ensures.played) in
-    let none : again_for s c.args.id ≡ None = sym c.again_for.ensures.line ∙ ap (option_map (λ r. r.now)) c.in_default.is in
-    let own = appended_bytes old new c.deref.result.now (line_of n p) c.len-start.result c.deref.ensures.0 h.appended c.len-start.ensures.value in
+    let none : resent_line s c.args.id ≡ None = sym c.resent_line.ensures.line ∙ ap (option_map (λ r. r.now)) c.in_default.is in
+    let own = appended_bytes old new c.deref.result.now (played_line n p) c.len-start.result c.deref.ensures.0 h.appended c.len-start.ensures.value in
     gave_call s c.keep.new.self c.args.rpc c.args.id call old new
     (gave_played s c.args.id p n c.play_onto.new.self c.keep.new.self _ old new none c.unwrap_or.ensures h.state h.appended own c.keep.ensures)

@@ -13,4 +13,4 @@ returns-clause-gives c targets =
     let there = c.pointing-there.result in
     sym (ap (λ (h : Decimal). done (pointed s h c.other_v.result) Nothing) c.other_hz.ensures ∙ ap (λ (v : Decimal). done (pointed s (other_hz there.hz) v) Nothing) c.other_v.ensures
     ∙ ap (λ (p : Pointing). done (pointed s (other_hz p.hz) (other_v p.v)) Nothing) c.pointing-there.ensures)
-    ∙ c.position.ensures.gives targets
+    ∙ c.turn_to.ensures.gives targets

@@ -27,7 +27,7 @@ use denote.Triple.Entry.{alive}
 use denote.Triple.Spec.{Meets, triple_of}
 use denote.Triple.Table.{entered}
 use denote.Triple.Walked.{says, Stays, stay_dropped, walk_of, ends_at, walk_Meets, Goes-dropped}
-use Rattle.gc_station.proofs.Fieldless.{none, none_made}
+use Rattle.gc_lines.proofs.Walks.{none, none_made}
 use Rattle.gc_station.specs.contracts.kept.Kept as Kept
 use Rattle.gc_station.specs.contracts.kept.Kept.then as F
 use Rattle.gc_station.specs.contracts.kept.Kept.then.Key.{name as #self}

@@ -15,7 +15,7 @@ returns-in-Err g c commands text known =
       goes = λ s start stands so. (
         tt,
         record {
-          progress = c.try_again.ensures ∙ ap (λ n. after_failure plan n cause.Open old.progress) (c.commands-commands.ensures ∙ ap commands_in stands.marks)
+          progress = c.note_unconnected.ensures ∙ ap (λ n. after_failure plan n cause.Open old.progress) (c.commands_waiting-commands.ensures ∙ ap commands_in stands.marks)
               ∙ ap (after_failure plan (commands_in s.marks) cause.Open) stands.progress;
           ids = stands.ids;
           width = stands.width;

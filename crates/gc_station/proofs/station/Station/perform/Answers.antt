@@ -28,7 +28,7 @@ pub returns-in-Skip-clause-does : goal.returns-in-Skip-clause-does
 returns-in-Skip-clause-does g c = rw c.in-Skip.is c.skip.ensures.does
 
 pub returns-in-Pass-clause-does : goal.returns-in-Pass-clause-does
-returns-in-Pass-clause-does g c = rw c.in-Pass.is (c.pass.ensures (g.B.Book.text c.args.book.now) (g.B.Book.taken c.args.book.now))
+returns-in-Pass-clause-does g c = rw c.in-Pass.is (c.leave_out.ensures (g.B.Book.text c.args.book.now) (g.B.Book.taken c.args.book.now))
 
 pub returns-in-Flush-clause-does : goal.returns-in-Flush-clause-does
 returns-in-Flush-clause-does g c = rw c.in-Flush.is (c.flush.ensures (g.B.Book.text c.args.book.now) (g.B.Book.taken c.args.book.now))

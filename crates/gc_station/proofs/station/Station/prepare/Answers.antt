@@ -2,7 +2,7 @@ use Rattle.std.proofs.Common.{◌≡◌, drop, ap, refl, ◌∙◌}
 use Rattle.gc_catalogue.specs.declared.asked.Asked.{Asked}
 use Rattle.gc_client.specs.Rule.{ById}
 use Rattle.gc_links.specs.Acts.{put_act}
-use Rattle.gc_station.specs.declared.station.sending.Asking.{Asking}
+use Rattle.gc_station.specs.declared.station.sending.Outgoing.{Outgoing}
 use Rattle.gc_station.specs.declared.progress.Progress.{Progress}
 use Rattle.gc_station.specs.Progressing.{setup_sent}
 use Rattle.gc_station.specs.Stations.{setup_asked}
@@ -30,7 +30,7 @@ returns g c text known =
           let asked = asks_refines old c.ask-put.new.self s asking.wait asking.command asking.command asking.mark stands c.requires.room refl c.ask-put.ensures.asks in
           let first = setup_refines plan c.ask-put.new.self s asking mark list is asked in (
             put_puts put line (text_or_null s.progress.moment.utc s.client list) (ap (λ (ids : ById Asked). request_text ids asking.command.call) stands.ids
-                ∙ ap (λ (a : Asking). request_text s.client a.command.call) is ∙ setup_text plan s.client mark list) c.ask-put.ensures.part,
+                ∙ ap (λ (a : Outgoing). request_text s.client a.command.call) is ∙ setup_text plan s.client mark list) c.ask-put.ensures.part,
             put_refines put line c.commands_before-requests.result (commands_before plan commands s.progress) f s (record c.ask-put.new.self { progress = c.note_setup.new.self }) c.note_cut.new.self
                 (refines_with c.ask-put.new.self c.note_setup.new.self (setup_sent plan) (asks_setup plan commands s) first c.note_setup.ensures) c.note_cut.ensures
                 (c.commands_before-requests.ensures ∙ ap (commands_before plan commands) stands.progress),

@@ -2,7 +2,7 @@ use Rattle.std.proofs.Common.{ap, ◌∙◌}
 use Rattle.gc_links.specs.Acts.{Told}
 use Rattle.gc_station.specs.declared.progress.Progress.{Progress}
 use Rattle.gc_station.specs.Marks.{commands_in}
-use Rattle.gc_station.specs.Progressing.{moment_noted, reckoned_early}
+use Rattle.gc_station.specs.Progressing.{moment_noted, early_noted}
 use Rattle.gc_station.proofs.Hearing.{refines_expired}
 use Rattle.gc_station.proofs.station.Station.read_clock.Goals as goal
 
@@ -15,9 +15,9 @@ returns-in-Ok g c commands text known =
       tells = c.in-Ok.ensures;
       goes = λ s start stands so. (
         tt,
-        refines_expired c.args.self.now c.note_early.new.self (reckoned_early plan (commands_in s.marks) (moment_noted m s.progress)) c.expire.new.self c.min-self.result m s stands
-            (c.note_early.ensures ∙ ap (λ n. reckoned_early plan n c.note_moment.new.self) (c.commands-commands.ensures ∙ ap commands_in stands.marks)
-            ∙ ap (λ (p : Progress). reckoned_early plan (commands_in s.marks) p) (c.note_moment.ensures ∙ ap (moment_noted m) stands.progress)) c.expire.ensures.client c.min-self.ensures,
+        refines_expired c.args.self.now c.note_early.new.self (early_noted plan (commands_in s.marks) (moment_noted m s.progress)) c.expire.new.self c.min-self.result m s stands
+            (c.note_early.ensures ∙ ap (λ n. early_noted plan n c.note_moment.new.self) (c.commands_waiting-commands.ensures ∙ ap commands_in stands.marks)
+            ∙ ap (λ (p : Progress). early_noted plan (commands_in s.marks) p) (c.note_moment.ensures ∙ ap (moment_noted m) stands.progress)) c.expire.ensures.client c.min-self.ensures,
         so,
       );
     }

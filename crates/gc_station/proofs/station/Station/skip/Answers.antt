@@ -7,9 +7,9 @@ use Rattle.gc_links.specs.Acts.{Told, Untold}
 use Rattle.gc_station.specs.Attempts.{listed_after}
 use Rattle.gc_texts.specs.Endings.{Missed, Skipped}
 use Rattle.gc_station.specs.Marks.{commands_in}
-use Rattle.gc_station.specs.Progressing.{failing, skipped, reckoned_early}
+use Rattle.gc_station.specs.Progressing.{failing, skipped, early_noted}
 use Rattle.gc_station.specs.Records.{Record, texts_of}
-use Rattle.gc_station.specs.Model.{Model, place_next, mark_next, is_chained_after_next, others_after_next, skip_listed, skips, with_progress, with_listed, with_records}
+use Rattle.gc_station.specs.Model.{Model, place_next, mark_next, is_chained_after_next, others_after_next, listed_after_skip, unsent_record, with_progress, with_listed, with_records}
 use Rattle.gc_station.specs.Stations.{Refines, Took}
 use Rattle.gc_station.proofs.Hearing.{refines_expired}
 use Rattle.gc_station.proofs.Making.{refines_with, drop_some, skips_unwell, skipped_refines, none_skipped}
@@ -18,12 +18,12 @@ use Rattle.gc_station.proofs.station.Station.skip.Goals as goal
 pub returns-in_default-clause-does : goal.returns-in_default-clause-does
 returns-in_default-clause-does g c =
     let old = c.args.self.now in
-    let mid = c.write_skipped.new.self in
+    let mid = c.write_unsent.new.self in
     let plan = c.args.plan.now in
     let commands = c.args.commands.now in
     let m = c.in-Ok.moment in
     let p = old.progress in
-    let rs = skips plan commands p (Told m) in
+    let rs = unsent_record plan commands p (Told m) in
     let below : place_next commands p < length commands = omega (arith, c.requires.unsent, c.requires.within) in
     let here = drop_some commands (place_next commands p) below in
     record {
@@ -33,7 +33,7 @@ returns-in_default-clause-does g c =
           let q = s.progress in
           let next_is_chained = is_chained_after_next commands q in
           let behind = others_after_next commands q in
-          let listed = skip_listed plan commands s (Told m) in
+          let listed = listed_after_skip plan commands s (Told m) in
           let is = stands.progress in
           let same = ap (λ (x : Station). x.progress) c.in_default.ensures.after ∙ is in
           let here_stands : Refines mid (with_listed listed (with_records rs s)) = skipped_refines old mid s rs
@@ -42,20 +42,20 @@ returns-in_default-clause-does g c =
           (λ are. ap (λ b. listed_after b (mark_next plan commands p).expected None (if p.missed then Missed else Skipped)) (stands.listed are)
           ∙ ap (λ (x : Progress). listed_after s.listed (mark_next plan commands x).expected None (if x.missed then Missed else Skipped)) is)
           c.in_default.ensures.after in
-          let rs' = ap (λ (x : Progress). skips plan commands x (Told m)) is in
-          let there : Refines mid (with_listed listed (with_records (skips plan commands q (Told m)) s)) = subst
+          let rs' = ap (λ (x : Progress). unsent_record plan commands x (Told m)) is in
+          let there : Refines mid (with_listed listed (with_records (unsent_record plan commands q (Told m)) s)) = subst
           (λ (xs : List Record). Refines mid (with_listed listed (with_records xs s))) rs' here_stands in
-          let waiting = c.commands-waiting.ensures ∙ ap commands_in there.marks in
+          let waiting = c.commands_waiting-waiting.ensures ∙ ap commands_in there.marks in
           let progress =
-          c.note_early.ensures ∙ ap (λ n. reckoned_early plan n c.skip.new.self) waiting
-          ∙ ap (reckoned_early plan (commands_in s.marks)) (c.skip.ensures
+          c.note_early.ensures ∙ ap (λ n. early_noted plan n c.skip.new.self) waiting
+          ∙ ap (early_noted plan (commands_in s.marks)) (c.skip.ensures
           ∙ ap (λ b. skipped b c.others_after-others.result m mid.progress) (c.is_chained_after-next_is_chained.ensures ∙ ap (is_chained_after_next commands) same)
           ∙ ap (λ n. skipped next_is_chained n m mid.progress) (c.others_after-others.ensures ∙ ap (others_after_next commands) same)
           ∙ ap (skipped next_is_chained behind m) same) in (
             tt,
-            refines_expired mid c.note_early.new.self (reckoned_early plan (commands_in s.marks) (skipped next_is_chained behind m q)) c.expire.new.self c.min-self.result m
-                (with_listed listed (with_records (skips plan commands q (Told m)) s)) there progress c.expire.ensures.client c.min-self.ensures,
-            λ are. subst (λ (xs : List Record). Appends start (g.B.Book.taken c.write_skipped.new.book)
+            refines_expired mid c.note_early.new.self (early_noted plan (commands_in s.marks) (skipped next_is_chained behind m q)) c.expire.new.self c.min-self.result m
+                (with_listed listed (with_records (unsent_record plan commands q (Told m)) s)) there progress c.expire.ensures.client c.min-self.ensures,
+            λ are. subst (λ (xs : List Record). Appends start (g.B.Book.taken c.write_unsent.new.book)
                 (texts_of (g.B.Book.text c.args.book.now) (s.records ++ xs))) rs' (c.in_default.ensures.wrote start s.records (so are)),
           );
     }

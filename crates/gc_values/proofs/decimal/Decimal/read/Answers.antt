@@ -1,14 +1,14 @@
 use Rattle.std.proofs.Common.{subst, sym}
 use Rattle.gc_values.specs.Spelling.{Spells}
 use Rattle.gc_values.proofs.DecimalLaws.{written_spells_decimal}
-use Rattle.gc_values.proofs.Reading.{IsReading, reads_parts}
+use Rattle.gc_values.proofs.Reading.{IsDecimalRead, reads_parts}
 use Rattle.gc_values.proofs.decimal.Decimal.read.Goals as goal
-use Rattle.gc_values.proofs.decimal.Decimal.read.Goals.{After-in_range}
+use Rattle.gc_values.proofs.decimal.Decimal.read.Goals.{After-try_from_parts}
 
--- what `Decimal::read` returns for a text that has the parts of a number meets its contract, `IsReading`
-result_is_reading : (c : After-in_range) → IsReading c.args.text.now c.in_range.result
+-- what `Decimal::read` returns for a text that has the parts of a number meets its contract, `IsDecimalRead`
+result_is_reading : (c : After-try_from_parts) → IsDecimalRead c.args.text.now c.try_from_parts.result
 result_is_reading c =
-    reads_parts c.args.text.now _ _ _ _ _ _ _ c.in_range.result c.in-Some.ensures.found c.units-magnitude.ensures c.in_range.ensures.made c.in_range.ensures.exact
+    reads_parts c.args.text.now _ _ _ _ _ _ _ c.try_from_parts.result c.in-Some.ensures.found c.rounded_units-magnitude.ensures c.try_from_parts.ensures.made c.try_from_parts.ensures.exact
 
 pub returns-clause-value : goal.returns-clause-value
 returns-clause-value c = (result_is_reading c).value

@@ -1,6 +1,8 @@
 use Rattle.std.proofs.Common.{◌≡◌, ◌≤◌, ◌∷◌, ◌++◌, length, Some, sym, ◌∙◌, ap, subst}
 use Rattle.std.specs.Option.{option_map}
 use Rattle.std.specs.Prelude.{slice_get}
+use Rattle.std.proofs.lemmas.Bool.{false≢true}
+use Rattle.std.proofs.lemmas.Option.{slice_get_within}
 use Rattle.gc_world.specs.declared.direction.Direction.TheVariants.{Down}
 use Rattle.gc_world.specs.declared.report.Made.{Made}
 use Rattle.gc_world.specs.Stages.{seen}
@@ -8,9 +10,8 @@ use Rattle.gc_world.specs.Streams.{down_texts}
 use Rattle.gc_world.proofs.Pieces.{came_out, none_else}
 use Rattle.gc_world.proofs.Showing.{none_settled}
 use Rattle.gc_world.proofs.Shown.{carries, front_reply, streams_down_deliver}
-use Rattle.gc_world.proofs.Places.{below}
 use Rattle.gc_world.proofs.Sides.{front_flow}
-use Rattle.gc_world.proofs.Sparing.{not_both, stray}
+use Rattle.gc_world.proofs.Sparing.{stray}
 use Rattle.gc_world.proofs.stage.Stage.down_deliver.Goals as goal
 
 pub at-requires : goal.at-requires
@@ -18,7 +19,7 @@ at-requires g c =
     let s = seen c.args.self.now in
     let shown = c.requires.shown in
     let front = front_reply shown.0 s shown.1 shown.2 c.in-Some.place c.take_front.new.self c.in-Some.ensures in
-    below s.report.made c.in-Some.place front.0 front.1
+    slice_get_within s.report.made c.in-Some.place front.0 front.1
 
 pub finish-frame-requires-clause-flow : goal.finish-frame-requires-clause-flow
 finish-frame-requires-clause-flow g c =
@@ -43,7 +44,7 @@ returns-in_err-append_all-clause-spare g c =
     let came : reply ≡ c.as_slice-line.result.now = came_out c.finish-frame.result c.in-Line.reply c.as_slice-line.result.now c.in-Line.is c.finish-frame.ensures.line in
     let out : reply ≡ line.items = came ∙ c.as_slice-line.ensures.value in
     let fits : length reply ≤ 512 = subst (λ l. length l ≤ 512) (sym came) c.as_slice-line.ensures.fits in
-    λ width v h t. absurd (not_both (sym (stray width s.report s.up.queue s.down.queue s.client v.world h.lines c.in-Some.place c.take_front.new.self
+    λ width v h t. absurd (false≢true (sym (stray width s.report s.up.queue s.down.queue s.client v.world h.lines c.in-Some.place c.take_front.new.self
     c.at.result.now reply c.in-Some.ensures c.at.ensures out t) ∙ c.in-Settled.ensures.heard fits))
 
 pub returns-in_ok-append_all-clause-follows : goal.returns-in_ok-append_all-clause-follows

@@ -1,8 +1,9 @@
 use Rattle.std.proofs.Common.{sym, subst}
+use Rattle.std.proofs.lemmas.Bool.{false≢true}
 use Rattle.gc_world.specs.Memory.{TakesNoMemory}
 use Rattle.gc_world.specs.Stages.{seen, Follows}
 use Rattle.gc_world.proofs.Shown.{up_lost, up_repeated, down_lost, down_repeated}
-use Rattle.gc_world.proofs.Sparing.{not_both, full, none_up, no_repeat_up, no_repeat_down, busy}
+use Rattle.gc_world.proofs.Sparing.{full, none_up, no_repeat_up, no_repeat_down, busy}
 use Rattle.gc_world.proofs.stage.Stage.happen.Goals as goal
 
 -- What the event's own method says of it. The search finds some of these, at its limits.
@@ -15,17 +16,17 @@ pub returns-in_ok-up_deliver-in-UpDeliver-clause-follows : goal.returns-in_ok-up
 returns-in_ok-up_deliver-in-UpDeliver-clause-follows g c =
     subst (λ event. Follows c.args.self.now event c.up_deliver.new.self) (sym c.in-UpDeliver.is) c.in_ok-up_deliver-in-UpDeliver.ensures.follows
 
-pub returns-in_ok-bytes-in-UpBytes-clause-follows : goal.returns-in_ok-bytes-in-UpBytes-clause-follows
-returns-in_ok-bytes-in-UpBytes-clause-follows g c =
-    subst (λ event. Follows c.args.self.now event c.bytes.new.self) (sym c.in-UpBytes.is) c.in_ok-bytes-in-UpBytes.ensures.follows
+pub returns-in_ok-deliver_bytes-in-UpBytes-clause-follows : goal.returns-in_ok-deliver_bytes-in-UpBytes-clause-follows
+returns-in_ok-deliver_bytes-in-UpBytes-clause-follows g c =
+    subst (λ event. Follows c.args.self.now event c.deliver_bytes.new.self) (sym c.in-UpBytes.is) c.in_ok-deliver_bytes-in-UpBytes.ensures.follows
 
 pub returns-in_ok-down_deliver-in-DownDeliver-clause-follows : goal.returns-in_ok-down_deliver-in-DownDeliver-clause-follows
 returns-in_ok-down_deliver-in-DownDeliver-clause-follows g c =
     subst (λ event. Follows c.args.self.now event c.down_deliver.new.self) (sym c.in-DownDeliver.is) c.in_ok-down_deliver-in-DownDeliver.ensures.follows
 
-pub returns-in_ok-bytes-in-DownBytes-clause-follows : goal.returns-in_ok-bytes-in-DownBytes-clause-follows
-returns-in_ok-bytes-in-DownBytes-clause-follows g c =
-    subst (λ event. Follows c.args.self.now event c.bytes-in-DownBytes.new.self) (sym c.in-DownBytes.is) c.in_ok-bytes-in-DownBytes.ensures.follows
+pub returns-in_ok-deliver_bytes-in-DownBytes-clause-follows : goal.returns-in_ok-deliver_bytes-in-DownBytes-clause-follows
+returns-in_ok-deliver_bytes-in-DownBytes-clause-follows g c =
+    subst (λ event. Follows c.args.self.now event c.deliver_bytes-in-DownBytes.new.self) (sym c.in-DownBytes.is) c.in_ok-deliver_bytes-in-DownBytes.ensures.follows
 
 pub returns-in_ok-restart_client-in-RestartClient-clause-follows : goal.returns-in_ok-restart_client-in-RestartClient-clause-follows
 returns-in_ok-restart_client-in-RestartClient-clause-follows g c =
@@ -68,49 +69,49 @@ returns-in_ok-repeat-in-DownRepeat-clause-follows g c =
 pub returns-in_err-send-in-Send-clause-spare : goal.returns-in_err-send-in-Send-clause-spare
 returns-in_err-send-in-Send-clause-spare g c =
     let s = c.args.self.now in
-    λ width v h none. absurd (not_both (c.in_err-send-in-Send.ensures.spare
+    λ width v h none. absurd (false≢true (c.in_err-send-in-Send.ensures.spare
     (full width s.report s.up.queue s.down.queue s.client v.world h.lines (subst (λ event. TakesNoMemory width v event) c.in-Send.is none))))
 
 pub returns-in_err-up_deliver-in-UpDeliver-clause-spare : goal.returns-in_err-up_deliver-in-UpDeliver-clause-spare
 returns-in_err-up_deliver-in-UpDeliver-clause-spare g c =
     let s = c.args.self.now in
-    λ width v h none. absurd (not_both (c.in_err-up_deliver-in-UpDeliver.ensures.spare
+    λ width v h none. absurd (false≢true (c.in_err-up_deliver-in-UpDeliver.ensures.spare
     (none_up width s.report s.up.queue s.down.queue s.client v.world h.lines (subst (λ event. TakesNoMemory width v event) c.in-UpDeliver.is none))))
 
-pub returns-in_err-bytes-in-UpBytes-clause-spare : goal.returns-in_err-bytes-in-UpBytes-clause-spare
-returns-in_err-bytes-in-UpBytes-clause-spare g c =
-    λ width v h none. absurd (not_both (c.in_err-bytes-in-UpBytes.ensures.spare width v h (subst (λ event. TakesNoMemory width v event) c.in-UpBytes.is none)))
+pub returns-in_err-deliver_bytes-in-UpBytes-clause-spare : goal.returns-in_err-deliver_bytes-in-UpBytes-clause-spare
+returns-in_err-deliver_bytes-in-UpBytes-clause-spare g c =
+    λ width v h none. absurd (false≢true (c.in_err-deliver_bytes-in-UpBytes.ensures.spare width v h (subst (λ event. TakesNoMemory width v event) c.in-UpBytes.is none)))
 
 pub returns-in_err-repeat-in-UpRepeat-clause-spare : goal.returns-in_err-repeat-in-UpRepeat-clause-spare
 returns-in_err-repeat-in-UpRepeat-clause-spare g c =
     let s = c.args.self.now in
-    λ width v h none. absurd (not_both (c.in_err-repeat-in-UpRepeat.ensures.spare
+    λ width v h none. absurd (false≢true (c.in_err-repeat-in-UpRepeat.ensures.spare
     (no_repeat_up width s.report s.up.queue s.down.queue s.client v.world h.lines c.in-UpRepeat.k s.up.gone v.up_gone h.up_is
     (subst (λ event. TakesNoMemory width v event) c.in-UpRepeat.is none))))
 
 pub returns-in_err-down_deliver-in-DownDeliver-clause-spare : goal.returns-in_err-down_deliver-in-DownDeliver-clause-spare
 returns-in_err-down_deliver-in-DownDeliver-clause-spare g c =
-    λ width v h none. absurd (not_both (c.in_err-down_deliver-in-DownDeliver.ensures.spare width v h (subst (λ event. TakesNoMemory width v event) c.in-DownDeliver.is none)))
+    λ width v h none. absurd (false≢true (c.in_err-down_deliver-in-DownDeliver.ensures.spare width v h (subst (λ event. TakesNoMemory width v event) c.in-DownDeliver.is none)))
 
-pub returns-in_err-bytes-in-DownBytes-clause-spare : goal.returns-in_err-bytes-in-DownBytes-clause-spare
-returns-in_err-bytes-in-DownBytes-clause-spare g c =
-    λ width v h none. absurd (not_both (c.in_err-bytes-in-DownBytes.ensures.spare width v h (subst (λ event. TakesNoMemory width v event) c.in-DownBytes.is none)))
+pub returns-in_err-deliver_bytes-in-DownBytes-clause-spare : goal.returns-in_err-deliver_bytes-in-DownBytes-clause-spare
+returns-in_err-deliver_bytes-in-DownBytes-clause-spare g c =
+    λ width v h none. absurd (false≢true (c.in_err-deliver_bytes-in-DownBytes.ensures.spare width v h (subst (λ event. TakesNoMemory width v event) c.in-DownBytes.is none)))
 
 pub returns-in_err-repeat-in-DownRepeat-clause-spare : goal.returns-in_err-repeat-in-DownRepeat-clause-spare
 returns-in_err-repeat-in-DownRepeat-clause-spare g c =
     let s = c.args.self.now in
-    λ width v h none. absurd (not_both (c.in_err-repeat-in-DownRepeat.ensures.spare
+    λ width v h none. absurd (false≢true (c.in_err-repeat-in-DownRepeat.ensures.spare
     (no_repeat_down width s.report s.up.queue s.down.queue s.client v.world h.lines c.in-DownRepeat.k s.down.gone v.down_gone h.down_is
     (subst (λ event. TakesNoMemory width v event) c.in-DownRepeat.is none))))
 
 pub returns-in_err-restart_client-in-RestartClient-clause-spare : goal.returns-in_err-restart_client-in-RestartClient-clause-spare
 returns-in_err-restart_client-in-RestartClient-clause-spare g c =
     let s = c.args.self.now in
-    λ width v h none. absurd (not_both (c.in_err-restart_client-in-RestartClient.ensures.spare
+    λ width v h none. absurd (false≢true (c.in_err-restart_client-in-RestartClient.ensures.spare
     (busy width s.report s.up.queue s.down.queue s.client v.world h.lines (subst (λ event. TakesNoMemory width v event) c.in-RestartClient.is none))))
 
 pub returns-in_err-restart_instrument-in-RestartInstrument-clause-spare : goal.returns-in_err-restart_instrument-in-RestartInstrument-clause-spare
 returns-in_err-restart_instrument-in-RestartInstrument-clause-spare g c =
     let s = c.args.self.now in
-    λ width v h none. absurd (not_both (c.in_err-restart_instrument-in-RestartInstrument.ensures.spare
+    λ width v h none. absurd (false≢true (c.in_err-restart_instrument-in-RestartInstrument.ensures.spare
     (busy width s.report s.up.queue s.down.queue s.client v.world h.lines (subst (λ event. TakesNoMemory width v event) c.in-RestartInstrument.is none))))

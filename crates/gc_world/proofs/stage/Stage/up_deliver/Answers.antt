@@ -1,6 +1,7 @@
 use Rattle.std.proofs.Common.{◌≡◌, [], ◌∷◌, ◌++◌, None, Some, cond, refl, sym, ◌∙◌, ap}
 use Rattle.std.specs.Option.{option_map}
 use Rattle.std.specs.Prelude.{slice_get}
+use Rattle.std.proofs.lemmas.Option.{slice_get_within}
 use Rattle.gc_world.specs.declared.direction.Direction.TheVariants.{Up}
 use Rattle.gc_world.specs.declared.report.Made.{Made}
 use Rattle.gc_world.specs.declared.report.Sent.{Sent}
@@ -9,7 +10,6 @@ use Rattle.gc_world.specs.Streams.{up_texts}
 use Rattle.gc_world.proofs.Pieces.{came_out, none_else}
 use Rattle.gc_world.proofs.Showing.{Notes, exchanges_any, up_answered}
 use Rattle.gc_world.proofs.Shown.{carries, front_request, streams_up_deliver}
-use Rattle.gc_world.proofs.Places.{below}
 use Rattle.gc_world.proofs.Sides.{front_flow}
 use Rattle.gc_world.proofs.stage.Stage.up_deliver.Goals as goal
 
@@ -18,7 +18,7 @@ at-requires g c =
     let s = seen c.args.self.now in
     let shown = c.requires.shown in
     let front = front_request shown.0 s shown.1 shown.2 c.in-Some.number c.take_front.new.self c.in-Some.ensures in
-    below s.report.sent c.in-Some.number front.0 front.1
+    slice_get_within s.report.sent c.in-Some.number front.0 front.1
 
 pub finish-frame-requires-clause-flow : goal.finish-frame-requires-clause-flow
 finish-frame-requires-clause-flow g c =

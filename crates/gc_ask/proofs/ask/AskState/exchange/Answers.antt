@@ -1,0 +1,86 @@
+use Rattle.std.proofs.Common.{ℕ, List, [], ◌++◌, Option, Err, sym, ap, subst, arith}
+use Rattle.std.specs.Io.KnownBytes.{Appends}
+use Rattle.gc_lines.specs.Answering.{Ports}
+use Rattle.gc_lines.specs.Assembler.{Kept, StandsFor}
+use Rattle.gc_ask.specs.Asking.{request_text}
+use Rattle.gc_ask.specs.Links.{TakesRequest, source_of}
+use Rattle.gc_ask.specs.Listening.{Exchanges}
+use Rattle.gc_ask.proofs.Ends.{reads_nothing, reads_then, step_both}
+use Rattle.gc_ask.proofs.Exchanging.{exchanged, unsent}
+use Rattle.gc_ask.proofs.ask.AskState.exchange.Goals as goal
+use Rattle.gc_texts.specs.WholeTexts.{Input}
+
+pub returns-in-Err-clause-exchanges : goal.returns-in-Err-clause-exchanges
+returns-in-Err-clause-exchanges g c =
+    let asking = c.request-line.new.self in
+    let old = g.L.Link.client c.args.link.now in
+    let new = g.L.Link.client c.send.new.self in (
+      [],
+      reads_nothing old new c.in-Err.ensures.unread,
+      omega arith,
+      λ rest s.
+          unsent g.L.Link.is_remote c.args.place c.args.command.now
+          (record { rest = rest; bytes = c.args.self.now.ahead ++ []; left = asking.ahead; kept = asking.end.assembler; client = asking.end.client.ids; settled = asking.end.settled.items })
+          old.taken new.taken c.in-Err.fault
+          (subst (λ (t : List ℕ). TakesRequest g.L.Link.is_remote c.args.place t old.taken new.taken (Err c.in-Err.fault)) c.request-line.ensures.text c.in-Err.ensures.takes)
+          c.request-line.ensures.client,
+    )
+
+pub returns-in-Err-clause-grows : goal.returns-in-Err-clause-grows
+returns-in-Err-clause-grows g c = omega (arith, ap (λ (s : Input). s.reads) c.in-Err.ensures.unread)
+
+pub returns-in-Err-clause-reads : goal.returns-in-Err-clause-reads
+returns-in-Err-clause-reads g c = omega (arith, ap (λ (s : Input). s.reads) c.in-Err.ensures.unread, c.in-Err.ensures.reads, c.request-line.ensures.same.2)
+
+pub returns-clause-exchanges : goal.returns-clause-exchanges
+returns-clause-exchanges g c =
+    let heard = c.hear_reply.ensures.hears in
+    let asking = c.request-line.new.self in
+    let end = c.hear_reply.new.self in
+    let old = g.L.Link.client c.args.link.now in
+    let mid = g.L.Link.client c.send.new.self in
+    let new = g.L.Link.client c.hear_reply.new.link in
+    let sent = subst (λ (t : Option (List ℕ)). Appends old.taken t (request_text c.args.place c.args.command.now)) (sym c.hear_reply.ensures.only.0)
+    (subst (λ (t : List ℕ). Appends old.taken mid.taken t) c.request-line.ensures.text c.in_default.ensures.takes) in (
+      heard.0,
+      reads_then old mid new heard.0 c.in_default.ensures.unread heard.1,
+      omega (arith, heard.2, ap (λ (s : Input). s.reads) c.in_default.ensures.unread),
+      λ rest s.
+          let same = subst (λ (k : Kept). StandsFor k rest) (sym c.request-line.ensures.same.0) s in
+          subst (λ (xs : List ℕ). Exchanges g.L.Link.is_remote c.args.place c.args.command.now
+          (record {
+            rest = rest;
+            bytes = xs ++ heard.0;
+            left = c.hear_reply.new.ahead;
+            kept = end.assembler;
+            client = end.client.ids;
+            settled =
+                end.settled.items;
+          }) old.taken new.taken c.hear_reply.result)
+          c.request-line.ensures.same.1
+          (exchanged g.L.Link.is_remote c.args.place c.args.command.now asking.end.client.ids
+          (record { rest = rest; bytes = asking.ahead ++ heard.0; left = c.hear_reply.new.ahead; kept = end.assembler; client = end.client.ids; settled = end.settled.items })
+          old.taken new.taken (source_of mid) (source_of new) c.hear_reply.new.reads c.hear_reply.result
+          sent c.request-line.ensures.client (heard.3 rest same) c.hear_reply.ensures.ends),
+    )
+
+pub returns-clause-ends : goal.returns-clause-ends
+returns-clause-ends g c =
+    step_both (g.L.Link.client c.args.link.now) (g.L.Link.client c.send.new.self) (g.L.Link.client c.hear_reply.new.link)
+    (g.L.Link.instrument c.args.link.now) (g.L.Link.instrument c.send.new.self) (g.L.Link.instrument c.hear_reply.new.link)
+    c.hear_reply.new.reads c.hear_reply.result c.in_default.ensures.ends c.in_default.ensures.unread
+    c.hear_reply.ensures.only.1 c.hear_reply.ensures.only.2 c.hear_reply.ensures.grows c.hear_reply.ensures.ends
+
+pub returns-clause-grows : goal.returns-clause-grows
+returns-clause-grows g c = omega (arith, ap (λ (s : Input). s.reads) c.in_default.ensures.unread, c.hear_reply.ensures.grows)
+
+pub returns-clause-reads : goal.returns-clause-reads
+returns-clause-reads g c =
+    omega (
+      arith,
+      ap (λ (s : Input). s.reads) c.in_default.ensures.unread,
+      ap (λ (p : Ports). p.reads) c.hear_reply.ensures.only.2,
+      c.in_default.ensures.reads,
+      c.hear_reply.ensures.reads,
+      c.request-line.ensures.same.2,
+    )

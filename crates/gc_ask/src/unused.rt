@@ -1,0 +1,72 @@
+//! What was read of a link and isn't used yet.
+
+ghost use Rattle.std.specs.Prelude.{◌≡◌, ◌+◌, ◌≤◌, [], drop, length, true, false, not, Ok, MatchResult};
+ghost use Rattle.gc_ask.specs.Links.{ReadsOnce};
+ghost use Rattle.gc_ask.specs.declared.unused.TheConstants.{ROOM};
+ghost use Rattle.gc_texts.specs.WholeTexts.{input_of};
+
+use gc_lines::{PortFailed, Source};
+use std::marker::Model;
+
+/// The most bytes of one read.
+pub(crate) const ROOM: usize = 256;
+
+/// The bytes of the last read that aren't used yet: `bytes[at..end]`.
+#[derive(Drop)]
+pub(crate) struct Unused {
+    bytes: [u8; ROOM],
+    at: usize,
+    end: usize,
+}
+
+impl Model for Unused {
+    ghost use Rattle.std.specs.Prelude.{◌≡◌, ◌≤◌, ℕ, List, length, take, drop};
+    ghost use Rattle.gc_ask.specs.declared.unused.TheConstants.{ROOM};
+
+    ghost Value = { List ℕ };
+
+    ghost view = { λ r. drop r.at (take r.end r.bytes) };
+
+    ghost invariant = { λ r. (r.at ≤ r.end) × (r.end ≤ ROOM) × (length r.bytes ≡ ROOM) };
+}
+
+impl Unused {
+    // No bytes: nothing was read yet.
+    pub(crate) fn new() -> Unused
+        ensures { result ≡ [] }
+    {
+        Unused {
+            bytes: [0; ROOM],
+            at: 0,
+            end: 0,
+        }
+    }
+
+    // The bytes that aren't used yet, in the order in which they came.
+    pub(crate) fn left(&self) -> &[u8]
+        ensures { result.now ≡ self.now }
+    {
+        &self.bytes[self.at..self.end]
+    }
+
+    // Uses up the first `used` bytes.
+    pub(crate) fn advance(&mut self, used: usize)
+        requires { used ≤ length self.old }
+        ensures { self.new ≡ drop used self.old }
+    {
+        self.at += used;
+    }
+
+    // Reads once, in place of what was left. Returns false at the end of the stream. `Err`: the source failed, and nothing is left.
+    pub(crate) fn read<S: Source>(&mut self, source: &mut S) -> Result<bool, PortFailed>
+        ensures few { length self.new ≤ ROOM }
+        ensures end { result ≡ Ok false → self.new ≡ [] }
+        ensures bytes { ReadsOnce (input_of S.Source source.old) (input_of S.Source source.new) self.new result }
+    {
+        self.at = 0;
+        self.end = 0;
+        let n = source.read(&mut self.bytes)?;
+        self.end = n;
+        Ok(n > 0)
+    }
+}

@@ -1,0 +1,35 @@
+-- Lists of which a fact holds of each element (`AllByRecursion`), and lists with more after them.
+use Rattle.std.proofs.Common.{◌≡◌, ℕ, zero, suc, List, [], ◌∷◌, ◌++◌, length, Some, refl}
+use Rattle.std.specs.Prelude.{slice_get}
+use Rattle.std.specs.List.{AllByRecursion}
+
+-- what holds of the elements of two lists holds of those of both, one after the other
+pub all_append : {A : Type 0} (P : A → Type 0) (xs ys : List A) → AllByRecursion P xs → AllByRecursion P ys → AllByRecursion P (xs ++ ys)
+all_append P [] ys p q = q
+all_append P (x ∷ xs) ys p q = (p.0, all_append P xs ys p.1 q)
+
+-- what holds of all elements of two lists, one after the other, holds of those of the first
+pub all_front : {A : Type 0} (P : A → Type 0) (xs ys : List A) → AllByRecursion P (xs ++ ys) → AllByRecursion P xs
+all_front P [] ys all = tt
+all_front P (x ∷ xs) ys all = (all.0, all_front P xs ys all.1)
+
+-- what holds of all elements of two lists, one after the other, holds of those of the second
+pub all_behind : {A : Type 0} (P : A → Type 0) (xs ys : List A) → AllByRecursion P (xs ++ ys) → AllByRecursion P ys
+all_behind P [] ys all = all
+all_behind P (x ∷ xs) ys all = all_behind P xs ys all.1
+
+-- if one fact of an element follows from another, it holds of all elements if the other does
+pub all_on : {A : Type 0} (P Q : A → Type 0) (xs : List A) → ((x : A) → P x → Q x) → AllByRecursion P xs → AllByRecursion Q xs
+all_on P Q [] step p = tt
+all_on P Q (x ∷ xs) step p = (step x p.0, all_on P Q xs step p.1)
+
+-- an element keeps its place in a list when others are put after the list
+pub get_more : {A : Type 0} (xs ys : List A) (i : ℕ) (x : A) → slice_get xs i ≡ Some x → slice_get (xs ++ ys) i ≡ Some x
+get_more [] ys i x e = cc
+get_more (y ∷ xs) ys zero x e = e
+get_more (y ∷ xs) ys (suc i) x e = get_more xs ys i x e
+
+-- the element that was appended is at the place of the old length
+pub get_push : {A : Type 0} (xs : List A) (x : A) → slice_get (xs ++ x ∷ []) (length xs) ≡ Some x
+get_push [] x = refl
+get_push (y ∷ xs) x = get_push xs x

@@ -1,0 +1,244 @@
+//! The state of a rehearsed line beside the lines in flight: its clock, its connection, when lines arrive, its counts, and the truths.
+
+use crate::chance::Fate;
+use crate::counts::Counts;
+use crate::flight::Flight;
+use crate::truth::Truth;
+use gc_links::Moment;
+use std::alloc::Global;
+
+/// The next event on a line.
+#[derive(Clone, Copy, Debug, PartialEq, Eq)]
+pub(crate) enum Next {
+    /// A request reaches the instrument at this moment.
+    Request(u64),
+    /// A reply arrives at this moment.
+    Reply(u64),
+    /// The other end closes the connection at this moment.
+    End(u64),
+    /// Nothing happens until the limit.
+    Nothing,
+}
+
+/// The clock of a line, its connection, its counts and the truths. Moments are in milliseconds since the line was made.
+#[derive(Debug, Drop)]
+pub(crate) struct LineState {
+    // The present moment.
+    pub now: u64,
+    // Milliseconds between 1970 and the moment 0.
+    start: u64,
+    // When the present run began: its moments count from there.
+    began: u64,
+    // Whether the station has a connection.
+    is_open: bool,
+    // When the other end closes the connection, if it does.
+    ends: Option<u64>,
+    // Until when no connection can be made.
+    refused: u64,
+    // Until when no line arrives that is sent now.
+    held: u64,
+    // When the last request arrives that wasn't lost.
+    last_request: u64,
+    // When the last reply arrives that wasn't lost.
+    last_reply: u64,
+    // How often each event happened.
+    pub counts: Counts,
+    // The truths of the replies that reads gave in the present run.
+    pub truths: Vec<Truth>,
+    // How many truths are missing since the moment 0, because memory was refused for them.
+    pub missing_truths: u64,
+}
+
+impl LineState {
+    /// The state at the moment 0, which is `utc` milliseconds after 1970, without a connection.
+    pub fn new(alloc: Global, utc: u64) -> LineState {
+        LineState {
+            now: 0,
+            start: utc,
+            began: 0,
+            is_open: false,
+            ends: None,
+            refused: 0,
+            held: 0,
+            last_request: 0,
+            last_reply: 0,
+            counts: Counts::new(),
+            truths: Vec::new(alloc),
+            missing_truths: 0,
+        }
+    }
+
+    /// Begins a run: its moments (`moment`) count from now, and the truths so far are dropped. The count of missing ones stays.
+    pub fn begin(&mut self) {
+        self.began = self.now;
+        self.truths.clear();
+    }
+
+    /// The present moment, since the beginning of the run and since 1970.
+    pub fn moment(&self) -> Moment {
+        Moment {
+            elapsed: self.now.saturating_sub(self.began),
+            utc: self.start.saturating_add(self.now),
+            stops: false,
+        }
+    }
+
+    /// The moment `millis` milliseconds from now.
+    pub fn from_now(&self, millis: u64) -> u64 {
+        self.now.saturating_add(millis)
+    }
+
+    /// Sets the clock to this moment, unless it is later already.
+    pub fn come_to(&mut self, moment: u64) {
+        self.now = self.now.max(moment);
+    }
+
+    /// Whether there is a connection that the other end hasn't closed yet.
+    pub fn is_up(&self) -> bool {
+        match self.ends {
+            Some(end) => self.is_open && self.now < end,
+            None => self.is_open,
+        }
+    }
+
+    /// The next event up to the moment `limit`, if the next request and the next reply arrive at these moments (`None`: none is in flight).
+    /// Of events at the same moment a request is first, then the end, and then a reply. Replies and the end come only while there is a
+    /// connection.
+    pub fn next(&self, request: Option<u64>, reply: Option<u64>, limit: u64) -> Next {
+        let mut at = limit;
+        let mut next = Next::Nothing;
+        if self.is_open {
+            if let Some(moment) = reply {
+                if moment <= at {
+                    at = moment;
+                    next = Next::Reply(moment);
+                }
+            }
+            if let Some(moment) = self.ends {
+                if moment <= at {
+                    at = moment;
+                    next = Next::End(moment);
+                }
+            }
+        }
+        if let Some(moment) = request {
+            if moment <= at {
+                next = Next::Request(moment);
+            }
+        }
+        next
+    }
+
+    // Schedules a line that is sent now with this fate: returns the moment at which it arrives, which isn't before `last`, the one at which
+    // the line before it arrives. Counts the hold, the loss and the repetition of the fate.
+    fn schedule(&mut self, fate: Fate, last: u64) -> u64 {
+        if fate.hold > 0 {
+            self.counts.holds = self.counts.holds.saturating_add(1);
+            self.held = self.held.max(self.from_now(fate.hold));
+        }
+        if fate.lost {
+            self.counts.lost = self.counts.lost.saturating_add(1);
+        } else if fate.repeated {
+            self.counts.repeated = self.counts.repeated.saturating_add(1);
+        }
+        self.from_now(fate.delay).max(last).max(self.held)
+    }
+
+    /// Schedules a request that is sent now with this fate: returns the moment at which it arrives, and counts the request as written
+    /// whole, and its fate.
+    pub fn schedule_request(&mut self, fate: Fate) -> u64 {
+        let arrives = self.schedule(fate, self.last_request);
+        if !fate.lost {
+            self.last_request = arrives;
+        }
+        self.counts.requests = self.counts.requests.saturating_add(1);
+        arrives
+    }
+
+    /// Schedules a reply that is sent now with this fate: returns the moment at which it arrives, and counts its request as executed, and
+    /// its fate. If the fate closes the connection, the other end closes it at that moment. It is called for each request that reaches the
+    /// instrument, also if that makes no reply.
+    pub fn schedule_reply(&mut self, fate: Fate) -> u64 {
+        let arrives = self.schedule(fate, self.last_reply);
+        if !fate.lost {
+            self.last_reply = arrives;
+        }
+        if fate.closes {
+            self.end_at(arrives);
+        }
+        self.counts.executed = self.counts.executed.saturating_add(1);
+        arrives
+    }
+
+    /// Lets the other end close the connection now, in the middle of a request, and counts that request as cut.
+    pub fn cut(&mut self) {
+        self.counts.cut = self.counts.cut.saturating_add(1);
+        self.end_at(self.now);
+    }
+
+    // Lets the other end close the connection at this moment, or earlier if it does so already, and counts the close. Nothing happens
+    // without a connection.
+    fn end_at(&mut self, moment: u64) {
+        if !self.is_open {
+            return;
+        }
+        self.counts.closes = self.counts.closes.saturating_add(1);
+        self.ends = match self.ends {
+            Some(end) => Some(end.min(moment)),
+            None => Some(moment),
+        };
+    }
+
+    /// Makes a connection. A close by the other end that was still to come is dropped.
+    pub fn open(&mut self) {
+        self.is_open = true;
+        self.ends = None;
+    }
+
+    /// Ends the connection. A close by the other end that was still to come is dropped.
+    pub fn close(&mut self) {
+        self.is_open = false;
+        self.ends = None;
+    }
+
+    /// Whether no connection can be made now.
+    pub fn is_refused(&self) -> bool {
+        self.now < self.refused
+    }
+
+    /// Refuses connections for this many milliseconds from now on, and counts that as one refusal.
+    pub fn refuse(&mut self, millis: u64) {
+        self.refused = self.from_now(millis);
+        self.counts.refusals = self.counts.refusals.saturating_add(1);
+    }
+
+    /// Counts a restart of the instrument.
+    pub fn count_restart(&mut self) {
+        self.counts.restarts = self.counts.restarts.saturating_add(1);
+    }
+
+    /// Counts a reply that is lost because the reader has no room for it.
+    pub fn count_lost(&mut self) {
+        self.counts.lost = self.counts.lost.saturating_add(1);
+    }
+
+    /// Counts a reply that a read gives now, and stores its truth. If memory is refused for the truth, it counts as missing.
+    pub fn keep_truth(&mut self, flight: Flight) {
+        self.counts.replies = self.counts.replies.saturating_add(1);
+        let Flight {
+            line,
+            arrives: _,
+            origin,
+        } = flight;
+        let truth = Truth {
+            request: origin.request,
+            sent: origin.sent,
+            given: self.now,
+            asked: origin.asked,
+            reply: line,
+        };
+        if self.truths.push(truth).is_err() {
+            self.missing_truths = self.missing_truths.saturating_add(1);
+        }
+    }
+}

@@ -1,0 +1,152 @@
+-- Stations one after the other over a rehearsed line are stations in a row in the field.
+use Rattle.std.proofs.Common.{◌≡◌, ℕ, suc, ◌<◌, ◌≤◌, Bool, true, false, List, [], ◌∷◌, ◌++◌, length, refl, sym, ◌∙◌, ap, subst, arith}
+use Rattle.std.specs.List.{AllByRecursion}
+use Rattle.gc_catalogue.specs.declared.asked.Asked.{Asked}
+use Rattle.gc_client.specs.Beginning.{the_word}
+use Rattle.gc_client.specs.OneForOne as client
+use Rattle.gc_links.specs.Acts.{Act, Put, Gave}
+use Rattle.gc_scenes.specs.SceneState.{SceneState}
+use Rattle.gc_station.proofs.EachRun.{invariant_opening}
+use Rattle.gc_station.proofs.Lists.{cons_head, cons_tail}
+use Rattle.gc_station.specs.Deciding.{has_begun}
+use Rattle.gc_station.specs.Model.{Runs, after_all, opening}
+use Rattle.gc_station.specs.Parts as part
+use Rattle.gc_station.specs.Parts.{Part, parts_of}
+use Rattle.gc_field.specs.Begin as begin
+use Rattle.gc_field.specs.Begin.{UnderWay, begins, leaves, none_under_way}
+use Rattle.gc_field.specs.Beginnings.{HasRisingIds, Run}
+use Rattle.gc_field.specs.InARow.{AreFewKilledWithTurns, AreInARow, killed_over, left_over}
+use Rattle.gc_field.specs.SceneField.{RetainedReads, scene_ends, scene_kept}
+use Rattle.gc_field.specs.Shown.{AreShownAs}
+use Rattle.gc_field.proofs.InARow.{in_a_row, run}
+use Rattle.gc_field.proofs.SceneField.{scene_is_an_instrument}
+use Rattle.gc_field.proofs.BeginJoin.{word_small}
+use Rattle.gc_rehearsal.specs.Carrying.{Lines, Happening, Call, Reaches, Restarts, Passes, Repeats_up, Repeats_down, Loses_up, Loses_down, Loses_front, Does, IsOfLine, IsQuiet, LeadAll, acts_of}
+use Rattle.gc_rehearsed.specs.Rehearsals.{AreRehearsed, FewEndUnbegun, RunsAndStops, RehearsalsInARowAreFaithful, Station, has_begun_at_its_end, programs, acts_of_all, unbegun}
+use Rattle.gc_rehearsed.proofs.Courses.{FromBegin, begins_line, few_from, steps_turn}
+use Rattle.gc_rehearsed.proofs.Rehearsed.{OnBegin, first_and_others, first_part, none_kept, other_parts, shows_the_run, some_parts}
+use Rattle.gc_rehearsed.proofs.Steps.{Holds, happens}
+use Rattle.gc_field.proofs.BeginWords.{cons_not_nil}
+
+-- Cutting what happened.
+
+-- what happened on a line, cut in two: what happened up to the end of the acts `xs`, and what happened after that
+record Cut (hs : List Happening) (xs ys : List Act) (l m : Lines) : Type 0 where
+  front : List Happening
+  back : List Happening
+  middle : Lines
+  fronts : acts_of front ≡ xs
+  backs : acts_of back ≡ ys
+  leads : LeadAll l front middle
+  later : LeadAll middle back m
+
+-- what happened can be cut after its first acts
+cut : (hs : List Happening) (xs ys : List Act) (l m : Lines) → acts_of hs ≡ xs ++ ys → LeadAll l hs m → Cut hs xs ys l m
+cut hs [] ys l m e all = record { front = []; back = hs; middle = l; fronts = refl; backs = e; leads = refl; later = all }
+cut [] (x ∷ xs) ys l m e all = absurd (cons_not_nil x (xs ++ ys) (sym e))
+cut (Call act ∷ hs) (x ∷ xs) ys l m e all =
+    let rest = cut hs xs ys all.0 m (cons_tail act x (acts_of hs) (xs ++ ys) e) all.2 in
+    record {
+      front = Call act ∷ rest.front;
+      back = rest.back;
+      middle = rest.middle;
+      fronts = ap (λ a. a ∷ acts_of rest.front) (cons_head act x (acts_of hs) (xs ++ ys) e) ∙ ap (λ told. x ∷ told) rest.fronts;
+      backs = rest.backs;
+      leads = (all.0, all.1, rest.leads);
+      later = rest.later;
+    }
+cut (h ∷ hs) (x ∷ xs) ys l m e all =
+    let rest = cut hs (x ∷ xs) ys all.0 m e all.2 in
+    record { front = h ∷ rest.front; back = rest.back; middle = rest.middle; fronts = rest.fronts; backs = rest.backs; leads = (all.0, all.1, rest.leads); later = rest.later }
+
+-- Between two stations.
+
+-- a quiet act leaves the line as it is
+quiet_same : (act : Act) (l n : Lines) → IsQuiet act → Does l act n → n ≡ l
+quiet_same (Put bytes) l n quiet does = absurd quiet
+quiet_same (Gave bytes moment) l n quiet does = absurd quiet
+quiet_same act l n quiet does = does
+
+-- `FromBegin` is preserved if what happens on the line between two stations, where all acts are quiet, is put before it
+idle_first : (hs : List Happening) (b : begin.Model SceneState) (l n : Lines) (show : List part.Turn) (steps : List (client.Step Asked)) (more : List Part) (m : Lines) (done : Bool)
+    → AllByRecursion IsQuiet (acts_of hs) → Holds (leaves b) l → LeadAll l hs n
+    → ((c : begin.Model SceneState) → Holds (leaves c) n → c.left ≡ b.left → FromBegin c show steps more m done) → FromBegin b show steps more m done
+idle_first [] b l n show steps more m done quiet holds all on = on b (subst (Holds (leaves b)) (sym all) holds) refl
+idle_first (Call act ∷ hs) b l n show steps more m done quiet holds all on =
+    idle_first hs b all.0 n show steps more m done quiet.1 (subst (Holds (leaves b)) (sym (quiet_same act l all.0 quiet.0 all.1)) holds) all.2 on
+idle_first (h ∷ hs) b l n show steps more m done quiet holds all on =
+    let xs = happens (leaves b) l all.0 h (λ act e. cc) holds all.1 in
+    steps_turn xs.steps b show steps more m done xs.are
+    (λ c e k. idle_first hs c all.0 n show steps more m done quiet (subst (λ u. Holds u all.0) (sym e) xs.holds) all.2 (λ d h g. on d h (g ∙ k)))
+
+-- The stations in a row.
+
+-- stations in a row are in the field: there is a list of runs for each, and these are programs in a row
+record AreInTheField (n : ℕ) (u : UnderWay SceneState) (xs : List Station) : Type 0 where
+  runs : List (List (Run SceneState))
+  each : length runs ≡ length xs
+  field : AreInARow scene_ends RetainedReads scene_kept n u (programs xs runs)
+
+-- few stations in a row end while they synchronize, also if fewer were killed before the first
+fewer : (k n : ℕ) (xs : List Station) → k ≤ n → FewEndUnbegun n xs → FewEndUnbegun k xs
+fewer k n [] less few = tt
+fewer k n (x ∷ xs) less few = let one = fewer_one (has_begun_at_its_end x) in
+    ((let f = few.0 in omega (arith, one, f)), fewer (unbegun k (has_begun_at_its_end x)) (unbegun n (has_begun_at_its_end x)) xs one few.1) where
+      -- one station more counts for at most as many after the lower number
+      fewer_one : (b : Bool) → unbegun k b ≤ unbegun n b
+      fewer_one true = omega arith
+      fewer_one false = omega (arith, less)
+
+-- stations one after the other over a rehearsed line are in the field (`AreInTheField`), over what is in flight
+goes_in_a_row : (n : ℕ) (xs : List Station) (hs : List Happening) (before : List Act) (u : UnderWay SceneState) (l m : Lines) → AllByRecursion IsQuiet before → Holds u l → LeadAll l hs m
+    → acts_of hs ≡ before ++ acts_of_all xs → AllByRecursion RunsAndStops xs → FewEndUnbegun n xs → AreInTheField n u xs
+goes_in_a_row n [] hs before u l m quiet holds all told lives few = record { runs = []; each = refl; field = tt }
+goes_in_a_row n (x ∷ xs) hs before u l m quiet holds all told lives few =
+    let s = opening x.plan x.scope in
+    let ps = parts_of x.plan x.commands s x.acts in
+    let done = has_begun_at_its_end x in
+    let one = cut hs before (acts_of_all (x ∷ xs)) l m told all in
+    let two = cut one.back x.acts (x.after_run ++ acts_of_all xs) one.middle m one.backs one.later in
+    let f : OnBegin (begins u) two.middle ps done =
+    idle_first one.front (begins u) l one.middle (first_part ps).turns (first_part ps).steps (other_parts ps) two.middle done (subst (AllByRecursion IsQuiet) (sym one.fronts) quiet)
+    (subst (λ v. Holds v l) (sym (begins_line u)) holds) one.leads
+    (λ c h k. subst (λ acts. OnBegin c two.middle (parts_of x.plan x.commands s acts) (has_begun (after_all x.plan x.commands s acts).progress)) two.fronts
+    ((shows_the_run x.plan x.commands lives.0.askable two.front two.middle).0 s c one.middle (invariant_opening x.plan x.commands x.scope) refl refl k
+    word_small h two.leads (subst (Runs x.plan x.commands s) (sym two.fronts) lives.0.runs))) in
+    let rs = run f.ts f.ms ∷ f.rs in
+    let killed = few_from n u (first_part ps).turns (first_part ps).steps (other_parts ps) two.middle done f few.0 in
+    let rest = goes_in_a_row (killed_over scene_ends n u rs) xs two.back x.after_run (left_over scene_ends u rs) two.middle m lives.0.quiet f.later.holds two.later two.backs lives.1
+    (fewer (killed_over scene_ends n u rs) (unbegun n done) xs killed.1 few.1) in
+    record {
+      runs = rs ∷ rest.runs;
+      each = ap suc rest.each;
+      field = (
+        record {
+          runs = lives.0.runs;
+          shown = subst (AreShownAs scene_ends u rs) (sym (first_and_others ps (some_parts x.plan x.commands s x.acts))) (f.show, f.see, f.later.show);
+          possible = ((f.are, f.may), f.later.may);
+          few = killed.0;
+        },
+        rest.field,
+      );
+    }
+
+-- where nothing is in flight, `HasRisingIds` holds
+none_rising : (state : SceneState) → HasRisingIds (none_under_way state)
+none_rising state = record { low = 1; numbers = []; some = omega arith; rising = tt; few = tt; ids = refl }
+
+-- stations in a row over a rehearsed line are stations in a row in the field
+pub stations_are_faithful : RehearsalsInARowAreFaithful
+stations_are_faithful xs of_line lives few =
+    let c = of_line.1 in
+    let u = none_under_way c.start in
+    let good = none_kept c.start c.none in
+    let start : Lines = record { up = []; down = []; state = c.start } in
+    let goes = goes_in_a_row 0 xs c.happened [] u start of_line.0 tt (record { up = tt; down = refl; one = tt; state = refl; good = good }) c.leads c.acts_are lives few in
+    record {
+      start = c.start;
+      runs = goes.runs;
+      each = goes.each;
+      field = goes.field;
+      faithful = in_a_row scene_ends RetainedReads scene_kept scene_is_an_instrument.instrument u (record { ids = tt; good = good }) (none_rising c.start) (programs xs goes.runs) goes.field;
+    }

@@ -1,0 +1,133 @@
+-- What had its turn is what was kept and what was left out, each in order (`Interleave`): one list grows with each command that had
+-- its turn, and so does one of the other two.
+use Rattle.std.proofs.Common.{Bool, true, false, nat_lt, ◌≡◌, ◌⊎◌, inl, inr, ℕ, zero, suc, ◌+◌, ◌-◌, ◌<◌, ◌≤◌, List, [], ◌∷◌, ◌++◌, length, take, drop, map, refl, sym, ap, ◌∙◌, subst, arith, append_assoc, take-add}
+use Rattle.std.proofs.lemmas.List.{length-map, length-drop, length-take, map-append, nil_from_length, take_all, drop-append-le}
+use Rattle.std.proofs.lemmas.Bool.{ltb-true, ltb-false}
+use Rattle.std.specs.List.{AllByRecursion}
+use Rattle.gc_catalogue.specs.declared.asked.Asked.{Asked}
+use Rattle.gc_client.specs.OneForOne.{Wanted}
+use Rattle.gc_texts.specs.declared.tasks.Task.{Task}
+use Rattle.gc_station.specs.EachOnce.{Interleave, Request, requests, of_task, all_cycles, commands_reached}
+use Rattle.gc_station.proofs.Each.{requests-append}
+use Rattle.gc_station.proofs.Lists.{all_append, all_on}
+
+-- a list is itself interleaved with nothing
+interleave_kept : {A : Type 0} (us : List A) → Interleave us [] us
+interleave_kept [] = (refl, refl)
+interleave_kept (u ∷ us) = inl (us, refl, interleave_kept us)
+
+-- a list is nothing interleaved with itself
+interleave_passed : {A : Type 0} (us : List A) → Interleave [] us us
+interleave_passed [] = (refl, refl)
+interleave_passed (u ∷ us) = inr (us, refl, interleave_passed us)
+
+-- what had its turn grows by what is kept
+pub interleave_more : {A : Type 0} (xs ys zs us : List A) → Interleave xs ys zs → Interleave (xs ++ us) ys (zs ++ us)
+interleave_more {A} xs ys [] us h = subst (λ (l : List A). Interleave (l ++ us) ys us) (sym h.0) (subst (λ (l : List A). Interleave us l us) (sym h.1) (interleave_kept us))
+interleave_more {A} xs ys (z ∷ zs) us (inl k) = inl (k.0 ++ us, ap (λ (l : List A). l ++ us) k.1, interleave_more k.0 ys zs us k.2)
+interleave_more {A} xs ys (z ∷ zs) us (inr k) = inr (k.0, k.1, interleave_more xs k.0 zs us k.2)
+
+-- what had its turn grows by what is left out
+pub interleave_past : {A : Type 0} (xs ys zs us : List A) → Interleave xs ys zs → Interleave xs (ys ++ us) (zs ++ us)
+interleave_past {A} xs ys [] us h = subst (λ (l : List A). Interleave xs (l ++ us) us) (sym h.1) (subst (λ (l : List A). Interleave l us us) (sym h.0) (interleave_passed us))
+interleave_past {A} xs ys (z ∷ zs) us (inl k) = inl (k.0, k.1, interleave_past k.0 ys zs us k.2)
+interleave_past {A} xs ys (z ∷ zs) us (inr k) = inr (k.0 ++ us, ap (λ (l : List A). l ++ us) k.1, interleave_past xs k.0 zs us k.2)
+
+-- what was kept and what was left out are together as many as what had its turn
+pub interleave_length : {A : Type 0} (xs ys zs : List A) → Interleave xs ys zs → length xs + length ys ≡ length zs
+interleave_length xs ys [] h = let a = ap length h.0 in let b = ap length h.1 in omega (arith, a, b)
+interleave_length xs ys (z ∷ zs) (inl k) = let a = ap length k.1 in let b = interleave_length k.0 ys zs k.2 in omega (arith, a, b)
+interleave_length xs ys (z ∷ zs) (inr k) = let a = ap length k.1 in let b = interleave_length xs k.0 zs k.2 in omega (arith, a, b)
+
+-- what holds of all that had its turn holds of what was left out
+pub interleave_all : {A : Type 0} (P : A → Type 0) (xs ys zs : List A) → Interleave xs ys zs → AllByRecursion P zs → AllByRecursion P ys
+interleave_all P xs ys [] h all = subst (AllByRecursion P) (sym h.1) tt
+interleave_all P xs ys (z ∷ zs) (inl k) all = interleave_all P k.0 ys zs k.2 all.1
+interleave_all P xs ys (z ∷ zs) (inr k) all = subst (AllByRecursion P) (sym k.1) (all.0, interleave_all P xs k.0 zs k.2 all.1)
+
+-- the commands that had their turn, with the next `count` ones after them, are those that had their turn at a place `count` further
+-- on, or at the end of the list if that is nearer
+pub sent_past : (setup : ℕ) (commands : List Task) (begun place count place' : ℕ) → setup ≤ place → place ≤ length commands → 0 < begun
+    → (place' ≡ place + count) ⊎ ((place' ≡ length commands) × (length commands ≤ place + count))
+    → commands_reached setup commands begun place ++ requests begun place (map of_task (take count (drop place commands))) ≡ commands_reached setup commands begun place'
+sent_past setup commands zero place count place' low within some at = absurd (omega (arith, some))
+sent_past setup commands (suc n) place count place' low within some at =
+    let front = drop setup (take place commands) in
+    let taken = map of_task front in
+    let more = map of_task (take count (drop place commands)) in
+    let cycles = all_cycles setup commands n in
+    let many : length (take place commands) ≡ place = let l = length-take place commands in omega (arith, l, within) in
+    let count_is : setup + length taken ≡ place = let m = length-map front of_task in let d = length-drop setup (take place commands) in omega (arith, m, d, many, low) in
+    append_assoc cycles (requests (suc n) setup taken) (requests (suc n) place more)
+    ∙ ap (λ b. cycles ++ (requests (suc n) setup taken ++ requests (suc n) b more)) (sym count_is)
+    ∙ ap (λ xs. cycles ++ xs) (sym (requests-append (suc n) setup taken more))
+    ∙ ap (λ xs. cycles ++ requests (suc n) setup xs) (sym (map-append of_task front (take count (drop place commands)))
+    ∙ ap (map of_task) (sym (drop-append-le setup (take place commands) (take count (drop place commands)) (omega (arith, many, low))) ∙ ap
+    (drop setup) (sym (take-add place count commands) ∙ as_many at))) where
+      -- the first `place + count` commands are those before the new place
+      as_many : ((place' ≡ place + count) ⊎ ((place' ≡ length commands) × (length commands ≤ place + count))) → take (place + count) commands ≡ take place' commands
+      as_many (inl is) = ap (λ (k : ℕ). take k commands) (sym is)
+      as_many (inr is) = take_all (place + count) commands is.1 ∙ sym (take_all place' commands (omega (arith, is.0)))
+
+-- the commands that are left after `count` more are the same by the place of the next one and by how many are unsent
+pub drop_past : (commands : List Task) (unsent count : ℕ) → unsent ≤ length commands → drop ((length commands - unsent) + count) commands ≡ drop (length commands - (unsent - count)) commands
+drop_past commands unsent count within = by_count (nat_lt unsent count) refl where
+  -- the lemma above, by whether fewer than `count` are unsent (`true`): then both lists are empty
+  by_count : (b : Bool) → nat_lt unsent count ≡ b → drop ((length commands - unsent) + count) commands ≡ drop (length commands - (unsent - count)) commands
+  by_count true e =
+      let more = ltb-true unsent count e in
+      let x = length-drop ((length commands - unsent) + count) commands in
+      let y = length-drop (length commands - (unsent - count)) commands in
+      nil_from_length (drop ((length commands - unsent) + count) commands) (omega (arith, x, more, within))
+      ∙ sym (nil_from_length (drop (length commands - (unsent - count)) commands) (omega (arith, y, more)))
+  by_count false e = let few = ltb-false unsent count e in ap (λ (n : ℕ). drop n commands) (omega (arith, few, within))
+
+-- the requests of a cycle are of it, and of places from the first one on
+requests_before : (cycle place : ℕ) (asks : List (Wanted Asked)) → AllByRecursion (λ (r : Request). (r.cycle ≡ cycle) × (r.place < place + length asks)) (requests cycle place asks)
+requests_before cycle place [] = tt
+requests_before cycle place (a ∷ others) =
+    ((refl, omega arith), all_by cycle (place + 1) (length others) place (length (a ∷ others)) (requests cycle (place + 1) others) (omega arith) (requests_before cycle (place + 1) others)) where
+      -- a place below one sum is below an equal sum
+      all_by : (cycle a m b n : ℕ) (rs : List Request) → a + m ≡ b + n → AllByRecursion (λ (r : Request). (r.cycle ≡ cycle) × (r.place < a + m)) rs
+          → AllByRecursion (λ (r : Request). (r.cycle ≡ cycle) × (r.place < b + n)) rs
+      all_by cycle a m b n [] e all = tt
+      all_by cycle a m b n (r ∷ rs) e all = ((all.0.0, omega (arith, all.0.1, e)), all_by cycle a m b n rs e all.1)
+
+-- a request is of a place before this one: in an earlier cycle, or in the same one
+abbrev pub IsInFront : ℕ → ℕ → Request → Type 0
+IsInFront cycle place r = (r.cycle < cycle) ⊎ ((r.cycle ≡ cycle) × (r.place < place))
+
+-- the requests of the first cycles are before any place of a later one
+cycles_before : (setup : ℕ) (commands : List Task) (n place : ℕ) → AllByRecursion (IsInFront (suc n) place) (all_cycles setup commands n)
+cycles_before setup commands zero place = tt
+cycles_before setup commands (suc n) place =
+    all_append (IsInFront (suc (suc n)) place) (all_cycles setup commands n) (requests (suc n) setup (map of_task (drop setup commands)))
+    (all_on (IsInFront (suc n) place) (IsInFront (suc (suc n)) place) (all_cycles setup commands n) later (cycles_before setup commands n place))
+    (all_on _ (IsInFront (suc (suc n)) place) (requests (suc n) setup (map of_task (drop setup commands))) (λ r h. inl (omega (arith, h.0)))
+    (requests_before (suc n) setup (map of_task (drop setup commands)))) where
+      -- what is before a cycle's place is before the next one's
+      later : (r : Request) → IsInFront (suc n) place r → IsInFront (suc (suc n)) place r
+      later r (inl less) = inl (omega (arith, less))
+      later r (inr same) = inl (omega (arith, same.0))
+
+-- all that had its turn is before the next place
+pub sent_before : (setup : ℕ) (commands : List Task) (cycle place : ℕ) → setup ≤ place → AllByRecursion (IsInFront cycle place) (commands_reached setup commands cycle place)
+sent_before setup commands zero place low = tt
+sent_before setup commands (suc n) place low =
+    all_append (IsInFront (suc n) place) (all_cycles setup commands n) (requests (suc n) setup (map of_task (drop setup (take place commands)))) (cycles_before setup commands n place)
+    (all_on _ (IsInFront (suc n) place) (requests (suc n) setup (map of_task (drop setup (take place commands))))
+    (λ r h. inr (h.0, few r.place h.1)) (requests_before (suc n) setup (map of_task (drop setup (take place commands))))) where
+      -- a place among those that were taken is below the next one
+      few : (p : ℕ) → p < setup + length (map of_task (drop setup (take place commands))) → p < place
+      few p less =
+          let m = length-map (drop setup (take place commands)) of_task in
+          let d = length-drop setup (take place commands) in
+          let t = length-take place commands in
+          omega (arith, less, m, d, t, low)
+
+-- if the last of what had its turn isn't among what was left out, it is the last of what was kept
+pub interleave_last : {A : Type 0} (x : A) (xs ys zs : List A) → Interleave xs ys (zs ++ x ∷ []) → ((front : List A) → ys ≡ front ++ x ∷ [] → ⊥) → (front : List A) × (xs ≡ front ++ x ∷ [])
+interleave_last x xs ys [] (inl k) not = ([], k.1 ∙ ap (λ l. x ∷ l) k.2.0)
+interleave_last x xs ys [] (inr k) not = absurd (not [] (k.1 ∙ ap (λ l. x ∷ l) k.2.1))
+interleave_last x xs ys (z ∷ zs) (inl k) not = let it = interleave_last x k.0 ys zs k.2 not in (z ∷ it.0, k.1 ∙ ap (λ l. z ∷ l) it.1)
+interleave_last x xs ys (z ∷ zs) (inr k) not = interleave_last x xs k.0 zs k.2 (λ front e. not (z ∷ front) (k.1 ∙ ap (λ l. z ∷ l) e))

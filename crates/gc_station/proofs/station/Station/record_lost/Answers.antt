@@ -1,0 +1,44 @@
+use Rattle.std.proofs.Common.{length, map, ap, sym, ◌∙◌, refl, subst}
+use Rattle.std.proofs.lemmas.List.{length-map}
+use Rattle.gc_client.specs.Rule.{restarts}
+use Rattle.gc_client.specs.Settlements.{settlement_seen}
+use Rattle.gc_station.specs.Progressing.{loses_all}
+use Rattle.gc_station.specs.Model.{losing}
+use Rattle.gc_station.specs.Stations.{Refines, Took, ComesTo}
+use Rattle.gc_station.proofs.Hearing.{restarts_paired, settles_either}
+use Rattle.gc_station.proofs.station.Station.record_lost.Goals as goal
+
+pub returns-clause-ends : goal.returns-clause-ends
+returns-clause-ends g c s start stands so =
+    let x = restarts s.client in
+    let seen = ap restarts stands.ids in
+    let client = c.restart-self.ensures.client in
+    let items = c.restart-self.result.items in
+    let same = c.restart-self.ensures.settled.seen ∙ ap (λ y. y.settlements) seen in
+    let loses = sym c.if-not-loses_all.false ∙ c.loses_all.ensures ∙ ap loses_all stands.progress in
+    let t = settles_either (g.B.Book.text c.args.book.now) c.args.self.now _ c.write.new.self s x (map settlement_seen items) (length items) start (g.B.Book.taken c.write.new.book) c.write.result
+    stands
+    (record {
+      ids_are = ap (λ w. w.ids) client ∙ ap (λ y. y.client) seen;
+      width = ap
+          (λ w. w.width) client;
+      marks = refl;
+      assembler = refl;
+      progress = refl;
+      tally = refl;
+      well = refl;
+      listed = refl;
+      fresh = refl;
+    })
+    same
+    (sym (length-map items settlement_seen) ∙ ap length same)
+    (restarts_paired s.marks s.client stands.paired)
+    (λ are. c.write.ensures.wrote s.reads start s.records are (so are)) c.write.ensures.after c.write.ensures.tally c.write.ensures.well c.write.ensures.listed c.write.ensures.fresh in
+    subst (λ b. ComesTo (g.B.Book.text c.args.book.now) s.records c.write.new.self start (g.B.Book.taken c.write.new.book) (losing b s) c.write.result) loses t
+
+pub returns-then-not-loses_all-clause-ends : goal.returns-then-not-loses_all-clause-ends
+returns-then-not-loses_all-clause-ends g c s start stands so =
+    let self = c.args.self.now in
+    let taken = g.B.Book.taken c.args.book.now in
+    let loses = sym c.if-not-loses_all.true ∙ c.loses_all.ensures ∙ ap loses_all stands.progress in
+    subst (λ b. Refines self (losing b s) × Took (g.B.Book.text c.args.book.now) start taken (losing b s)) loses (stands, so)

@@ -1,0 +1,41 @@
+use Rattle.std.proofs.Common.{◌≡◌, ◌-◌, ◌<◌, List, ◌++◌, length, drop, None, if◌then◌else◌, ap, sym, ◌∙◌, arith, subst}
+use Rattle.gc_texts.specs.declared.tasks.Task.{Task}
+use Rattle.gc_texts.specs.Endings.{ending_seen, Skipped, Missed}
+use Rattle.gc_station.specs.Records.{Record, WritesPart}
+use Rattle.gc_station.specs.Model.{mark_next}
+use Rattle.gc_station.proofs.Making.{drop_here, skips_as}
+use Rattle.gc_station.proofs.Records.{part_one}
+use Rattle.gc_station.proofs.station.Station.write_unsent.Goals as goal
+use Rattle.gc_station.proofs.station.Station.write_unsent.Goals.{then-self, else-self}
+
+pub returns-in-Err-clause-wrote : goal.returns-in-Err-clause-wrote
+returns-in-Err-clause-wrote g c start before so =
+    let old = c.args.self.now in
+    let p = old.progress in
+    let commands = c.args.commands.now in
+    let w = c.in-Err.ensures.writes in
+    let task : Task = c.index-commands-place.result in
+    let place = c.place.result in
+    let at : place ≡ length commands - p.unsent = c.place.ensures in
+    let below : place < length commands = omega (arith, at, c.requires.unsent, c.requires.within) in
+    let here = drop_here commands place task below c.index-commands-place.is in
+    let is = sym (ap (λ n. drop n commands) at) ∙ here.1 in
+    let ends : ending_seen c.if-self.ending ≡ (if p.missed then Missed else Skipped) =
+    elim c.if-self.branch [
+      | then-self w ↦ ap ending_seen w.ending-is ∙ sym (ap (λ b. if b then Missed else Skipped) w.if-self.true)
+      | else-self w ↦ ap ending_seen w.ending-is ∙ sym (ap (λ b. if b then Missed else Skipped) w.if-self.false)
+    ] in
+    let r : Record = record {
+      sent = None;
+      utc = c.skipped_at.result;
+      cycle = c.mark-mark.result.cycle;
+      place = c.mark-mark.result.place;
+      turn = c.mark-mark.result.expected.turn;
+      command =
+          task.command;
+      end = ending_seen c.if-self.ending;
+    } in
+    let same = skips_as p c.args.moment c.mark-mark.result (mark_next c.args.plan.now commands p) c.skipped_at.result (ending_seen c.if-self.ending)
+    (drop (length commands - p.unsent) commands) task here.0 is c.mark-mark.ensures c.skipped_at.ensures ends in
+    subst (λ (rs : List Record). WritesPart (g.B.Book.text c.args.book.now) before (before ++ rs) start (g.B.Book.taken c.write.new.self)) same
+    (part_one (g.B.Book.text c.args.book.now) before r start (g.B.Book.taken c.args.book.now) (g.B.Book.taken c.write.new.self) w.0 so w.1 w.2)

@@ -1,0 +1,31 @@
+-- Which kind of call on the link an act is, this project's own, in terms of the act alone. An act is one call on the link, with
+-- its result.
+use Rattle.std.specs.Prelude.{◌≡◌, ℕ, ◌<◌, List, length}
+use Rattle.gc_links.specs.Acts.{Act, Told, Untold, Put, Cut, Gave, Silent, Ended, Broke, Opened, Unopened}
+
+-- the act writes `bytes` on the link: all of them (`Put`), or fewer (`Cut`)
+abbrev pub Puts : List ℕ → Act → Type 0
+Puts bytes (Put out) = out ≡ bytes
+Puts bytes (Cut out count) = (out ≡ bytes) × (count < length bytes)
+Puts bytes _ = ⊥
+
+-- the act reads the clock alone, or fails to
+abbrev pub ReadsClock : Act → Type 0
+ReadsClock (Told m) = Unit {0}
+ReadsClock Untold = Unit {0}
+ReadsClock _ = ⊥
+
+-- the act makes a connection, or fails to
+abbrev pub IsOpening : Act → Type 0
+IsOpening Opened = Unit {0}
+IsOpening Unopened = Unit {0}
+IsOpening _ = ⊥
+
+-- the act is a read, whatever came of it: bytes, nothing, the end of the connection, a failure, or a clock that can't be read
+abbrev pub IsReading : Act → Type 0
+IsReading (Gave bytes m) = Unit {0}
+IsReading (Silent m) = Unit {0}
+IsReading Ended = Unit {0}
+IsReading Broke = Unit {0}
+IsReading Untold = Unit {0}
+IsReading _ = ⊥

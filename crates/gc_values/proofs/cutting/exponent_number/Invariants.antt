@@ -1,0 +1,6 @@
+use Rattle.std.proofs.Common.{◌≡◌, ◌<◌, ◌^◌, take}
+use Rattle.gc_values.specs.Digits.{AreDigits, number}
+use Rattle.gc_values.proofs.cutting.exponent_number.Given as goal
+
+abbrev pub invariant-loop-byte : goal.invariant-loop-byte
+invariant-loop-byte l = (l.value ≡ number (take l.byte-index l.text)) × (l.value < 10 ^ l.byte-index) × AreDigits (take l.byte-index l.text)

@@ -1,5 +1,0 @@
-use Rattle.gc_values.proofs.WithinLemmas.{is_within_is}
-use Rattle.gc_values.proofs.decimal_laws.area_test_is_the_distance.Goals as goal
-
-pub returns : goal.returns
-returns c = is_within_is

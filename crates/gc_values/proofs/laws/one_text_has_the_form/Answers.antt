@@ -1,5 +1,0 @@
-use Rattle.gc_values.proofs.OneText.{whole_text_once}
-use Rattle.gc_values.proofs.laws.one_text_has_the_form.Goals as goal
-
-pub returns : goal.returns
-returns c = whole_text_once

@@ -1,5 +1,0 @@
-use Rattle.gc_values.specs.declared.value.Value.TheVariants as value
-use Rattle.gc_values.proofs.quick.Quick.longer_double.Goals as goal
-
-pub returns-in-Ok : goal.returns-in-Ok
-returns-in-Ok c = λ vs left. c.item.ensures (value.Double c.in-Ok.d) vs left c.in-Ok.ensures.value

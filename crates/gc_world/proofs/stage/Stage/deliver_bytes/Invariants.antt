@@ -1,0 +1,20 @@
+use Rattle.std.proofs.Common.{◌≡◌, ℕ}
+use Rattle.gc_catalogue.specs.declared.call.Call.{Call}
+use Rattle.gc_client.specs.Rule.{ById}
+use Rattle.gc_instrument.specs.State.{State}
+use Rattle.gc_world.specs.Directions.{gone, lines}
+use Rattle.gc_world.specs.Stages.{seen, Shows}
+use Rattle.gc_world.specs.Streams.{Streams, remaining}
+use Rattle.gc_world.proofs.Handed.{IsReached}
+use Rattle.gc_world.proofs.stage.Stage.deliver_bytes.Given as goal
+
+-- what is left of the bytes hands over what is left of the lines
+abbrev pub invariant-loop-left : goal.invariant-loop-left
+invariant-loop-left g l =
+    record {
+      follows : (width : ℕ) (v : Streams (ById Call) State) → Shows width l.fn.self v → IsReached width l.direction (seen l.self) v l.n l.left;
+      remaining : (width : ℕ) (v : Streams (ById Call) State) → Shows width l.self v → l.remaining ≡ remaining (gone l.direction v) (lines l.direction v.world.wire);
+    }
+
+abbrev pub decreases-loop-left : goal.decreases-loop-left
+decreases-loop-left g l = l.left
